@@ -1,0 +1,31 @@
+-- Small facts on Bool, Option and lists. Assumes nothing.
+use mathlib.Core.Path.{_≡_, refl, sym, ap}
+use mathlib.Core.Bool.{Bool, true, false, not, _&&_, _||_, false≢true, true≢false}
+use mathlib.Core.List.{List, [], _∷_, _++_}
+use mathlib.Core.Option.{Option, some, none}
+use Prim.Native.Nat.{ℕ, zero, suc}
+use native.Mathlib.Omega.{arith}
+
+pub none≢some : {A : Type 0} {a : A} → _≡_ {A = Option A} none (some a) → ⊥
+none≢some {a = a} e = let z : _≡_ {A = ℕ} 0 1 = cc in omega arith
+
+pub some-inj : {A : Type 0} (a b : A) → some a ≡ some b → a ≡ b
+some-inj a b e = cc
+
+pub and-both : (a b : Bool) → a && b ≡ true → (a ≡ true) × (b ≡ true)
+and-both true b e = (refl, e)
+and-both false b e = absurd (false≢true e)
+
+pub or-false : (a b : Bool) → a || b ≡ false → (a ≡ false) × (b ≡ false)
+or-false true b e = absurd (true≢false e)
+or-false false b e = (refl, e)
+
+pub not-inj : (a b : Bool) → not a ≡ not b → a ≡ b
+not-inj true true e = refl
+not-inj true false e = sym e
+not-inj false true e = sym e
+not-inj false false e = refl
+
+pub append-nil : {A : Type 0} (xs : List A) → xs ++ [] ≡ xs
+append-nil [] = refl
+append-nil (x ∷ xs) = ap (λ z. x ∷ z) (append-nil xs)

@@ -1,0 +1,215 @@
+-- What the judge's mark is worth, whoever wrote the certificate: it passes exactly if the word meets all checks and its agreement, times the scale,
+-- equals the bound; a word that passes is best; a gap that is answered is positive. Assumes nothing.
+use mathlib.Core.Path.{_≡_, refl, sym, _∙_, ap, ap₂, subst}
+use mathlib.Core.Bool.{Bool, true, false, not, cond, _&&_, false≢true}
+use mathlib.Core.Logic.{_↔_}
+use mathlib.Core.List.{List, [], _∷_}
+use mathlib.Core.Option.{Option, some, none}
+use Prim.Native.Nat.{ℕ, zero, suc, _*_, _≤_, _<_}
+use native.Mathlib.Omega.{arith}
+use lib.Dec.{leb, ltb, eqb}
+use borrow.Author.Tests.{ltb-true, eqb-true}
+use lib.ListN.{length, getD}
+use lib.IntN.{ℤ, pos, negsuc, _-ℤ_, _*ℤ_}
+use lib.Signed.{_<ℤ_}
+use Rattle.integers.specs.Linear.{lin, arithZ, _⩽_}
+use Rattle.rules.specs.Limits.{maxEntries, maxScale, maxMultiplier, frameLimit, certificateLength}
+use Rattle.rules.specs.Refusal.{Answer, gives, must, then, frameLength, frameRange, wordWrong, certificateWrong, scaleRange, entryRange, maskWrong, entryOrder}
+use Rattle.rules.specs.Table.{Table, checksOf, bitsAt, valuesAt}
+use Rattle.rules.specs.Parity.{odd, Alike, left, Keeps, firstBroken, meets, agreement}
+use Rattle.rules.specs.Mask.{setOf, maskRight}
+use Rattle.rules.specs.CodeFile.{inRange, codeFile}
+use Rattle.rules.specs.Input.{eachWithin, onFrame, eachBit, onWord, bitsOf}
+use Rattle.rules.specs.Bound.{Row, bound, gap}
+use Rattle.rules.specs.Round.{isZero}
+use Rattle.rules.specs.Certificate.{Item, membersAt, follows, onItem, onItems, entriesOf, scaleOf, itemsOf, onCertificate, rowAt, rowsAt}
+use Rattle.rules.specs.Demand3.{Best}
+use Rattle.rules.specs.Judge.{Verdict, breaks, passes, misses, weigh, verdict, judge}
+use Rattle.rules.proofs.Basics.{and-both, none≢some}
+use Rattle.rules.proofs.Signs.{alike-length, length-alike}
+use Rattle.rules.proofs.Masks.{mask-odd, set-length}
+use Rattle.rules.proofs.AnswerLaws.{must-gives, then-gives, Followed, gives-inj, range-both}
+use Rattle.rules.proofs.Tables.{Sound, file-sound}
+use Rattle.rules.proofs.Duality.{Below, Kept, AllKept}
+use Rattle.rules.proofs.Optimal.{AllBelow, Implied, gap-nonneg, gap-optimal, isZero-is}
+
+-- ---- the verdict
+pub none-broken : (j : ℕ) (w : List Bool) (cs : List (List ℕ)) → firstBroken j w cs ≡ none → meets w cs ≡ true
+none-broken j w [] e = refl
+none-broken j w (ms ∷ cs) e = go (odd (bitsAt w ms)) e (none-broken (suc j) w cs)
+  where
+    go : (b : Bool) → cond b (some j) (firstBroken (suc j) w cs) ≡ none → (firstBroken (suc j) w cs ≡ none → meets w cs ≡ true) → (not b && meets w cs) ≡ true
+    go true e ih = absurd (none≢some (sym e))
+    go false e ih = ih e
+
+pub meets-none : (j : ℕ) (w : List Bool) (cs : List (List ℕ)) → meets w cs ≡ true → firstBroken j w cs ≡ none
+meets-none j w [] e = refl
+meets-none j w (ms ∷ cs) e = go (odd (bitsAt w ms)) e (meets-none (suc j) w cs)
+  where
+    go : (b : Bool) → (not b && meets w cs) ≡ true → (meets w cs ≡ true → firstBroken (suc j) w cs ≡ none) → cond b (some j) (firstBroken (suc j) w cs) ≡ none
+    go true e ih = absurd (false≢true e)
+    go false e ih = ih e
+
+breaks≢passes : {j : ℕ} → breaks j ≡ passes → ⊥
+breaks≢passes {j} e = let z : _≡_ {A = ℕ} 0 1 = cc in omega arith
+
+misses≢passes : {g : ℤ} → misses g ≡ passes → ⊥
+misses≢passes {g} e = let z : _≡_ {A = ℕ} 0 1 = cc in omega arith
+
+breaks≢misses : {j : ℕ} {g : ℤ} → breaks j ≡ misses g → ⊥
+breaks≢misses {j} {g} e = let z : _≡_ {A = ℕ} 0 1 = cc in omega arith
+
+weigh-passes : (o : Option ℕ) (g : ℤ) → weigh o g ≡ passes → (o ≡ none) × (g ≡ pos 0)
+weigh-passes (some j) g e = absurd (breaks≢passes e)
+weigh-passes none g e = (refl, isZero-is g (go (isZero g) e))
+  where
+    go : (b : Bool) → cond b passes (misses g) ≡ passes → b ≡ true
+    go true e = refl
+    go false e = absurd (misses≢passes e)
+
+weigh-misses : (o : Option ℕ) (g h : ℤ) → weigh o g ≡ misses h → (o ≡ none) × (g ≡ h) × (isZero g ≡ false)
+weigh-misses (some j) g h e = absurd (breaks≢misses e)
+weigh-misses none g h e = go (isZero g) refl e
+  where
+    go : (b : Bool) → isZero g ≡ b → cond b passes (misses g) ≡ misses h → (_≡_ {A = Option ℕ} none none) × (g ≡ h) × (isZero g ≡ false)
+    go true p e = absurd (misses≢passes (sym e))
+    go false p e = (refl, cc, p)
+
+gap-sum : (b a : ℤ) → b -ℤ a ≡ pos 0 → a ≡ b
+gap-sum b a = simp lin (omega arithZ)
+
+sum-gap : (b a : ℤ) → a ≡ b → b -ℤ a ≡ pos 0
+sum-gap b a = simp lin (omega arithZ)
+
+-- demand 2: "passes exactly if the word meets all checks and its agreement, times the certificate's scale, equals the multipliers' bound"
+pub verdict-passes⇔ : (t : Table) (s : ℕ) (l : List ℤ) (rs : List Row) (w : List Bool)
+    → (verdict t s l rs w ≡ passes) ↔ ((meets w (t .checks) ≡ true) × (pos s *ℤ agreement (t .bits) l w ≡ bound (t .bits) s l rs))
+unfolding verdict gap
+verdict-passes⇔ t s l rs w = (
+  λ e. let p = weigh-passes (firstBroken 0 w (t .checks)) (gap (t .bits) s l rs w) e in
+      (none-broken 0 w (t .checks) (p .0), gap-sum (bound (t .bits) s l rs) (pos s *ℤ agreement (t .bits) l w) (p .1)),
+  λ p. ap₂ weigh (meets-none 0 w (t .checks) (p .0)) (sum-gap (bound (t .bits) s l rs) (pos s *ℤ agreement (t .bits) l w) (p .1)),
+)
+
+-- ---- the rows of a certificate that passed 12 and 13
+pub record Placed (t : Table) (i : Item) : Type 0 where
+  pub inside : i .check < checksOf t
+  pub odds : odd (setOf (length (membersAt t (i .check))) (i .mask)) ≡ true
+
+abbrev pub AllPlaced : Table → List Item → Type 0
+AllPlaced t [] = Unit {0}
+AllPlaced t (i ∷ is) = Placed t i × AllPlaced t is
+
+item-placed : {A : Type 0} (t : Table) (p : Option Item) (i : Item) (a : Answer A) (b : A) → onItem t p i a ≡ gives b → Placed t i × (a ≡ gives b)
+unfolding onItem
+item-placed t p i a b e =
+    let p1 = must-gives (ltb (i .check) (checksOf t) && inRange 1 maxMultiplier (i .multiplier)) entryRange _ b e in
+    let p2 = must-gives (maskRight (length (membersAt t (i .check))) (i .mask)) maskWrong _ b (p1 .1) in
+    let p3 = must-gives (follows p i) entryOrder a b (p2 .1) in (
+      record {
+        inside = ltb-true (i .check) (checksOf t) (and-both (ltb (i .check) (checksOf t)) (inRange 1 maxMultiplier (i .multiplier)) (p1 .0) .0);
+        odds = mask-odd (length (membersAt t (i .check))) (i .mask) (p2 .0);
+      },
+      p3 .1,
+    )
+
+items-placed : {A : Type 0} (t : Table) (p : Option Item) (is : List Item) (a : Answer A) (b : A) → onItems t p is a ≡ gives b → AllPlaced t is × (a ≡ gives b)
+unfolding onItems
+items-placed t p [] a b e = (tt, e)
+items-placed t p (i ∷ is) a b e =
+    let q = item-placed t p i (onItems t (some i) is a) b e in
+    let r = items-placed t (some i) is a b (q .1) in
+    ((q .0, r .0), r .1)
+
+below-at : (n : ℕ) (cs : List (List ℕ)) (j : ℕ) → j < length cs → AllBelow n cs → Below n (getD cs j [])
+below-at n [] j h b = absurd (omega arith)
+below-at n (ms ∷ cs) zero h b = b .0
+below-at n (ms ∷ cs) (suc j) h b = below-at n cs j (omega arith) (b .1)
+
+keeps-at : (d : ℕ) (f : ℕ → ℤ) (cs : List (List ℕ)) (j : ℕ) → j < length cs → Keeps d f cs → (vs : List Bool) → odd vs ≡ true → Alike vs (getD cs j [])
+    → pos (2 * d) ⩽ left d vs (valuesAt f (getD cs j []))
+keeps-at d f [] j h k = absurd (omega arith)
+keeps-at d f (ms ∷ cs) zero h k = k .0
+keeps-at d f (ms ∷ cs) (suc j) h k = keeps-at d f cs j (omega arith) (k .1)
+
+item-kept : (t : Table) (d : ℕ) (f : ℕ → ℤ) (i : Item) → AllBelow (t .bits) (t .checks) → Keeps d f (t .checks) → Placed t i → Kept (t .bits) d f (rowAt t i)
+item-kept t d f i b k p = record {
+  inside = below-at (t .bits) (t .checks) (i .check) (p .inside) b;
+  long = long;
+  keeps = keeps-at d f (t .checks) (i .check) (p .inside) k (setOf (length (membersAt t (i .check))) (i .mask)) (p .odds) long;
+}
+  where
+    long : Alike (setOf (length (membersAt t (i .check))) (i .mask)) (membersAt t (i .check))
+    long = length-alike (setOf (length (membersAt t (i .check))) (i .mask)) (membersAt t (i .check)) (set-length (length (membersAt t (i .check))) (i .mask))
+
+items-kept : (t : Table) (d : ℕ) (f : ℕ → ℤ) (is : List Item) → AllBelow (t .bits) (t .checks) → Keeps d f (t .checks) → AllPlaced t is → AllKept (t .bits) d f (rowsAt t is)
+items-kept t d f [] b k p = tt
+items-kept t d f (i ∷ is) b k p = (item-kept t d f i b k (p .0), items-kept t d f is b k (p .1))
+
+bits-length : (w : List ℕ) → length (bitsOf w) ≡ length w
+bits-length [] = refl
+bits-length (b ∷ w) = ap suc (bits-length w)
+
+-- ---- an answer of the judge
+pub record Judged (file : List ℕ) (l : List ℤ) (w bs : List ℕ) (v : Verdict) : Type 0 where
+  pub table : Table
+  pub isFile : codeFile file ≡ gives table
+  pub word : length (bitsOf w) ≡ table .bits
+  pub scale : 1 ≤ scaleOf bs
+  pub implied : Implied table (rowsAt table (itemsOf bs))
+  pub says : verdict table (scaleOf bs) l (rowsAt table (itemsOf bs)) (bitsOf w) ≡ v
+
+pub judged : (file : List ℕ) (l : List ℤ) (w bs : List ℕ) (v : Verdict) → judge file l w bs ≡ gives v → Judged file l w bs v
+unfolding judge onFrame onWord onCertificate
+judged file l w bs v e = go (then-gives (codeFile file) _ v e)
+  where
+    after : (t : Table) → codeFile file ≡ gives t
+        → onFrame t l (onWord t w (onCertificate t bs (gives (verdict t (scaleOf bs) l (rowsAt t (itemsOf bs)) (bitsOf w))))) ≡ gives v → Judged file l w bs v
+    after t isFile h =
+        let p1 = must-gives (eqb (length l) (t .bits)) frameLength _ v h in
+        let p2 = must-gives (eachWithin frameLimit l) frameRange _ v (p1 .1) in
+        let p3 = must-gives (eqb (length w) (t .bits) && eachBit w) wordWrong _ v (p2 .1) in
+        let p4 = must-gives ((leb 4 (length bs) && leb (entriesOf bs) maxEntries) && eqb (length bs) (certificateLength (entriesOf bs))) certificateWrong _ v (p3 .1) in
+        let p5 = must-gives (inRange 1 maxScale (scaleOf bs)) scaleRange _ v (p4 .1) in
+        let p6 = items-placed t none (itemsOf bs) (gives (verdict t (scaleOf bs) l (rowsAt t (itemsOf bs)) (bitsOf w))) v (p5 .1) in
+        record {
+          table = t;
+          isFile = isFile;
+          word = bits-length w ∙ eqb-true (length w) (t .bits) (and-both (eqb (length w) (t .bits)) (eachBit w) (p3 .0) .0);
+          scale = range-both 1 maxScale (scaleOf bs) (p5 .0) .0;
+          implied = λ d f k. items-kept t d f (itemsOf bs) (file-sound file t isFile .below) k (p6 .0);
+          says = gives-inj (verdict t (scaleOf bs) l (rowsAt t (itemsOf bs)) (bitsOf w)) v (p6 .1);
+        }
+
+    go : Followed (codeFile file) (λ t. onFrame t l (onWord t w (onCertificate t bs (gives (verdict t (scaleOf bs) l (rowsAt t (itemsOf bs)) (bitsOf w)))))) v → Judged file l w bs v
+    go f = after (f .value) (f .first) (f .second)
+
+-- the mark is beyond doubt
+pub judge-best : (file : List ℕ) (l : List ℤ) (w bs : List ℕ) (t : Table) → codeFile file ≡ gives t → judge file l w bs ≡ gives passes → Best t l (bitsOf w)
+unfolding verdict
+judge-best file l w bs t f e = subst (λ x. Best x l (bitsOf w)) (gives-inj (j .table) t (sym (j .isFile) ∙ f))
+    (gap-optimal (j .table) (scaleOf bs) l (rowsAt (j .table) (itemsOf bs)) (j .implied) (bitsOf w) (j .scale) (record { size = j .word; even = none-broken 0 (bitsOf w) (j .table .checks) (p .0) }) (p .1))
+  where
+    j : Judged file l w bs passes
+    j = judged file l w bs passes e
+
+    p : (firstBroken 0 (bitsOf w) (j .table .checks) ≡ none) × (gap (j .table .bits) (scaleOf bs) l (rowsAt (j .table) (itemsOf bs)) (bitsOf w) ≡ pos 0)
+    p = weigh-passes (firstBroken 0 (bitsOf w) (j .table .checks)) (gap (j .table .bits) (scaleOf bs) l (rowsAt (j .table) (itemsOf bs)) (bitsOf w)) (j .says)
+
+positive : (g : ℤ) → pos 0 ⩽ g → isZero g ≡ false → pos 0 <ℤ g
+positive (pos zero) h e = absurd (false≢true (sym e))
+positive (pos (suc n)) h e = simp lin (omega arithZ)
+positive (negsuc n) h e = absurd (h .le)
+
+-- "else the gap, which is then positive"
+pub judge-positive : (file : List ℕ) (l : List ℤ) (w bs : List ℕ) (g : ℤ) → judge file l w bs ≡ gives (misses g) → pos 0 <ℤ g
+unfolding verdict
+judge-positive file l w bs g e = subst (λ z. pos 0 <ℤ z) (p .1) (positive (gap (j .table .bits) (scaleOf bs) l (rowsAt (j .table) (itemsOf bs)) (bitsOf w))
+    (gap-nonneg (j .table) (scaleOf bs) l (rowsAt (j .table) (itemsOf bs)) (j .implied) (bitsOf w) (none-broken 0 (bitsOf w) (j .table .checks) (p .0))) (p .2))
+  where
+    j : Judged file l w bs (misses g)
+    j = judged file l w bs (misses g) e
+
+    p : (firstBroken 0 (bitsOf w) (j .table .checks) ≡ none) × (gap (j .table .bits) (scaleOf bs) l (rowsAt (j .table) (itemsOf bs)) (bitsOf w) ≡ g)
+        × (isZero (gap (j .table .bits) (scaleOf bs) l (rowsAt (j .table) (itemsOf bs)) (bitsOf w)) ≡ false)
+    p = weigh-misses (firstBroken 0 (bitsOf w) (j .table .checks)) (gap (j .table .bits) (scaleOf bs) l (rowsAt (j .table) (itemsOf bs)) (bitsOf w)) g (j .says)

@@ -1,0 +1,250 @@
+-- A list of calls leaves what one run of the rounds that its calls took would leave; where it certifies, that run is certified, by exactly the rounds
+-- that it counts. Assumes nothing.
+use mathlib.Core.Path.{_≡_, refl, sym, _∙_, ap, ap₂, subst}
+use mathlib.Core.Bool.{Bool, true, false, cond}
+use mathlib.Core.Logic.{_⊎_, inl, inr}
+use mathlib.Core.List.{List, [], _∷_}
+use Prim.Native.Nat.{ℕ, zero, suc, _+_, _-_, _≤_, _<_}
+use native.Mathlib.Omega.{arith}
+use native.Mathlib.Decide.{decLe}
+use lib.Dec.{eqb}
+use borrow.Author.Tests.{eq-eqb}
+use lib.ListN.{take}
+use lib.IntN.{ℤ}
+use Rattle.rules.specs.Refusal.{Answer, refused, gives, multiplierLarge}
+use Rattle.rules.specs.Table.{Table, checksOf}
+use Rattle.rules.specs.Run.{Status, running, certified, spent, Run, bytesOf, moved, next, iterate, admits, answerAt, Called, perform, callOn}
+use Rattle.rules.specs.Calls.{Call, wantedBy, wantedIn, Says, Certifies, here, later}
+use Rattle.rules.proofs.AnswerLaws.{refused≢gives, gives-inj}
+use Rattle.rules.proofs.Lends.{callsOn}
+use Rattle.rules.proofs.Runs.{coming, next-cases, ended-stays, iterate-stays, iterate-plus, running≢certified, spent≢certified, spent≢running, Safe, iterate-safe, safe-moves}
+
+-- ---- the rounds counted say where in the iteration the run stands
+pub record Reach (t : Table) (l : List ℤ) (j : ℕ) (r : Run) : Type 0 where
+  pub steps : ℕ
+  pub within : steps ≤ j
+  pub same : iterate t l steps r ≡ iterate t l j r
+  pub counted : iterate t l j r .progress .rounds ≡ r .progress .rounds + steps
+
+pub reach : (t : Table) (l : List ℤ) (j : ℕ) (r : Run) → Reach t l j r
+unfolding iterate
+reach t l zero r = record { steps = 0; within = omega arith; same = refl; counted = omega arith }
+reach t l (suc j) r = go (next-cases t l r) (reach t l j r) (reach t l j (next t l r))
+  where
+    wider : (s : ℕ) → s ≤ j → s ≤ suc j
+    wider s h = omega arith
+
+    deeper : (s : ℕ) → s ≤ j → suc s ≤ suc j
+    deeper s h = omega arith
+
+    shift : (a b n s : ℕ) → a ≡ b + s → b ≡ suc n → a ≡ n + suc s
+    shift a b n s e f = omega arith
+
+    go : (next t l r ≡ r) ⊎ (next t l r ≡ moved r (coming t l r)) → Reach t l j r → Reach t l j (next t l r) → Reach t l (suc j) r
+    go (inl e) p q = record { steps = p .steps; within = wider (p .steps) (p .within); same = p .same ∙ ap (iterate t l j) (sym e); counted = ap (λ x. iterate t l j x .progress .rounds) e ∙ p .counted }
+    go (inr e) p q = record {
+      steps = suc (q .steps);
+      within = deeper (q .steps) (q .within);
+      same = q .same;
+      counted = shift (iterate t l j (next t l r) .progress .rounds) (next t l r .progress .rounds) (r .progress .rounds) (q .steps) (q .counted) (ap (λ x. x .progress .rounds) e);
+    }
+
+-- ---- calls
+-- the rounds that a call may take
+abbrev pub takes : Answer (Unit {0}) → ℕ → ℕ
+takes (refused k) v = 0
+takes (gives u) v = v
+
+plus-zero : (i : ℕ) → i + 0 ≡ i
+plus-zero i = omega arith
+
+abbrev pub callFor : Table → List ℤ → Call → Run → Called
+callFor t l x r = callOn t l (x .wanted) (x .lent) r
+
+abbrev pub admitsFor : Table → List ℤ → Call → Run → Answer (Unit {0})
+admitsFor t l x r = admits t l (x .wanted) (x .lent) r
+
+-- a call extends the iteration by what it takes
+pub call-extends : (t : Table) (l : List ℤ) (r : Run) (i : ℕ) (x : Call) → callFor t l x (iterate t l i r) .run ≡ iterate t l (i + takes (admitsFor t l x (iterate t l i r)) (x .wanted)) r
+unfolding callOn
+call-extends t l r i x = go (admitsFor t l x (iterate t l i r))
+  where
+    go : (a : Answer (Unit {0})) → perform t l (x .wanted) (iterate t l i r) a .run ≡ iterate t l (i + takes a (x .wanted)) r
+    go (refused k) = ap (λ n. iterate t l n r) (sym (plus-zero i))
+    go (gives u) = sym (iterate-plus t l i (x .wanted) r)
+
+-- and so does a list
+abbrev pub after : Table → List ℤ → List Call → Run → Run
+after t l [] r = r
+after t l (x ∷ xs) r = after t l xs (callFor t l x r .run)
+
+abbrev pub taken : Table → List ℤ → List Call → Run → ℕ
+taken t l [] r = 0
+taken t l (x ∷ xs) r = takes (admitsFor t l x r) (x .wanted) + taken t l xs (callFor t l x r .run)
+
+pub list-after : (t : Table) (l : List ℤ) (r : Run) (i : ℕ) (xs : List Call) → after t l xs (iterate t l i r) ≡ iterate t l (i + taken t l xs (iterate t l i r)) r
+list-after t l r i [] = ap (λ n. iterate t l n r) (sym (plus-zero i))
+list-after t l r i (x ∷ xs) = ap (after t l xs) (call-extends t l r i x) ∙ list-after t l r (i + a) xs
+    ∙ ap (λ n. iterate t l n r) (ap (λ z. i + a + taken t l xs z) (sym (call-extends t l r i x)) ∙ assoc i a (taken t l xs (callFor t l x (iterate t l i r) .run)))
+  where
+    a : ℕ
+    a = takes (admitsFor t l x (iterate t l i r)) (x .wanted)
+
+    assoc : (i a b : ℕ) → i + a + b ≡ i + (a + b)
+    assoc i a b = omega arith
+
+-- ---- where a list certifies, the iteration is certified
+answer-certified : (s : Status) (a b : ℕ) → answerAt s a b ≡ gives certified → s ≡ certified
+answer-certified running a b e = absurd (go (eqb a b) e)
+  where
+    go : (t : Bool) → cond t (gives running) (refused multiplierLarge) ≡ gives certified → ⊥
+    go true e = running≢certified (gives-inj running certified e)
+    go false e = refused≢gives e
+answer-certified certified a b e = refl
+answer-certified spent a b e = gives-inj spent certified e
+
+pub says-status : (t : Table) (l : List ℤ) (x : Call) (r : Run) → callFor t l x r .answer ≡ gives certified → callFor t l x r .run .progress .status ≡ certified
+unfolding callOn
+says-status t l x r = go (admitsFor t l x r)
+  where
+    go : (a : Answer (Unit {0})) → perform t l (x .wanted) r a .answer ≡ gives certified → perform t l (x .wanted) r a .run .progress .status ≡ certified
+    go (refused k) p = absurd (refused≢gives p)
+    go (gives u) p = answer-certified (iterate t l (x .wanted) r .progress .status) (iterate t l (x .wanted) r .progress .rounds) (r .progress .rounds + x .wanted) p
+
+-- after i rounds the run is certified with w, k rounds and multipliers bs
+pub record Stands (t : Table) (w : List Bool) (k : ℕ) (bs : List ℕ) (r : Run) : Type 0 where
+  pub marked : r .progress .status ≡ certified
+  pub writes : take (t .bits) (r .buffers .word) ≡ bytesOf w
+  pub took : r .progress .rounds ≡ k
+  pub leaves : take (checksOf t) (r .buffers .multipliers) ≡ bs
+
+pub record Found (t : Table) (l : List ℤ) (r : Run) (w : List Bool) (k : ℕ) (bs : List ℕ) : Type 0 where
+  pub place : ℕ
+  pub stands : Stands t w k bs (iterate t l place r)
+
+pub found : (t : Table) (l : List ℤ) (r : Run) (w : List Bool) (k : ℕ) (bs : List ℕ) (i : ℕ) (xs : List Call)
+    → Certifies (t .bits) (checksOf t) w k bs (callsOn t l xs (iterate t l i r)) → Found t l r w k bs
+found t l r w k bs i (x ∷ xs) (here s) = record {
+  place = i + takes (admitsFor t l x (iterate t l i r)) (x .wanted);
+  stands = subst (Stands t w k bs) (call-extends t l r i x) (record { marked = says-status t l x (iterate t l i r) (s .answers); writes = s .writes; took = s .took; leaves = s .leaves });
+}
+found t l r w k bs i (x ∷ xs) (later h) =
+    found t l r w k bs (i + takes (admitsFor t l x (iterate t l i r)) (x .wanted)) xs (subst (λ z. Certifies (t .bits) (checksOf t) w k bs (callsOn t l xs z)) (call-extends t l r i x) h)
+
+-- from no rounds done, it is certified after exactly the rounds counted
+pub found-ends : (t : Table) (l : List ℤ) (r : Run) (w : List Bool) (k : ℕ) (bs : List ℕ) → r .progress .rounds ≡ 0 → Found t l r w k bs → Stands t w k bs (iterate t l k r)
+found-ends t l r w k bs z f = subst (Stands t w k bs) (sym exact) (f .stands)
+  where
+    p : Reach t l (f .place) r
+    p = reach t l (f .place) r
+
+    is-k : (x y s : ℕ) → x ≡ k → y ≡ 0 → x ≡ y + s → k ≡ s
+    is-k x y s e h g = omega arith
+
+    exact : iterate t l k r ≡ iterate t l (f .place) r
+    exact = ap (λ n. iterate t l n r) (is-k (iterate t l (f .place) r .progress .rounds) (r .progress .rounds) (p .steps) (f .stands .took) z (p .counted)) ∙ p .same
+
+-- ---- any list whose wants suffice meets that end
+module _ (t : Table) (l : List ℤ) (r : Run) (fresh : r .progress .rounds ≡ 0) (w : List Bool) (m : ℕ) (bs : List ℕ) (ends : Stands t w m bs (iterate t l m r)) where
+  split : (k : ℕ) → k ≤ m → iterate t l (m - k) (iterate t l k r) ≡ iterate t l m r
+  split k h = sym (iterate-plus t l k (m - k) r) ∙ ap (λ n. iterate t l n r) (back k h)
+    where
+      back : (k : ℕ) → k ≤ m → k + (m - k) ≡ m
+      back k h = omega arith
+
+  -- before the end the run has counted every round, and is running
+  early-rounds : (k : ℕ) → k < m → iterate t l k r .progress .rounds ≡ k
+  early-rounds k h = between (iterate t l k r .progress .rounds) (r .progress .rounds) (q .steps) (p .steps) h (q .within) fresh (q .counted)
+      (sym (ends .took) ∙ ap (λ z. z .progress .rounds) (sym (split k (weaker k h))) ∙ p .counted) (p .within)
+    where
+      weaker : (k : ℕ) → k < m → k ≤ m
+      weaker k h = omega arith
+
+      q : Reach t l k r
+      q = reach t l k r
+
+      p : Reach t l (m - k) (iterate t l k r)
+      p = reach t l (m - k) (iterate t l k r)
+
+      between : (x y s u : ℕ) → k < m → s ≤ k → y ≡ 0 → x ≡ y + s → m ≡ x + u → u ≤ m - k → x ≡ k
+      between x y s u h c z e f g = omega arith
+
+  early-running : (k : ℕ) → k < m → iterate t l k r .progress .status ≡ running
+  early-running k h = go (iterate t l k r .progress .status) refl
+    where
+      weaker : (k : ℕ) → k < m → k ≤ m
+      weaker k h = omega arith
+
+      clash : (x : ℕ) → k < m → x ≡ k → x ≡ m → ⊥
+      clash x h e f = omega arith
+
+      stuck : (iterate t l k r .progress .status ≡ running → ⊥) → ⊥
+      stuck f = clash (iterate t l k r .progress .rounds) h (early-rounds k h)
+          (ap (λ z. z .progress .rounds) (sym (iterate-stays t l (m - k) (iterate t l k r) (ended-stays t l (iterate t l k r) f)) ∙ split k (weaker k h)) ∙ ends .took)
+
+      go : (s : Status) → iterate t l k r .progress .status ≡ s → iterate t l k r .progress .status ≡ running
+      go running e = e
+      go certified e = absurd (stuck (λ f. running≢certified (sym f ∙ e)))
+      go spent e = absurd (stuck (λ f. spent≢running (sym e ∙ f)))
+
+  -- from the end on it stays
+  late : (k : ℕ) → m ≤ k → iterate t l k r ≡ iterate t l m r
+  late k h = ap (λ n. iterate t l n r) (sym (back k h)) ∙ iterate-plus t l m (k - m) r
+      ∙ iterate-stays t l (k - m) (iterate t l m r) (ended-stays t l (iterate t l m r) (λ e. running≢certified (sym e ∙ ends .marked)))
+    where
+      back : (k : ℕ) → m ≤ k → m + (k - m) ≡ k
+      back k h = omega arith
+
+  pub catch : (xs : List Call) (k : ℕ) → k < m → m ≤ k + wantedIn xs (callsOn t l xs (iterate t l k r)) → Certifies (t .bits) (checksOf t) w m bs (callsOn t l xs (iterate t l k r))
+  unfolding callOn
+  catch [] k h g = absurd (over k h g)
+    where
+      over : (k : ℕ) → k < m → m ≤ k + 0 → ⊥
+      over k h g = omega arith
+  catch (x ∷ xs) k h g = go (admitsFor t l x q) g (catch xs k h) (catch xs (k + v))
+    where
+      q : Run
+      q = iterate t l k r
+
+      v : ℕ
+      v = x .wanted
+
+      q' : Run
+      q' = iterate t l v q
+
+      to : q' ≡ iterate t l (k + v) r
+      to = sym (iterate-plus t l k v r)
+
+      no-more : (k n : ℕ) → m ≤ k + (0 + n) → m ≤ k + n
+      no-more k n g = omega arith
+
+      onward : (k v n : ℕ) → m ≤ k + (v + n) → m ≤ k + v + n
+      onward k v n g = omega arith
+
+      turn : (a b : ℕ) → ¬ (a ≤ b) → b < a
+      turn a b f = omega arith
+
+      go : (a : Answer (Unit {0})) → m ≤ k + (wantedBy (perform t l v q a .answer) v + wantedIn xs (callsOn t l xs (perform t l v q a .run)))
+          → (m ≤ k + wantedIn xs (callsOn t l xs q) → Certifies (t .bits) (checksOf t) w m bs (callsOn t l xs q))
+          → (k + v < m → m ≤ k + v + wantedIn xs (callsOn t l xs (iterate t l (k + v) r)) → Certifies (t .bits) (checksOf t) w m bs (callsOn t l xs (iterate t l (k + v) r)))
+          → Certifies (t .bits) (checksOf t) w m bs (perform t l v q a ∷ callsOn t l xs (perform t l v q a .run))
+      go (refused e) g again further = later (again (no-more k (wantedIn xs (callsOn t l xs q)) g))
+      go (gives u) g again further = by-size (decLe m (k + v))
+        where
+          by-size : Dec (m ≤ k + v) → Certifies (t .bits) (checksOf t) w m bs (perform t l v q (gives u) ∷ callsOn t l xs q')
+          by-size (yes p) = here (record {
+            answers = ap (λ s. answerAt s (q' .progress .rounds) (q .progress .rounds + v)) (ap (λ z. z .progress .status) there ∙ ends .marked);
+            writes = ap (λ z. take (t .bits) (z .buffers .word)) there ∙ ends .writes;
+            took = ap (λ z. z .progress .rounds) there ∙ ends .took;
+            leaves = ap (λ z. take (checksOf t) (z .buffers .multipliers)) there ∙ ends .leaves;
+          })
+            where
+              there : q' ≡ iterate t l m r
+              there = to ∙ late (k + v) p
+          by-size (no f) = later (subst (λ z. Certifies (t .bits) (checksOf t) w m bs (callsOn t l xs z)) (sym to) (further (turn m (k + v) f)
+              (onward k v (wantedIn xs (callsOn t l xs (iterate t l (k + v) r))) (subst (λ z. m ≤ k + (v + wantedIn xs (callsOn t l xs z))) to (subst (λ z. m ≤ k + (wantedBy z v + wantedIn xs (callsOn t l xs q'))) still g)))))
+            where
+              still : answerAt (q' .progress .status) (q' .progress .rounds) (q .progress .rounds + v) ≡ gives running
+              still = ap₂ (λ s n. answerAt s n (q .progress .rounds + v)) (ap (λ z. z .progress .status) to ∙ early-running (k + v) (turn m (k + v) f))
+                  (ap (λ z. z .progress .rounds) to ∙ early-rounds (k + v) (turn m (k + v) f))
+                  ∙ ap (λ b. cond b (gives running) (refused multiplierLarge)) (eq-eqb (k + v) (q .progress .rounds + v) (ap (λ n. n + v) (sym (early-rounds k h))))

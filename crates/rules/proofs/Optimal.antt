@@ -1,0 +1,122 @@
+-- What a bound is worth on a table: it is above every codeword and every point of the relaxation, so a gap is never negative and a gap of 0 is
+-- optimal. Of any rows that the table's own inequalities imply, whoever chose them; the rows of a round are such. Assumes nothing.
+use mathlib.Core.Path.{_≡_, refl, sym, _∙_, ap, subst}
+use mathlib.Core.Bool.{Bool, true, false, _&&_, false≢true}
+use mathlib.Core.List.{List, [], _∷_}
+use mathlib.Core.Option.{Option, some, none}
+use Prim.Native.Nat.{ℕ, zero, suc, _≤_}
+use native.Mathlib.Omega.{arith}
+use lib.ListN.{length}
+use lib.IntN.{ℤ, pos, negsuc, _-ℤ_, _*ℤ_}
+use Rattle.integers.specs.Linear.{lin, arithZ, _⩽_, Within}
+use Rattle.integers.specs.Product.{ring}
+use Rattle.integers.specs.Sum.{AllWithin, sumTo}
+use Rattle.rules.specs.Limits.{unit}
+use Rattle.rules.specs.Table.{Table, edges, at}
+use Rattle.rules.specs.Parity.{Keeps, Point, pointAgreement, meets, Codeword, agreement}
+use Rattle.rules.specs.Cut.{keep}
+use Rattle.rules.specs.Step.{Entry, inactive, active}
+use Rattle.rules.specs.Bound.{Row, rowsOf, bound, gap}
+use Rattle.rules.specs.Demand3.{Best}
+use Rattle.rules.specs.Round.{State, spin, pass, entriesIn, candidate, isZero, certify, Round, round}
+use Rattle.rules.proofs.Basics.{and-both, none≢some, some-inj}
+use Rattle.rules.proofs.Pass.{Good, pass-laid, rows-good}
+use Rattle.rules.proofs.RoundTurns.{meets-even}
+use Rattle.rules.proofs.Duality.{Below, AllKept, weak-duality, optimal, spinsOf, spins-within, codeword-keeps, agreement-is}
+
+-- all members are bits of the table
+abbrev pub AllBelow : ℕ → List (List ℕ) → Type 0
+AllBelow n [] = Unit {0}
+AllBelow n (ms ∷ cs) = Below n ms × AllBelow n cs
+
+-- a point that keeps the table's inequalities keeps those of the rows
+abbrev pub Implied : Table → List Row → Type 0
+Implied t rs = (d : ℕ) (f : ℕ → ℤ) → Keeps d f (t .checks) → AllKept (t .bits) d f rs
+
+box-at : (d : ℕ) (p : List ℤ) → AllWithin d p → (i : ℕ) → Within d (at p i)
+box-at d [] h zero = record { hi = omega arith; lo = omega arith }
+box-at d [] h (suc i) = record { hi = omega arith; lo = omega arith }
+box-at d (x ∷ p) h zero = h .0
+box-at d (x ∷ p) h (suc i) = box-at d p (h .1) i
+
+one-times : (x y : ℤ) → x ⩽ pos 1 *ℤ y → x ⩽ y
+one-times x y = simp ring (omega arithZ)
+
+diff-nonneg : (a b : ℤ) → a ⩽ b → pos 0 ⩽ b -ℤ a
+diff-nonneg a b = simp lin (omega arithZ)
+
+module _ (t : Table) (s : ℕ) (l : List ℤ) (rs : List Row) (implied : Implied t rs) where
+  -- "scale times the point's agreement is at most D times the bound"
+  pub bound-points : (d : ℕ) (p : List ℤ) → Point t d p → pos s *ℤ pointAgreement (t .bits) l p ⩽ pos d *ℤ bound (t .bits) s l rs
+  unfolding pointAgreement
+  bound-points d p k = weak-duality (t .bits) d s l (at p) rs (box-at d p (k .box)) (implied d (at p) (k .keeps))
+
+  -- and so of any word that meets all checks
+  pub bound-words : (w : List Bool) → meets w (t .checks) ≡ true → pos s *ℤ agreement (t .bits) l w ⩽ bound (t .bits) s l rs
+  bound-words w e = subst (λ x. pos s *ℤ x ⩽ bound (t .bits) s l rs) (agreement-is (t .bits) l w) (one-times (pos s *ℤ sumTo (t .bits) (λ i. at l i *ℤ spinsOf w i)) (bound (t .bits) s l rs)
+      (weak-duality (t .bits) 1 s l (spinsOf w) rs (spins-within w) (implied 1 (spinsOf w) (codeword-keeps w (t .checks) (meets-even w (t .checks) e)))))
+
+  pub gap-nonneg : (w : List Bool) → meets w (t .checks) ≡ true → pos 0 ⩽ gap (t .bits) s l rs w
+  unfolding gap
+  gap-nonneg w e = diff-nonneg (pos s *ℤ agreement (t .bits) l w) (bound (t .bits) s l rs) (bound-words w e)
+
+  pub gap-optimal : (w : List Bool) → 1 ≤ s → Codeword t w → gap (t .bits) s l rs w ≡ pos 0 → Best t l w
+  unfolding pointAgreement
+  gap-optimal w h e g = record {
+    isCodeword = e;
+    overCodewords = λ c k. subst (λ x. x ⩽ agreement (t .bits) l w) (agreement-is (t .bits) l c) (one-times (sumTo (t .bits) (λ i. at l i *ℤ spinsOf c i)) (agreement (t .bits) l w)
+        (optimal (t .bits) 1 s l (spinsOf c) rs w h (spins-within c) (implied 1 (spinsOf c) (codeword-keeps c (t .checks) (meets-even c (t .checks) (k .even)))) g));
+    overPoints = λ d p k. optimal (t .bits) d s l (at p) rs w h (box-at d p (k .box)) (implied d (at p) (k .keeps)) g;
+  }
+
+-- ---- the rows of a round
+pub rows-implied : (n d : ℕ) (f : ℕ → ℤ) (cs : List (List ℕ)) (es : List Entry) → AllBelow n cs → Good (rowsOf cs es) → Keeps d f cs → AllKept n d f (rowsOf cs es)
+rows-implied n d f [] es b g k = tt
+rows-implied n d f (ms ∷ cs) [] b g k = tt
+rows-implied n d f (ms ∷ cs) (inactive ∷ es) b g k = rows-implied n d f cs es (b .1) g (k .1)
+rows-implied n d f (ms ∷ cs) (active m ts ∷ es) b g k = (record { inside = b .0; long = g .1; keeps = k .0 ts (g .0) (g .1) }, rows-implied n d f cs es (b .1) (g .2) (k .1))
+
+-- what step 4 has tested of a word that it certifies
+pub record Passed (t : Table) (l : List ℤ) (rs : List Row) (w : List Bool) : Type 0 where
+  pub legal : meets w (t .checks) ≡ true
+  pub closed : gap (t .bits) 1 l rs w ≡ pos 0
+
+pub isZero-is : (z : ℤ) → isZero z ≡ true → z ≡ pos 0
+isZero-is (pos zero) e = refl
+isZero-is (pos (suc n)) e = absurd (false≢true e)
+isZero-is (negsuc n) e = absurd (false≢true e)
+
+pub keep-is : {A : Type 0} (b : Bool) (a w : A) → keep b a ≡ some w → (b ≡ true) × (a ≡ w)
+keep-is true a w e = (refl, some-inj a w e)
+keep-is false a w e = absurd (none≢some e)
+
+certify-passed : (t : Table) (l : List ℤ) (rs : List Row) (o : Option (List Bool)) (w : List Bool) → certify t l rs o ≡ some w → Passed t l rs w
+certify-passed t l rs none w e = absurd (none≢some e)
+certify-passed t l rs (some v) w e = subst (Passed t l rs) (k .1) (record { legal = both .0; closed = isZero-is (gap (t .bits) 1 l rs v) (both .1) })
+  where
+    k : ((meets v (t .checks) && isZero (gap (t .bits) 1 l rs v)) ≡ true) × (v ≡ w)
+    k = keep-is (meets v (t .checks) && isZero (gap (t .bits) 1 l rs v)) v w e
+
+    both : (meets v (t .checks) ≡ true) × (isZero (gap (t .bits) 1 l rs v) ≡ true)
+    both = and-both (meets v (t .checks)) (isZero (gap (t .bits) 1 l rs v)) (k .0)
+
+pub round-passed : (t : Table) (l : List ℤ) (s : State) (w : List Bool) → round t l s .word ≡ some w → Passed t l (rowsOf (t .checks) (round t l s .entries)) w
+unfolding round
+round-passed t l s w e = certify-passed t l (rowsOf (t .checks) (entriesIn (pass unit f (t .checks) (s .offsets)))) (candidate (t .bits) f) w e
+  where
+    f : ℕ → ℤ
+    f = spin unit (edges (t .checks)) l s
+
+pub round-good : (t : Table) (l : List ℤ) (s : State) → Good (rowsOf (t .checks) (round t l s .entries))
+unfolding round
+round-good t l s = rows-good unit (t .checks) (pass unit f (t .checks) (s .offsets)) (pass-laid unit f (t .checks) (s .offsets))
+  where
+    f : ℕ → ℤ
+    f = spin unit (edges (t .checks)) l s
+
+pub round-best : (t : Table) (l : List ℤ) (s : State) (w : List Bool) → AllBelow (t .bits) (t .checks) → length w ≡ t .bits → round t l s .word ≡ some w → Best t l w
+round-best t l s w b size e = gap-optimal t 1 l (rowsOf (t .checks) (round t l s .entries))
+    (λ d f k. rows-implied (t .bits) d f (t .checks) (round t l s .entries) b (round-good t l s) k) w (omega arith) (record { size = size; even = p .legal }) (p .closed)
+  where
+    p : Passed t l (rowsOf (t .checks) (round t l s .entries)) w
+    p = round-passed t l s w e

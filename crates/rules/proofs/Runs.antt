@@ -1,0 +1,191 @@
+-- A run round by round: it stays or it moves and counts; and the limits of copies, offsets and multipliers, so that 43 and 44 never meet a run that
+-- was sound. Assumes nothing.
+use mathlib.Core.Path.{_≡_, refl, sym, _∙_, ap, ap₂, subst}
+use mathlib.Core.Bool.{Bool, true, false, cond, _&&_, _||_}
+use mathlib.Core.Logic.{_⊎_, inl, inr}
+use mathlib.Core.List.{List, [], _∷_}
+use mathlib.Core.Option.{Option, some, none}
+use Prim.Native.Nat.{ℕ, zero, suc, _+_, _*_, _^_, _≤_, _<_}
+use native.Mathlib.Omega.{arith}
+use lib.Dec.{leb, ltb, eqb}
+use borrow.Author.Tests.{leb-false, le-leb, le-ltb, lt-ltb}
+use lib.ListN.{length}
+use lib.IntN.{ℤ, natAbs}
+use Rattle.integers.specs.Linear.{Within}
+use Rattle.integers.specs.Product.{natAbs-≤, within}
+use Rattle.integers.specs.Clip.{clip-within}
+use Rattle.integers.specs.Sum.{AllWithin}
+use Rattle.rules.specs.Limits.{unit, roundLimit, offsetPerRound, maxMultiplier}
+use Rattle.rules.specs.Table.{Table, edges}
+use Rattle.rules.specs.Input.{eachWithin}
+use Rattle.rules.specs.Step.{Entry, Step}
+use Rattle.rules.specs.Round.{State, spin, pass, copiesIn, offsetsIn, entriesIn, Round, round}
+use Rattle.rules.specs.Buffers.{Buffers, lengthsOf, needs}
+use Rattle.rules.specs.Run.{Status, running, certified, spent, Progress, Run, multiplierOf, statusAt, moved, tooLarge, nextBy, stateIn, next, iterate, isRunning, sound, written}
+use Rattle.rules.proofs.Pass.{pass-laid, copies-within, offsets-within, AtMost, multipliers-within}
+use Rattle.rules.proofs.RoundSizes.{round-sized, state-written, written-past}
+use Rattle.rules.proofs.BufferLaws.{Part, AllPast, all-past-refl, all-past-trans, past-lengths}
+
+-- the round that comes next
+abbrev pub coming : Table → List ℤ → Run → Round
+coming t l r = round t l (stateIn t (r .buffers))
+
+-- ---- it stays, or it moves and counts
+pub next-cases : (t : Table) (l : List ℤ) (r : Run) → (next t l r ≡ r) ⊎ (next t l r ≡ moved r (coming t l r))
+unfolding next
+next-cases t l r = go (r .progress .status) (tooLarge (coming t l r .entries)) refl
+  where
+    go : (s : Status) (b : Bool) → tooLarge (coming t l r .entries) ≡ b → (nextBy s r (coming t l r) ≡ r) ⊎ (nextBy s r (coming t l r) ≡ moved r (coming t l r))
+    go running true e = inl (ap (λ b. cond b r (moved r (coming t l r))) e)
+    go running false e = inr (ap (λ b. cond b r (moved r (coming t l r))) e)
+    go certified b e = inl refl
+    go spent b e = inl refl
+
+-- what holds of a run and is kept by each round holds ever after
+pub iterate-keeps : (t : Table) (l : List ℤ) (P : Run → Type 0) → ((r : Run) → P r → P (moved r (coming t l r))) → (k : ℕ) (r : Run) → P r → P (iterate t l k r)
+unfolding iterate
+iterate-keeps t l P f zero r p = p
+iterate-keeps t l P f (suc k) r p = iterate-keeps t l P f k (next t l r) (go (next-cases t l r))
+  where
+    go : (next t l r ≡ r) ⊎ (next t l r ≡ moved r (coming t l r)) → P (next t l r)
+    go (inl e) = subst P (sym e) p
+    go (inr e) = subst P (sym e) (f r p)
+
+pub ended-stays : (t : Table) (l : List ℤ) (r : Run) → (r .progress .status ≡ running → ⊥) → next t l r ≡ r
+unfolding next
+ended-stays t l r h = go (r .progress .status) refl
+  where
+    go : (s : Status) → r .progress .status ≡ s → nextBy s r (coming t l r) ≡ r
+    go running e = absurd (h e)
+    go certified e = refl
+    go spent e = refl
+
+pub iterate-stays : (t : Table) (l : List ℤ) (k : ℕ) (r : Run) → next t l r ≡ r → iterate t l k r ≡ r
+unfolding iterate
+iterate-stays t l zero r e = refl
+iterate-stays t l (suc k) r e = ap (iterate t l k) e ∙ iterate-stays t l k r e
+
+pub iterate-plus : (t : Table) (l : List ℤ) (j k : ℕ) (r : Run) → iterate t l (j + k) r ≡ iterate t l k (iterate t l j r)
+unfolding iterate
+iterate-plus t l zero k r = ap (λ n. iterate t l n r) (zero-plus k)
+  where
+    zero-plus : (k : ℕ) → 0 + k ≡ k
+    zero-plus k = omega arith
+iterate-plus t l (suc j) k r = ap (λ n. iterate t l n r) (suc-plus j k) ∙ iterate-plus t l j k (next t l r)
+  where
+    suc-plus : (j k : ℕ) → suc j + k ≡ suc (j + k)
+    suc-plus j k = omega arith
+
+pub running≢certified : running ≡ certified → ⊥
+running≢certified e = let z : _≡_ {A = ℕ} 0 1 = cc in omega arith
+
+pub spent≢certified : spent ≡ certified → ⊥
+spent≢certified e = let z : _≡_ {A = ℕ} 0 1 = cc in omega arith
+
+pub spent≢running : spent ≡ running → ⊥
+spent≢running e = let z : _≡_ {A = ℕ} 0 1 = cc in omega arith
+
+-- ---- the buffers of a run keep their lengths, and what is past the stated ones
+pub record Held (t : Table) (b : Buffers) (r : Run) : Type 0 where
+  pub past : AllPast (needs t) (r .buffers) b
+  pub long : Part (needs t) (lengthsOf (r .buffers))
+
+pub held-start : (t : Table) (r : Run) → Part (needs t) (lengthsOf (r .buffers)) → Held t (r .buffers) r
+held-start t r h = record { past = all-past-refl (needs t) (r .buffers); long = h }
+
+held-moved : (t : Table) (l : List ℤ) (b : Buffers) (r : Run) → Held t b r → Held t b (moved r (coming t l r))
+held-moved t l b r h = record {
+  past = all-past-trans (needs t) (written (coming t l r) (r .buffers)) (r .buffers) b p (h .past);
+  long = subst (Part (needs t)) (sym (past-lengths (needs t) (written (coming t l r) (r .buffers)) (r .buffers) p)) (h .long);
+}
+  where
+    p : AllPast (needs t) (written (coming t l r) (r .buffers)) (r .buffers)
+    p = written-past t (coming t l r) (r .buffers) (round-sized t l (stateIn t (r .buffers))) (h .long)
+
+pub iterate-held : (t : Table) (l : List ℤ) (k : ℕ) (b : Buffers) (r : Run) → Held t b r → Held t b (iterate t l k r)
+iterate-held t l k b r h = iterate-keeps t l (Held t b) (held-moved t l b) k r h
+
+-- ---- 43's limits hold before every round of a run that they held of at first
+pub record Safe (t : Table) (r : Run) : Type 0 where
+  pub copies : AllWithin unit (stateIn t (r .buffers) .copies)
+  pub offsets : AllWithin (offsetPerRound * r .progress .rounds) (stateIn t (r .buffers) .offsets)
+  pub early : r .progress .status ≡ running → r .progress .rounds < roundLimit
+
+spin-within : (u : ℕ) (es : List ℕ) (l : List ℤ) (s : State) (i : ℕ) → Within u (spin u es l s i)
+unfolding spin
+spin-within u es l s i = clip-within u _
+
+status-early : (k : ℕ) (o : Option (List Bool)) → statusAt k o ≡ running → k < roundLimit
+status-early k none e = go (leb roundLimit k) refl e
+  where
+    go : (b : Bool) → leb roundLimit k ≡ b → cond b spent running ≡ running → k < roundLimit
+    go true p q = absurd (spent≢running q)
+    go false p q = leb-false roundLimit k p
+status-early k (some w) e = absurd (running≢certified (sym e))
+
+more-rounds : (k : ℕ) → unit + offsetPerRound * k + unit ≡ offsetPerRound * suc k
+more-rounds k = omega arith
+
+round-copies : (t : Table) (l : List ℤ) (s : State) → AllWithin unit (round t l s .state .copies)
+unfolding round
+round-copies t l s = copies-within unit (t .checks) (pass unit (spin unit (edges (t .checks)) l s) (t .checks) (s .offsets)) (pass-laid unit (spin unit (edges (t .checks)) l s) (t .checks) (s .offsets))
+
+round-offsets : (t : Table) (l : List ℤ) (s : State) (k : ℕ) → AllWithin (offsetPerRound * k) (s .offsets) → AllWithin (offsetPerRound * suc k) (round t l s .state .offsets)
+unfolding round
+round-offsets t l s k h = subst (λ m. AllWithin m (offsetsIn (pass unit (spin unit (edges (t .checks)) l s) (t .checks) (s .offsets)))) (more-rounds k)
+    (offsets-within unit (offsetPerRound * k) (spin unit (edges (t .checks)) l s) (spin-within unit (edges (t .checks)) l s) (t .checks) (s .offsets) h)
+
+safe-moved : (t : Table) (l : List ℤ) (r : Run) → Safe t r → Safe t (moved r (coming t l r))
+safe-moved t l r h = record {
+  copies = subst (λ s. AllWithin unit (s .copies)) (sym here) (round-copies t l (stateIn t (r .buffers)));
+  offsets = subst (λ s. AllWithin (offsetPerRound * suc (r .progress .rounds)) (s .offsets)) (sym here) (round-offsets t l (stateIn t (r .buffers)) (r .progress .rounds) (h .offsets));
+  early = status-early (suc (r .progress .rounds)) (coming t l r .word);
+}
+  where
+    here : stateIn t (written (coming t l r) (r .buffers)) ≡ coming t l r .state
+    here = state-written t (coming t l r) (r .buffers) (round-sized t l (stateIn t (r .buffers)))
+
+pub iterate-safe : (t : Table) (l : List ℤ) (k : ℕ) (r : Run) → Safe t r → Safe t (iterate t l k r)
+iterate-safe t l k r h = iterate-keeps t l (Safe t) (safe-moved t l) k r h
+
+-- ---- a multiplier never exceeds 2 · 4,096 + 8,192 · 1,023 = 8,388,608, in a resumed run too
+at-most : (a b : ℕ) (es : List Entry) → a ≤ b → AtMost a es → AtMost b es
+at-most a b [] h k = tt
+at-most a b (e ∷ es) h k = (more (multiplierOf e) h (k .0), at-most a b es h (k .1))
+  where
+    more : (x : ℕ) → a ≤ b → x ≤ a → x ≤ b
+    more x h k = omega arith
+
+pub multipliers-limit : (t : Table) (l : List ℤ) (s : State) (k : ℕ) → k < roundLimit → AllWithin (offsetPerRound * k) (s .offsets) → AtMost 8388608 (round t l s .entries)
+unfolding round
+multipliers-limit t l s k e h = at-most (unit + (unit + offsetPerRound * k)) 8388608 (entriesIn (pass unit (spin unit (edges (t .checks)) l s) (t .checks) (s .offsets))) (low k e)
+    (multipliers-within unit (offsetPerRound * k) (spin unit (edges (t .checks)) l s) (spin-within unit (edges (t .checks)) l s) (t .checks) (s .offsets) h (below k e))
+  where
+    low : (k : ℕ) → k < roundLimit → unit + (unit + offsetPerRound * k) ≤ 8388608
+    low k h = omega arith
+
+    below : (k : ℕ) → k < roundLimit → unit + (unit + offsetPerRound * k) ≤ 2 ^ 24
+    below k h = omega arith
+
+not-large : (es : List Entry) → AtMost maxMultiplier es → tooLarge es ≡ false
+not-large [] h = refl
+not-large (e ∷ es) h = ap₂ _||_ (le-ltb maxMultiplier (multiplierOf e) (h .0)) (not-large es (h .1))
+
+-- so 44 never meets it
+pub never-44 : (t : Table) (l : List ℤ) (r : Run) → Safe t r → r .progress .status ≡ running → tooLarge (coming t l r .entries) ≡ false
+never-44 t l r h e = not-large (coming t l r .entries) (at-most 8388608 maxMultiplier (coming t l r .entries) (omega arith)
+    (multipliers-limit t l (stateIn t (r .buffers)) (r .progress .rounds) (h .early e) (h .offsets)))
+
+pub safe-moves : (t : Table) (l : List ℤ) (r : Run) → Safe t r → r .progress .status ≡ running → next t l r ≡ moved r (coming t l r)
+unfolding next
+safe-moves t l r h e = ap (λ s. nextBy s r (coming t l r)) e ∙ ap (λ b. cond b r (moved r (coming t l r))) (never-44 t l r h e)
+
+-- and 43 does not either
+each-within : (m : ℕ) (zs : List ℤ) → AllWithin m zs → eachWithin m zs ≡ true
+each-within m [] h = refl
+each-within m (z ∷ zs) h = ap₂ _&&_ (le-leb (natAbs z) m (natAbs-≤ z m (h .0))) (each-within m zs (h .1))
+
+pub never-43 : (t : Table) (r : Run) → Safe t r → r .progress .status ≡ running → sound (r .progress .rounds) (stateIn t (r .buffers)) ≡ true
+unfolding sound
+never-43 t r h e = ap₂ _&&_ (ap₂ _&&_ (lt-ltb (r .progress .rounds) roundLimit (h .early e)) (each-within unit (stateIn t (r .buffers) .copies) (h .copies)))
+    (each-within (offsetPerRound * r .progress .rounds) (stateIn t (r .buffers) .offsets) (h .offsets))

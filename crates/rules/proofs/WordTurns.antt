@@ -1,0 +1,169 @@
+-- A codeword turns the candidate, leaves the checks met, the bound and the gap, and so turns the whole round. Assumes nothing.
+use mathlib.Core.Path.{_≡_, refl, sym, _∙_, ap, ap₂, subst, fun-ext}
+use mathlib.Core.Bool.{Bool, true, false, not, _&&_}
+use mathlib.Core.List.{List, [], _∷_}
+use mathlib.Core.Option.{Option, some, none}
+use Prim.Native.Nat.{ℕ, zero, suc}
+use lib.ListN.{length}
+use lib.IntN.{ℤ, pos, negsuc, _+ℤ_, _-ℤ_, _*ℤ_}
+use Rattle.integers.specs.Product.{abs, abs-neg, *ℤ-negℤ}
+use Rattle.integers.specs.Sum.{sumTo}
+use Rattle.rules.specs.Limits.{unit}
+use Rattle.rules.specs.Table.{Table, edges, at, bit, bitsAt}
+use Rattle.rules.specs.Parity.{_⊕_, turn, plus, turns, odd, Alike, meets, Codeword, agreement}
+use Rattle.rules.specs.Cut.{keep}
+use Rattle.rules.specs.Step.{Entry, inactive, active, Step}
+use Rattle.rules.specs.Bound.{Row, gather, rowsOf, weights, pull, price, reduced, bound, gap}
+use Rattle.rules.specs.Round.{State, spin, pass, copiesIn, offsetsIn, entriesIn, bitOf, join, candidate, isZero, certify, firstOf, Round, roundBy, round}
+use Rattle.rules.proofs.Signs.{turn-sum, turn-zero, turn-turn, turn-side, at-turns, bit-plus, odd-plus, alike-sym, alike-trans}
+use Rattle.rules.proofs.CutRule.{plusO}
+use Rattle.rules.proofs.Pass.{Good, AllLaid, pass-laid, rows-good}
+use Rattle.rules.proofs.RoundTurns.{Even, meets-even, signs, turnState, bitsAt-alike, gather-turn, spin-turn, turnSteps, pass-turn, copies-turn, offsets-turn, turnEntries, entries-turn}
+
+-- ---- the candidate
+abbrev plusB : Bool → Option Bool → Option Bool
+plusB c none = none
+plusB c (some b) = some (c ⊕ b)
+
+bitOf-turn : (c : Bool) (x : ℤ) → bitOf (turn c x) ≡ plusB c (bitOf x)
+bitOf-turn true (pos zero) = refl
+bitOf-turn true (pos (suc n)) = refl
+bitOf-turn true (negsuc n) = refl
+bitOf-turn false (pos zero) = refl
+bitOf-turn false (pos (suc n)) = refl
+bitOf-turn false (negsuc n) = refl
+
+cons-plus : (c : Bool) (cs : List Bool) (o : Option Bool) (p : Option (List Bool)) → join (plusB c o) (plusO cs p) ≡ plusO (c ∷ cs) (join o p)
+cons-plus c cs none p = refl
+cons-plus c cs (some b) none = refl
+cons-plus c cs (some b) (some w) = refl
+
+candidate-at : (c : List Bool) (f g : ℕ → ℤ) → ((i : ℕ) → g i ≡ turn (bit c i) (f i)) → candidate (length c) g ≡ plusO c (candidate (length c) f)
+candidate-at [] f g fg = refl
+candidate-at (c ∷ cs) f g fg = ap₂ join (ap bitOf (fg 0) ∙ bitOf-turn c (f 0)) (candidate-at cs (λ i. f (suc i)) (λ i. g (suc i)) (λ i. fg (suc i)))
+    ∙ cons-plus c cs (bitOf (f 0)) (candidate (length cs) (λ i. f (suc i)))
+
+pub candidate-turns : (n : ℕ) (c : List Bool) (f g : ℕ → ℤ) → length c ≡ n → ((i : ℕ) → g i ≡ turn (bit c i) (f i)) → candidate n g ≡ plusO c (candidate n f)
+candidate-turns n c f g e fg = subst (λ n. candidate n g ≡ plusO c (candidate n f)) e (candidate-at c f g fg)
+
+first-at : (c : List Bool) (f g : ℕ → ℤ) → ((i : ℕ) → g i ≡ turn (bit c i) (f i)) → firstOf (length c) g ≡ turns c (firstOf (length c) f)
+first-at [] f g fg = refl
+first-at (c ∷ cs) f g fg = ap₂ _∷_ (fg 0) (first-at cs (λ i. f (suc i)) (λ i. g (suc i)) (λ i. fg (suc i)))
+
+pub first-turns : (n : ℕ) (c : List Bool) (f g : ℕ → ℤ) → length c ≡ n → ((i : ℕ) → g i ≡ turn (bit c i) (f i)) → firstOf n g ≡ turns c (firstOf n f)
+first-turns n c f g e fg = subst (λ n. firstOf n g ≡ turns c (firstOf n f)) e (first-at c f g fg)
+
+-- ---- the checks
+pub bitsAt-plus : (c w : List Bool) (ms : List ℕ) → bitsAt (plus c w) ms ≡ plus (bitsAt c ms) (bitsAt w ms)
+bitsAt-plus c w [] = refl
+bitsAt-plus c w (m ∷ ms) = ap₂ _∷_ (bit-plus c w m) (bitsAt-plus c w ms)
+
+pub parity-plus : (c w : List Bool) (ms : List ℕ) → odd (bitsAt c ms) ≡ false → odd (bitsAt (plus c w) ms) ≡ odd (bitsAt w ms)
+parity-plus c w ms e = ap odd (bitsAt-plus c w ms) ∙ odd-plus (bitsAt c ms) (bitsAt w ms) ∙ ap (λ t. t ⊕ odd (bitsAt w ms)) e
+
+pub meets-turns : (c w : List Bool) (cs : List (List ℕ)) → Even c cs → meets (plus c w) cs ≡ meets w cs
+meets-turns c w [] h = refl
+meets-turns c w (ms ∷ cs) h = ap₂ (λ a b. not a && b) (parity-plus c w ms (h .0)) (meets-turns c w cs (h .1))
+
+-- ---- the gap, of any rows whose sets are as long as their checks
+abbrev pub turnRow : List Bool → Row → Row
+turnRow c r = record { members = r .members; multiplier = r .multiplier; set = plus (bitsAt c (r .members)) (r .set) }
+
+abbrev pub turnRows : List Bool → List Row → List Row
+turnRows c [] = []
+turnRows c (r ∷ rs) = turnRow c r ∷ turnRows c rs
+
+weights-turn : (b : ℕ) (cs ts : List Bool) → Alike cs ts → weights b (plus cs ts) ≡ turns cs (weights b ts)
+weights-turn b [] [] h = refl
+weights-turn b [] (t ∷ ts) h = refl
+weights-turn b (c ∷ cs) [] h = absurd h
+weights-turn b (c ∷ cs) (t ∷ ts) h = ap₂ _∷_ (turn-side c t (pos b)) (weights-turn b cs ts h)
+
+pub pull-turn : (c : List Bool) (i : ℕ) (rs : List Row) → Good rs → pull i (turnRows c rs) ≡ turn (bit c i) (pull i rs)
+pull-turn c i [] h = turn-zero (bit c i)
+pull-turn c i (r ∷ rs) h = ap₂ _+ℤ_ (ap (gather i (r .members)) (weights-turn (r .multiplier) (bitsAt c (r .members)) (r .set) (alike-trans (bitsAt c (r .members)) (r .members) (r .set) (bitsAt-alike c (r .members)) (alike-sym (r .set) (r .members) (h .1)))) ∙ gather-turn c i (r .members) (weights (r .multiplier) (r .set))) (pull-turn c i rs (h .2))
+    ∙ turn-sum (bit c i) (gather i (r .members) (weights (r .multiplier) (r .set))) (pull i rs)
+
+pub price-turn : (c : List Bool) (rs : List Row) → price (turnRows c rs) ≡ price rs
+price-turn c [] = refl
+price-turn c (r ∷ rs) = ap (λ t. pos (r .multiplier) *ℤ (pos (length (r .members)) -ℤ pos 2) +ℤ t) (price-turn c rs)
+
+times-turn : (k : ℕ) (c : Bool) (x : ℤ) → pos k *ℤ turn c x ≡ turn c (pos k *ℤ x)
+times-turn k true x = *ℤ-negℤ (pos k) x
+times-turn k false x = refl
+
+pub reduced-turn : (k : ℕ) (c : List Bool) (l : List ℤ) (rs : List Row) → Good rs → (i : ℕ) → reduced k (turns c l) (turnRows c rs) i ≡ turn (bit c i) (reduced k l rs i)
+unfolding reduced
+reduced-turn k c l rs h i = ap₂ _+ℤ_ (ap (λ t. pos k *ℤ t) (at-turns c l i) ∙ times-turn k (bit c i) (at l i)) (pull-turn c i rs h) ∙ turn-sum (bit c i) (pos k *ℤ at l i) (pull i rs)
+
+abs-turn : (c : Bool) (x : ℤ) → abs (turn c x) ≡ abs x
+abs-turn true x = ap pos (abs-neg x)
+abs-turn false x = refl
+
+pub bound-turns : (n k : ℕ) (c : List Bool) (l : List ℤ) (rs : List Row) → Good rs → bound n k (turns c l) (turnRows c rs) ≡ bound n k l rs
+unfolding bound
+bound-turns n k c l rs h = ap₂ _+ℤ_ (ap (sumTo n) (fun-ext (λ i. ap abs (reduced-turn k c l rs h i) ∙ abs-turn (bit c i) (reduced k l rs i)))) (price-turn c rs)
+
+pub agreement-turns : (n : ℕ) (c : List Bool) (l : List ℤ) (w : List Bool) → agreement n (turns c l) (plus c w) ≡ agreement n l w
+unfolding agreement
+agreement-turns n c l w = ap (sumTo n) (fun-ext (λ i. ap₂ turn (bit-plus c w i) (at-turns c l i) ∙ turn-turn (bit c i) (bit w i) (at l i)))
+
+pub gap-turns : (n k : ℕ) (c : List Bool) (l : List ℤ) (rs : List Row) (w : List Bool) → Good rs → gap n k (turns c l) (turnRows c rs) (plus c w) ≡ gap n k l rs w
+unfolding gap
+gap-turns n k c l rs w h = ap₂ (λ x y. x -ℤ pos k *ℤ y) (bound-turns n k c l rs h) (agreement-turns n c l w)
+
+-- ---- a round's rows
+pub rows-turn : (c : List Bool) (cs : List (List ℕ)) (es : List Entry) → rowsOf cs (turnEntries c cs es) ≡ turnRows c (rowsOf cs es)
+rows-turn c [] es = refl
+rows-turn c (ms ∷ cs) [] = refl
+rows-turn c (ms ∷ cs) (inactive ∷ es) = rows-turn c cs es
+rows-turn c (ms ∷ cs) (active b ts ∷ es) = ap (λ t. record { members = ms; multiplier = b; set = plus (bitsAt c ms) ts } ∷ t) (rows-turn c cs es)
+
+-- ---- the whole round
+abbrev pub turnRound : List Bool → List (List ℕ) → Round → Round
+turnRound c cs d = record { spins = turns c (d .spins); state = turnState c cs (d .state); entries = turnEntries c cs (d .entries); word = plusO c (d .word) }
+
+keep-plus : (c w : List Bool) (b : Bool) → keep b (plus c w) ≡ plusO c (keep b w)
+keep-plus c w true = refl
+keep-plus c w false = refl
+
+certify-turns : (t : Table) (c : List Bool) (l : List ℤ) (rs : List Row) (o : Option (List Bool)) → Even c (t .checks) → Good rs
+    → certify t (turns c l) (turnRows c rs) (plusO c o) ≡ plusO c (certify t l rs o)
+certify-turns t c l rs none e h = refl
+certify-turns t c l rs (some w) e h = ap₂ (λ a b. keep (a && isZero b) (plus c w)) (meets-turns c w (t .checks) e) (gap-turns (t .bits) 1 c l rs w h)
+    ∙ keep-plus c w (meets w (t .checks) && isZero (gap (t .bits) 1 l rs w))
+
+round-eq : {p q a b y z : List ℤ} {e f : List Entry} {v w : Option (List Bool)} → p ≡ q → a ≡ b → y ≡ z → e ≡ f → v ≡ w
+    → _≡_ {A = Round} (record { spins = p; state = record { copies = a; offsets = y }; entries = e; word = v }) (record { spins = q; state = record { copies = b; offsets = z }; entries = f; word = w })
+round-eq p q r s t = λ i. record { spins = p i; state = record { copies = q i; offsets = r i }; entries = s i; word = t i }
+
+pub round-turns : (t : Table) (c : List Bool) (l : List ℤ) (s : State) → Codeword t c → round t (turns c l) (turnState c (t .checks) s) ≡ turnRound c (t .checks) (round t l s)
+unfolding round
+round-turns t c l s k = ap (roundBy t (turns c l) g) steps ∙ round-eq
+    (first-turns (t .bits) c f g (k .size) fg)
+    (copies-turn unit c (t .checks) ss laid)
+    (offsets-turn unit c (t .checks) ss laid)
+    (entries-turn c (t .checks) ss)
+    (ap₂ (certify t (turns c l)) (ap (rowsOf (t .checks)) (entries-turn c (t .checks) ss) ∙ rows-turn c (t .checks) (entriesIn ss)) (candidate-turns (t .bits) c f g (k .size) fg)
+    ∙ certify-turns t c l (rowsOf (t .checks) (entriesIn ss)) (candidate (t .bits) f) even (rows-good unit (t .checks) ss laid))
+  where
+    f : ℕ → ℤ
+    f = spin unit (edges (t .checks)) l s
+
+    g : ℕ → ℤ
+    g = spin unit (edges (t .checks)) (turns c l) (turnState c (t .checks) s)
+
+    fg : (i : ℕ) → g i ≡ turn (bit c i) (f i)
+    fg = spin-turn unit c (t .checks) l s
+
+    ss : List Step
+    ss = pass unit f (t .checks) (s .offsets)
+
+    laid : AllLaid unit (t .checks) ss
+    laid = pass-laid unit f (t .checks) (s .offsets)
+
+    even : Even c (t .checks)
+    even = meets-even c (t .checks) (k .even)
+
+    steps : pass unit g (t .checks) (turns (signs c (t .checks)) (s .offsets)) ≡ turnSteps c (t .checks) ss
+    steps = pass-turn unit c f g fg (t .checks) (s .offsets) even

@@ -1,0 +1,151 @@
+-- A certificate's bytes read back: what a round writes is, item by item, what the round has. Assumes nothing.
+use mathlib.Core.Path.{_≡_, refl, sym, _∙_, ap, ap₂}
+use mathlib.Core.Bool.{Bool}
+use mathlib.Core.List.{List, [], _∷_, _++_}
+use Prim.Native.Nat.{ℕ, zero, suc, _+_, _*_, _/_, _%_, _≤_, _<_}
+use native.Mathlib.Omega.{arith}
+use lib.ListN.{length, getD, drop, length-append}
+use lib.Seq.{getD-drop, drop-drop, drop-append-seam}
+use Rattle.rules.specs.Bytes.{u16At, u32At, le16, le32}
+use Rattle.rules.specs.Limits.{certificateLength}
+use Rattle.rules.specs.Mask.{maskOf}
+use Rattle.rules.specs.Step.{Entry, inactive, active}
+use Rattle.rules.specs.Certificate.{cutsIn, contentBytes, bodyBytes, certificateOf, Item, itemAt, itemsAt, entriesOf, scaleOf, itemsOf}
+use Rattle.rules.specs.Run.{multiplierOf, maskIn}
+use Rattle.rules.proofs.Basics.{append-nil}
+
+-- ---- how long it is
+pub cuts-few : (es : List Entry) → cutsIn es ≤ length es
+cuts-few [] = omega arith
+cuts-few (inactive ∷ es) = more (cutsIn es) (length es) (cuts-few es)
+  where
+    more : (a b : ℕ) → a ≤ b → a ≤ suc b
+    more a b h = omega arith
+cuts-few (active b ts ∷ es) = more (cutsIn es) (length es) (cuts-few es)
+  where
+    more : (a b : ℕ) → a ≤ b → suc a ≤ suc b
+    more a b h = omega arith
+
+six : (n : ℕ) → suc (suc (suc (suc (suc (suc (6 * n)))))) ≡ 6 * suc n
+six n = omega arith
+
+contents-long : (j : ℕ) (es : List Entry) → length (contentBytes j es) ≡ 6 * cutsIn es
+contents-long j [] = refl
+contents-long j (inactive ∷ es) = contents-long (suc j) es
+contents-long j (active b ts ∷ es) = ap (λ n. suc (suc (suc (suc (suc (suc n)))))) (contents-long (suc j) es) ∙ six (cutsIn es)
+
+four : (n : ℕ) → suc (suc (suc (suc (4 * n)))) ≡ 4 * suc n
+four n = omega arith
+
+bodies-long : (es : List Entry) → length (bodyBytes es) ≡ 4 * cutsIn es
+bodies-long [] = refl
+bodies-long (inactive ∷ es) = bodies-long es
+bodies-long (active b ts ∷ es) = ap (λ n. suc (suc (suc (suc n)))) (bodies-long es) ∙ four (cutsIn es)
+
+pub certificate-length : (es : List Entry) → length (certificateOf es) ≡ certificateLength (cutsIn es)
+unfolding certificateOf
+certificate-length es = ap (λ n. suc (suc (suc (suc n)))) (length-append (contentBytes 0 es) (bodyBytes es) ∙ ap₂ _+_ (contents-long 0 es) (bodies-long es)) ∙ ten (cutsIn es)
+  where
+    ten : (n : ℕ) → suc (suc (suc (suc (6 * n + 4 * n)))) ≡ 4 + 10 * n
+    ten n = omega arith
+
+-- ---- its first two numbers
+back16 : (n : ℕ) → n < 65536 → n % 256 + 256 * (n / 256 % 256) ≡ n
+back16 n h = omega arith
+
+back32 : (n : ℕ) → n < 4294967296 → (n % 256 + 256 * (n / 256 % 256)) + 65536 * (n / 256 / 256 % 256 + 256 * (n / 256 / 256 / 256 % 256)) ≡ n
+back32 n h = omega arith
+
+pub entries-written : (es : List Entry) → cutsIn es < 65536 → entriesOf (certificateOf es) ≡ cutsIn es
+unfolding certificateOf u16At
+entries-written es h = back16 (cutsIn es) h
+
+pub scale-written : (es : List Entry) → scaleOf (certificateOf es) ≡ 1
+unfolding certificateOf u16At
+scale-written es = refl
+
+-- ---- its items, read from where they stand
+reads16 : (bs : List ℕ) (a : ℕ) → u16At bs a ≡ u16At (drop a bs) 0
+unfolding u16At
+reads16 bs a = sym (ap₂ (λ x y. x + 256 * y) (getD-drop a bs 0 0 ∙ ap (λ n. getD bs n 0) (plain a)) (getD-drop a bs 1 0))
+  where
+    plain : (a : ℕ) → a + 0 ≡ a
+    plain a = omega arith
+
+-- the 32-bit number at the front
+front32 : List ℕ → ℕ
+front32 xs = u16At xs 0 + 65536 * u16At (drop 2 xs) 0
+
+reads32 : (bs : List ℕ) (a : ℕ) → u32At bs a ≡ front32 (drop a bs)
+unfolding u32At front32
+reads32 bs a = ap₂ (λ x y. x + 65536 * y) (reads16 bs a) (reads16 bs (a + 2) ∙ ap (λ l. u16At l 0) (sym (drop-drop 2 a bs)))
+
+-- c items, their contents at xs and their masks at ys
+itemsIn : ℕ → List ℕ → List ℕ → List Item
+itemsIn zero xs ys = []
+itemsIn (suc c) xs ys = record { check = u16At xs 0; multiplier = front32 (drop 2 xs); mask = front32 ys } ∷ itemsIn c (drop 6 xs) (drop 4 ys)
+
+item-eq : {a a' b b' c c' : ℕ} → a ≡ a' → b ≡ b' → c ≡ c' → _≡_ {A = Item} (record { check = a; multiplier = b; mask = c }) (record { check = a'; multiplier = b'; mask = c' })
+item-eq p q r = λ i. record { check = p i; multiplier = q i; mask = r i }
+
+items-in : (bs : List ℕ) (q k c : ℕ) → itemsAt bs q k c ≡ itemsIn c (drop (4 + 6 * k) bs) (drop (4 + 6 * q + 4 * k) bs)
+unfolding itemsAt itemsIn
+items-in bs q k zero = refl
+items-in bs q k (suc c) = ap₂ _∷_
+    (item-eq (reads16 bs (4 + 6 * k)) (reads32 bs (6 + 6 * k) ∙ ap front32 (ap (λ n. drop n bs) (two k) ∙ sym (drop-drop 2 (4 + 6 * k) bs))) (reads32 bs (4 + 6 * q + 4 * k)))
+    (items-in bs q (k + 1) c ∙ ap₂ (itemsIn c) (ap (λ n. drop n bs) (nextHead k) ∙ sym (drop-drop 6 (4 + 6 * k) bs)) (ap (λ n. drop n bs) (nextMask q k) ∙ sym (drop-drop 4 (4 + 6 * q + 4 * k) bs)))
+  where
+    two : (k : ℕ) → 6 + 6 * k ≡ 4 + 6 * k + 2
+    two k = omega arith
+
+    nextHead : (k : ℕ) → 4 + 6 * (k + 1) ≡ 4 + 6 * k + 6
+    nextHead k = omega arith
+
+    nextMask : (q k : ℕ) → 4 + 6 * q + 4 * (k + 1) ≡ 4 + 6 * q + 4 * k + 4
+    nextMask q k = omega arith
+
+-- ---- the items of a round
+abbrev pub listed : ℕ → List Entry → List Item
+listed j [] = []
+listed j (inactive ∷ es) = listed (suc j) es
+listed j (active b ts ∷ es) = record { check = j; multiplier = b; mask = maskOf ts } ∷ listed (suc j) es
+
+-- multipliers and masks fit 32 bits
+abbrev pub Narrow : List Entry → Type 0
+Narrow [] = Unit {0}
+Narrow (e ∷ es) = (multiplierOf e < 4294967296) × (maskIn e < 4294967296) × Narrow es
+
+shift : (j n : ℕ) → j + suc n ≤ 65536 → suc j + n ≤ 65536
+shift j n h = omega arith
+
+small : (j n : ℕ) → j + suc n ≤ 65536 → j < 65536
+small j n h = omega arith
+
+items-listed : (j : ℕ) (es : List Entry) (more rest : List ℕ) → j + length es ≤ 65536 → Narrow es → itemsIn (cutsIn es) (contentBytes j es ++ more) (bodyBytes es ++ rest) ≡ listed j es
+unfolding itemsIn u16At front32
+items-listed j [] more rest h s = refl
+items-listed j (inactive ∷ es) more rest h s = items-listed (suc j) es more rest (shift j (length es) h) (s .2)
+items-listed j (active b ts ∷ es) more rest h s = ap₂ _∷_ (item-eq (back16 j (small j (length es) h)) (back32 b (s .0)) (back32 (maskOf ts) (s .1)))
+    (items-listed (suc j) es more rest (shift j (length es) h) (s .2))
+
+pub items-written : (es : List Entry) → length es ≤ 65535 → Narrow es → itemsOf (certificateOf es) ≡ listed 0 es
+unfolding certificateOf
+items-written es h s = ap₂ (λ q c. itemsAt bs q 0 c) count count
+    ∙ items-in bs (cutsIn es) 0 (cutsIn es)
+    ∙ ap (itemsIn (cutsIn es) (contentBytes 0 es ++ bodyBytes es)) (ap (λ n. drop n bs) (heads (cutsIn es) (length (contentBytes 0 es)) (contents-long 0 es)) ∙ drop-append-seam (contentBytes 0 es) (bodyBytes es) ∙ sym (append-nil (bodyBytes es)))
+    ∙ items-listed 0 es (bodyBytes es) [] (room (length es) h) s
+  where
+    bs : List ℕ
+    bs = le16 (cutsIn es) ++ le16 1 ++ contentBytes 0 es ++ bodyBytes es
+
+    few : (q n : ℕ) → q ≤ n → n ≤ 65535 → q < 65536
+    few q n h k = omega arith
+
+    count : entriesOf bs ≡ cutsIn es
+    count = entries-written es (few (cutsIn es) (length es) (cuts-few es) h)
+
+    room : (n : ℕ) → n ≤ 65535 → 0 + n ≤ 65536
+    room n h = omega arith
+
+    heads : (q n : ℕ) → n ≡ 6 * q → 4 + 6 * q + 4 * 0 ≡ suc (suc (suc (suc n)))
+    heads q n e = omega arith

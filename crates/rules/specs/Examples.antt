@@ -1,0 +1,269 @@
+-- Further worked examples, by computation: document 01's cuts, the three-frame report, a list of calls with its twin, and which refusal comes first
+-- where several apply. Assumes nothing.
+use mathlib.Core.Path.{_≡_, refl}
+use mathlib.Core.List.{List, [], _∷_, _++_}
+use Prim.Native.Nat.{ℕ, zero, suc, _+_, _/_, _%_}
+use lib.IntN.{ℤ, pos, negsuc}
+use lib.ListN.{replicate}
+use lib.Count.{ones}
+use Rattle.integers.specs.Clip.{clipZ}
+use Rattle.rules.specs.Refusal.{Reply, must, then, replyOf}
+use Rattle.rules.specs.Bytes.{u16At, u32At}
+use Rattle.rules.specs.Parity.{agreement}
+use Rattle.rules.specs.Mask.{maskRight}
+use Rattle.rules.specs.CodeFile.{inRange, contents, countsRight, startsRight, totalCount, numbersAt, bodies, ascends, membersRight, bitsRight, fileOf, codeFile, codeFileReply}
+use Rattle.rules.specs.Input.{onFrame, onWord, onPoint, onCheck}
+use Rattle.rules.specs.Cut.{cut, cutSearch, cutReply}
+use Rattle.rules.specs.Step.{lastWhere, multiplier, step}
+use Rattle.rules.specs.Bound.{reduced, bound, gap}
+use Rattle.rules.specs.Round.{total, divided, spin, round}
+use Rattle.rules.specs.Certificate.{certificateOf, itemsAt, follows, onItem, onItems, onCertificate}
+use Rattle.rules.specs.Judge.{verdict, judge, judgeReply}
+use Rattle.rules.specs.Buffers.{Buffers, Lengths, fits}
+use Rattle.rules.specs.Run.{running, certified, spent, Run, next, iterate, sound, admits, callOn, call, start}
+use Rattle.rules.specs.Calls.{Call, lentCall}
+use Rattle.rules.specs.Report.{Line, certifiedLine, spentLine, blank, frameLine}
+use Rattle.rules.specs.Question.{Question, fileIs, cutIs, judged, startIs, callIs, lineIs, listIs, Place, Said, reply, shown, line, places, Case, asked, said, answerTo}
+use Rattle.rules.specs.Frames.{threeBits, oneBit, frameA}
+
+abbrev no : ℕ → Reply
+no k = record { number = k; values = [] }
+
+abbrev yes : List ℤ → Reply
+yes vs = record { number = 0; values = vs }
+
+abbrev row : Question → Said → Case
+row q s = record { ask = q; say = s }
+
+-- checks 0 3, 0 1 and 0 1 2 on four bits
+fourBits : List ℕ
+fourBits = 4 ∷ 0 ∷ 3 ∷ 0 ∷ 0 ∷ 0 ∷ 2 ∷ 0 ∷ 2 ∷ 0 ∷ 2 ∷ 0 ∷ 4 ∷ 0 ∷ 3 ∷ 0 ∷ 0 ∷ 0 ∷ 3 ∷ 0 ∷ 0 ∷ 0 ∷ 1 ∷ 0 ∷ 0 ∷ 0 ∷ 1 ∷ 0 ∷ 2 ∷ 0 ∷ []
+
+frameD : List ℤ
+frameD = negsuc 5399 ∷ negsuc 1799 ∷ pos 6000 ∷ pos 7600 ∷ []
+
+-- ---- code files
+-- two checks of degree one on bit 0 of one bit, with the starts and counts handed in
+abbrev twoChecks : ℕ → ℕ → ℕ → ℕ → List ℕ
+twoChecks s a t b = 1 ∷ 0 ∷ 2 ∷ 0 ∷ s ∷ 0 ∷ a ∷ 0 ∷ t ∷ 0 ∷ b ∷ 0 ∷ 0 ∷ 0 ∷ 0 ∷ 0 ∷ []
+
+-- contents of m checks of degree d, from edge s on
+regular : ℕ → ℕ → ℕ → List ℕ
+regular zero d s = []
+regular (suc m) d s = s % 256 ∷ s / 256 ∷ d ∷ 0 ∷ regular m d (s + d)
+
+-- m one-member checks on bit 0 alone
+onBit0 : ℕ → List ℕ
+onBit0 m = 1 ∷ 0 ∷ m ∷ 0 ∷ (regular m 1 0 ++ replicate (m + m) 0)
+
+files : List Case
+files =
+    row (fileIs threeBits) (reply (yes (pos 3 ∷ pos 1 ∷ pos 3 ∷ [])))
+    ∷ row (fileIs []) (reply (no 1))
+    ∷ row (fileIs (3 ∷ 0 ∷ 1 ∷ [])) (reply (no 1))
+    ∷ row (fileIs (0 ∷ 0 ∷ 1 ∷ 0 ∷ [])) (reply (no 2))
+    ∷ row (fileIs (1 ∷ 0 ∷ 1 ∷ 8 ∷ [])) (reply (no 2))
+    -- the contents don't fit, with a bad count in them: 5 before 3
+    ∷ row (fileIs (1 ∷ 0 ∷ 1 ∷ 0 ∷ 0 ∷ 0 ∷ 33 ∷ [])) (reply (no 5))
+    -- a bad count in the last check, a wrong start in the first: 3 before 4
+    ∷ row (fileIs (twoChecks 1 1 1 33)) (reply (no 3))
+    ∷ row (fileIs (twoChecks 0 0 0 1)) (reply (no 3))
+    ∷ row (fileIs (twoChecks 0 1 2 1)) (reply (no 4))
+    -- 257 checks of 32 edges, no bodies: 4 before 5
+    ∷ row (fileIs (32 ∷ 0 ∷ 1 ∷ 1 ∷ regular 257 32 0)) (reply (no 4))
+    ∷ row (fileIs (32 ∷ 0 ∷ 0 ∷ 1 ∷ regular 256 32 0)) (reply (no 5))
+    -- a member not below n, and bytes left over: 5 before 6
+    ∷ row (fileIs (1 ∷ 0 ∷ 1 ∷ 0 ∷ 0 ∷ 0 ∷ 1 ∷ 0 ∷ 1 ∷ 0 ∷ 0 ∷ [])) (reply (no 5))
+    ∷ row (fileIs (1 ∷ 0 ∷ 1 ∷ 0 ∷ 0 ∷ 0 ∷ 1 ∷ 0 ∷ 1 ∷ 0 ∷ [])) (reply (no 6))
+    -- members 0, 0 and members 1, 0
+    ∷ row (fileIs (2 ∷ 0 ∷ 1 ∷ 0 ∷ 0 ∷ 0 ∷ 2 ∷ 0 ∷ 0 ∷ 0 ∷ 0 ∷ 0 ∷ [])) (reply (no 6))
+    ∷ row (fileIs (2 ∷ 0 ∷ 1 ∷ 0 ∷ 0 ∷ 0 ∷ 2 ∷ 0 ∷ 1 ∷ 0 ∷ 0 ∷ 0 ∷ [])) (reply (no 6))
+    -- bit 1 in no check; bit 0 in 32 checks, and in 33
+    ∷ row (fileIs (2 ∷ 0 ∷ 1 ∷ 0 ∷ 0 ∷ 0 ∷ 1 ∷ 0 ∷ 0 ∷ 0 ∷ [])) (reply (no 7))
+    ∷ row (fileIs (onBit0 32)) (reply (yes (pos 1 ∷ pos 32 ∷ pos 32 ∷ [])))
+    ∷ row (fileIs (onBit0 33)) (reply (no 7))
+    ∷ []
+
+-- ---- cuts: "(1365, 1365, −1366) has no cut; (1365, 1365, −1367) has mask 4"
+cuts : List Case
+cuts =
+    row (cutIs threeBits (pos 1365 ∷ pos 1365 ∷ negsuc 1365 ∷ []) 0) (reply (yes []))
+    ∷ row (cutIs threeBits (pos 1365 ∷ pos 1365 ∷ negsuc 1366 ∷ []) 0) (reply (yes (pos 4 ∷ [])))
+    -- no negative spin: the third changes sides
+    ∷ row (cutIs threeBits (pos 4000 ∷ pos 4000 ∷ pos 2000 ∷ []) 0) (reply (yes (pos 4 ∷ [])))
+    -- a spin beyond U, and a check number not below m: 16 before 17
+    ∷ row (cutIs threeBits (pos 4097 ∷ pos 0 ∷ pos 0 ∷ []) 1) (reply (no 16))
+    ∷ row (cutIs threeBits (pos 4096 ∷ pos 0 ∷ pos 0 ∷ []) 1) (reply (no 17))
+    ∷ row (cutIs (0 ∷ []) [] 0) (reply (no 1))
+    ∷ []
+
+-- ---- the judge: q, S, then one or two entries on check 0
+abbrev one : ℕ → ℕ → ℕ → ℕ → ℕ → List ℕ
+one q s c b k = q ∷ 0 ∷ s ∷ 0 ∷ c ∷ 0 ∷ b ∷ 0 ∷ 0 ∷ 0 ∷ k ∷ 0 ∷ 0 ∷ 0 ∷ []
+
+abbrev two : ℕ → ℕ → ℕ → ℕ → List ℕ
+two c k d j = 2 ∷ 0 ∷ 1 ∷ 0 ∷ c ∷ 0 ∷ 1 ∷ 0 ∷ 0 ∷ 0 ∷ d ∷ 0 ∷ 1 ∷ 0 ∷ 0 ∷ 0 ∷ k ∷ 0 ∷ 0 ∷ 0 ∷ j ∷ 0 ∷ 0 ∷ 0 ∷ []
+
+abbrev word000 : List ℕ
+word000 = 0 ∷ 0 ∷ 0 ∷ []
+
+certificates : List Case
+certificates =
+    -- 8 before 9, 9 before 15, 15 before 10, 10 before 11, 11 before 12, 12 before 13
+    row (judged threeBits (pos 8192 ∷ []) [] []) (reply (no 8))
+    ∷ row (judged threeBits (pos 8192 ∷ pos 0 ∷ pos 0 ∷ []) [] []) (reply (no 9))
+    ∷ row (judged threeBits frameA (0 ∷ 2 ∷ 0 ∷ []) []) (reply (no 15))
+    ∷ row (judged threeBits frameA word000 (0 ∷ 0 ∷ 0 ∷ [])) (reply (no 10))
+    ∷ row (judged threeBits frameA word000 (one 2 0 0 1 4)) (reply (no 10))
+    ∷ row (judged threeBits frameA word000 (one 1 0 1 1 4)) (reply (no 11))
+    ∷ row (judged threeBits frameA word000 (one 1 1 1 1 3)) (reply (no 12))
+    ∷ row (judged threeBits frameA word000 (one 1 1 0 0 3)) (reply (no 12))
+    ∷ row (judged threeBits frameA word000 (one 1 1 0 1 3)) (reply (no 13))
+    ∷ row (judged threeBits frameA word000 (one 1 1 0 1 8)) (reply (no 13))
+    -- the second entry's order comes before the word's broken check; its check number before its order
+    ∷ row (judged threeBits frameA (1 ∷ 0 ∷ 0 ∷ []) (two 0 4 0 4)) (reply (no 14))
+    ∷ row (judged threeBits frameA word000 (two 0 4 1 1)) (reply (no 12))
+    ∷ row (judged threeBits frameA word000 (two 0 3 1 1)) (reply (no 13))
+    -- a broken check comes before the gap; no entries at all: the bound is the sum of sizes
+    ∷ row (judged threeBits frameA (1 ∷ 0 ∷ 0 ∷ []) (two 0 1 0 4)) (reply (yes (pos 0 ∷ pos 0 ∷ [])))
+    ∷ row (judged threeBits frameA word000 (0 ∷ 0 ∷ 1 ∷ 0 ∷ [])) (reply (yes (pos 2 ∷ pos 4000 ∷ [])))
+    ∷ []
+
+-- ---- calls on runs as they stand
+abbrev buffers : List ℤ → List ℤ → Buffers
+buffers z y = record {
+  spins = pos 9 ∷ [];
+  copies = z;
+  offsets = y;
+  multipliers = 8 ∷ [];
+  masks = 7 ∷ [];
+  word = 6 ∷ [];
+  certificate = 5 ∷ 5 ∷ 5 ∷ 5 ∷ 5 ∷ 5 ∷ 5 ∷ 5 ∷ 5 ∷ 5 ∷ 5 ∷ 5 ∷ 5 ∷ 5 ∷ 5 ∷ [];
+}
+
+abbrev stands : ℕ → Rattle.rules.specs.Run.Status → Buffers → Run
+stands k s b = record { progress = record { rounds = k; status = s }; buffers = b }
+
+-- refused, with the record and every buffer as they were
+abbrev stays : ℕ → Run → Said
+stays k r = shown (no k) (r .progress .rounds) (r .buffers)
+
+abbrev refusal : List ℤ → ℕ → Run → ℕ → Case
+refusal l v r k = row (callIs oneBit l v r) (stays k r)
+
+calls : List Case
+calls =
+    row (startIs oneBit [] (pos 3 ∷ [])) (reply (no 41))
+    ∷ row (startIs oneBit (pos 3 ∷ []) (pos 3 ∷ pos 3 ∷ [])) (reply (yes (pos 0 ∷ pos 0 ∷ [])))
+    -- 17 before 41, 41 before 42, 42 before 43
+    ∷ refusal (pos 5 ∷ []) 1025 (stands 0 certified (buffers [] [])) 17
+    ∷ refusal (pos 5 ∷ []) 1024 (stands 0 certified (buffers [] [])) 41
+    ∷ refusal (pos 5 ∷ []) 0 (stands 9999 spent (buffers (pos 4097 ∷ []) (pos 1 ∷ []))) 42
+    -- a copy outside; 1,024 rounds in a running run; an offset beyond 8,192 × rounds; and just within
+    ∷ refusal (pos 5 ∷ []) 0 (stands 3 running (buffers (pos 4097 ∷ []) (pos 0 ∷ []))) 43
+    ∷ refusal (pos 5 ∷ []) 0 (stands 1024 running (buffers (pos 0 ∷ []) (pos 0 ∷ []))) 43
+    ∷ refusal (pos 5 ∷ []) 0 (stands 1 running (buffers (pos 0 ∷ []) (negsuc 8192 ∷ []))) 43
+    ∷ row (callIs oneBit (pos 5 ∷ []) 0 (stands 1 running (buffers (pos 4096 ∷ []) (negsuc 8191 ∷ []))))
+    (shown (yes (pos 0 ∷ [])) 1 (buffers (pos 4096 ∷ []) (negsuc 8191 ∷ [])))
+    -- round 1,024 without a certificate: spent
+    ∷ row (callIs oneBit (pos 0 ∷ []) 1024 (stands 1023 running (buffers (pos 0 ∷ []) (pos 0 ∷ []))))
+    (shown (yes (pos 2 ∷ [])) 1024 (record {
+      spins = pos 0 ∷ [];
+      copies = pos 4096 ∷ [];
+      offsets = negsuc 4095 ∷ [];
+      multipliers = 4096 ∷ [];
+      masks = 1 ∷ [];
+      word = 6 ∷ [];
+      certificate = 5 ∷ 5 ∷ 5 ∷ 5 ∷ 5 ∷ 5 ∷ 5 ∷ 5 ∷ 5 ∷ 5 ∷ 5 ∷ 5 ∷ 5 ∷ 5 ∷ 5 ∷ [];
+    }))
+    ∷ []
+
+-- ---- rounds that tell a plausible error from the rule
+-- one bit in two checks of one member: −5 over two edges is −2
+rounds : List Case
+rounds =
+    row (callIs (onBit0 2) (negsuc 4 ∷ []) 1 (stands 0 running (blank (record { spins = 1; copies = 2; offsets = 2; multipliers = 2; masks = 2; word = 1; certificate = 24 }))))
+    (shown (yes (pos 0 ∷ [])) 1 (record {
+      spins = negsuc 1 ∷ [];
+      copies = pos 4096 ∷ pos 4096 ∷ [];
+      offsets = negsuc 4097 ∷ negsuc 4097 ∷ [];
+      multipliers = 4098 ∷ 4098 ∷ [];
+      masks = 1 ∷ 1 ∷ [];
+      word = 0 ∷ [];
+      certificate = replicate 24 0;
+    }))
+    -- checks 0 3, 0 1 and 0 1 2: round 5's candidate 1101 meets all checks with gap 2598, and 0000 is certified in round 14
+    ∷ row (callIs fourBits frameD 5 (stands 0 running (blank (record { spins = 4; copies = 7; offsets = 7; multipliers = 3; masks = 3; word = 4; certificate = 34 }))))
+    (shown (yes (pos 0 ∷ [])) 5 (record {
+      spins = negsuc 477 ∷ negsuc 583 ∷ pos 4096 ∷ negsuc 599 ∷ [];
+      copies = negsuc 538 ∷ negsuc 538 ∷ negsuc 530 ∷ negsuc 530 ∷ negsuc 513 ∷ negsuc 547 ∷ pos 4060 ∷ [];
+      offsets = negsuc 8498 ∷ pos 8499 ∷ pos 1737 ∷ negsuc 1736 ∷ pos 1359 ∷ negsuc 1358 ∷ pos 1359 ∷ [];
+      multipliers = 8499 ∷ 1737 ∷ 1359 ∷ [];
+      masks = 1 ∷ 2 ∷ 2 ∷ [];
+      word = replicate 4 0;
+      certificate = replicate 34 0;
+    }))
+    ∷ row (lineIs fourBits frameD) (line (certifiedLine 14 (pos 6400) 3))
+    ∷ []
+
+-- ---- a list of calls, refused ones included, and its twin on the frame negated under 110
+abbrev full : Lengths
+full = record { spins = 3; copies = 3; offsets = 3; multipliers = 1; masks = 1; word = 3; certificate = 14 }
+
+abbrev tooShort : Lengths
+tooShort = record { spins = 3; copies = 2; offsets = 3; multipliers = 1; masks = 1; word = 3; certificate = 14 }
+
+abbrev dirty : ℤ → ℕ → Buffers
+dirty z n = record {
+  spins = replicate 3 z;
+  copies = replicate 4 z;
+  offsets = replicate 5 z;
+  multipliers = replicate 1 n;
+  masks = replicate 1 n;
+  word = replicate 3 n;
+  certificate = replicate 15 n;
+}
+
+abbrev wants : ℕ → Lengths → Call
+wants v n = record { wanted = v; lent = n }
+
+callsOf : List Call
+callsOf = wants 1025 full ∷ wants 1 full ∷ wants 5 tooShort ∷ wants 0 full ∷ wants 7 full ∷ wants 1 full ∷ []
+
+abbrev place : Reply → ℕ → ℕ → List ℕ → Place
+place a k b w = record { reply = a; rounds = k; multipliers = b ∷ []; word = w }
+
+lists : List Case
+lists =
+    row (listIs threeBits frameA callsOf (dirty (pos 9) 8)) (places
+    (place (no 17) 0 8 (8 ∷ 8 ∷ 8 ∷ [])
+    ∷ place (yes (pos 0 ∷ [])) 1 1968 (8 ∷ 8 ∷ 8 ∷ [])
+    ∷ place (no 41) 1 1968 (8 ∷ 8 ∷ 8 ∷ [])
+    ∷ place (yes (pos 0 ∷ [])) 1 1968 (8 ∷ 8 ∷ 8 ∷ [])
+    ∷ place (yes (pos 1 ∷ [])) 3 3333 (0 ∷ 0 ∷ 0 ∷ [])
+    ∷ place (no 42) 3 3333 (0 ∷ 0 ∷ 0 ∷ [])
+    ∷ []))
+    ∷ row (listIs threeBits (negsuc 3999 ∷ negsuc 3999 ∷ negsuc 1999 ∷ []) callsOf (dirty (negsuc 5) 4)) (places
+    (place (no 17) 0 4 (4 ∷ 4 ∷ 4 ∷ [])
+    ∷ place (yes (pos 0 ∷ [])) 1 1968 (4 ∷ 4 ∷ 4 ∷ [])
+    ∷ place (no 41) 1 1968 (4 ∷ 4 ∷ 4 ∷ [])
+    ∷ place (yes (pos 0 ∷ [])) 1 1968 (4 ∷ 4 ∷ 4 ∷ [])
+    ∷ place (yes (pos 1 ∷ [])) 3 3333 (1 ∷ 1 ∷ 0 ∷ [])
+    ∷ place (no 42) 3 3333 (1 ∷ 1 ∷ 0 ∷ [])
+    ∷ []))
+    ∷ []
+
+-- ---- the three-frame report
+report : List Case
+report =
+    row (lineIs threeBits frameA) (line (certifiedLine 3 (pos 6000) 1))
+    ∷ row (lineIs threeBits (pos 10 ∷ pos 10 ∷ pos 10 ∷ [])) (line (certifiedLine 1 (pos 30) 0))
+    ∷ row (lineIs threeBits (pos 0 ∷ pos 0 ∷ pos 0 ∷ [])) (line (spentLine 1024))
+    ∷ []
+
+pub cases : List Case
+cases = files ++ cuts ++ certificates ++ calls ++ rounds ++ lists ++ report
+
+pub examples : asked cases ≡ said cases
+unfolding cases fourBits frameD files cuts certificates calls rounds lists report regular onBit0 callsOf threeBits oneBit frameA answerTo must then replyOf u16At u32At agreement maskRight ones lib.Count.onesIn inRange contents countsRight startsRight totalCount numbersAt bodies ascends membersRight bitsRight fileOf codeFile codeFileReply onFrame onWord onPoint onCheck cut cutSearch cutReply lastWhere multiplier step reduced bound gap total divided spin round certificateOf itemsAt follows onItem onItems onCertificate verdict judge judgeReply fits next iterate sound admits callOn call start lentCall frameLine clipZ
+examples = refl

@@ -1,0 +1,132 @@
+-- The reference frames that document 01 marks P: one table of questions with their answers, and one theorem over it, by computation. Assumes nothing.
+use mathlib.Core.Path.{_≡_, refl}
+use mathlib.Core.List.{List, [], _∷_}
+use Prim.Native.Nat.{ℕ}
+use lib.IntN.{ℤ, pos, negsuc}
+use lib.Count.{ones}
+use Rattle.integers.specs.Clip.{clipZ}
+use Rattle.rules.specs.Refusal.{Reply, must, then, replyOf}
+use Rattle.rules.specs.Bytes.{u16At, u32At}
+use Rattle.rules.specs.Parity.{agreement}
+use Rattle.rules.specs.Mask.{maskRight}
+use Rattle.rules.specs.CodeFile.{inRange, contents, countsRight, startsRight, totalCount, numbersAt, bodies, ascends, membersRight, bitsRight, fileOf, codeFile, codeFileReply}
+use Rattle.rules.specs.Input.{onFrame, onWord}
+use Rattle.rules.specs.Cut.{cut}
+use Rattle.rules.specs.Step.{lastWhere, multiplier, step}
+use Rattle.rules.specs.Bound.{reduced, bound, gap}
+use Rattle.rules.specs.Round.{total, divided, spin, round}
+use Rattle.rules.specs.Certificate.{certificateOf, itemsAt, follows, onItem, onItems, onCertificate}
+use Rattle.rules.specs.Judge.{verdict, judge, judgeReply}
+use Rattle.rules.specs.Buffers.{Buffers, fits}
+use Rattle.rules.specs.Run.{next, iterate, sound, admits, callOn, call, start}
+use Rattle.rules.specs.Question.{Question, shows, boundIs, judged, Said, reply, shown, number, Case, asked, said, answerTo}
+
+-- "One check on bits 0, 1, 2", as the code file of document 01's frame report; and "one check on one bit"
+unfoldable pub threeBits : List ℕ
+threeBits = 0x03 ∷ 0x00 ∷ 0x01 ∷ 0x00 ∷ 0x00 ∷ 0x00 ∷ 0x03 ∷ 0x00 ∷ 0x00 ∷ 0x00 ∷ 0x01 ∷ 0x00 ∷ 0x02 ∷ 0x00 ∷ []
+
+unfoldable pub oneBit : List ℕ
+oneBit = 0x01 ∷ 0x00 ∷ 0x01 ∷ 0x00 ∷ 0x00 ∷ 0x00 ∷ 0x01 ∷ 0x00 ∷ 0x00 ∷ 0x00 ∷ []
+
+unfoldable pub frameA : List ℤ
+frameA = pos 4000 ∷ pos 4000 ∷ negsuc 1999 ∷ []
+
+frameB : List ℤ
+frameB = negsuc 3999 ∷ negsuc 3999 ∷ negsuc 1999 ∷ []
+
+frameC : List ℤ
+frameC = negsuc 4 ∷ []
+
+abbrev blank14 : List ℕ
+blank14 = 0 ∷ 0 ∷ 0 ∷ 0 ∷ 0 ∷ 0 ∷ 0 ∷ 0 ∷ 0 ∷ 0 ∷ 0 ∷ 0 ∷ 0 ∷ 0 ∷ []
+
+-- a call's answer: running, certified
+abbrev running : Reply
+running = record { number = 0; values = pos 0 ∷ [] }
+
+abbrev certified : Reply
+certified = record { number = 0; values = pos 1 ∷ [] }
+
+-- the judge's: certified, a gap
+abbrev gapOf : ℕ → Reply
+gapOf g = record { number = 0; values = pos 2 ∷ pos g ∷ [] }
+
+-- scale 1, one entry on check 0, mask 4
+abbrev withMultiplier : ℕ → ℕ → List ℕ
+withMultiplier lo hi = 0x01 ∷ 0x00 ∷ 0x01 ∷ 0x00 ∷ 0x00 ∷ 0x00 ∷ lo ∷ hi ∷ 0x00 ∷ 0x00 ∷ 0x04 ∷ 0x00 ∷ 0x00 ∷ 0x00 ∷ []
+
+abbrev word000 : List ℕ
+word000 = 0 ∷ 0 ∷ 0 ∷ []
+
+pub cases : List Case
+cases =
+    record {
+      ask = shows threeBits frameA 1;
+      say = shown running 1 (record {
+        spins = pos 4000 ∷ pos 4000 ∷ negsuc 1999 ∷ [];
+        copies = pos 2032 ∷ pos 2032 ∷ negsuc 31 ∷ [];
+        offsets = pos 1968 ∷ pos 1968 ∷ negsuc 1967 ∷ [];
+        multipliers = 1968 ∷ [];
+        masks = 4 ∷ [];
+        word = word000;
+        certificate = blank14;
+      });
+    }
+    ∷ record {
+      ask = shows threeBits frameA 2;
+      say = shown running 2 (record {
+        spins = pos 4064 ∷ pos 4064 ∷ negsuc 63 ∷ [];
+        copies = pos 2698 ∷ pos 2698 ∷ pos 1302 ∷ [];
+        offsets = pos 3334 ∷ pos 3334 ∷ negsuc 3333 ∷ [];
+        multipliers = 3334 ∷ [];
+        masks = 4 ∷ [];
+        word = word000;
+        certificate = blank14;
+      });
+    }
+    ∷ record {
+      ask = shows threeBits frameA 1024;
+      say = shown certified 3 (record {
+        spins = pos 3364 ∷ pos 3364 ∷ pos 2636 ∷ [];
+        copies = pos 3365 ∷ pos 3365 ∷ pos 2635 ∷ [];
+        offsets = pos 3333 ∷ pos 3333 ∷ negsuc 3332 ∷ [];
+        multipliers = 3333 ∷ [];
+        masks = 4 ∷ [];
+        word = word000;
+        certificate = 0x01 ∷ 0x00 ∷ 0x01 ∷ 0x00 ∷ 0x00 ∷ 0x00 ∷ 0x05 ∷ 0x0D ∷ 0x00 ∷ 0x00 ∷ 0x04 ∷ 0x00 ∷ 0x00 ∷ 0x00 ∷ [];
+      });
+    }
+    ∷ record {
+      ask = shows threeBits frameB 1024;
+      say = shown certified 3 (record {
+        spins = negsuc 3363 ∷ negsuc 3363 ∷ pos 2636 ∷ [];
+        copies = negsuc 3364 ∷ negsuc 3364 ∷ pos 2635 ∷ [];
+        offsets = negsuc 3332 ∷ negsuc 3332 ∷ negsuc 3332 ∷ [];
+        multipliers = 3333 ∷ [];
+        masks = 7 ∷ [];
+        word = 1 ∷ 1 ∷ 0 ∷ [];
+        certificate = 0x01 ∷ 0x00 ∷ 0x01 ∷ 0x00 ∷ 0x00 ∷ 0x00 ∷ 0x05 ∷ 0x0D ∷ 0x00 ∷ 0x00 ∷ 0x07 ∷ 0x00 ∷ 0x00 ∷ 0x00 ∷ [];
+      });
+    }
+    ∷ record { ask = judged threeBits frameA word000 (withMultiplier 0xCF 0x07); say = reply (gapOf 2) }
+    ∷ record { ask = judged threeBits frameA word000 (withMultiplier 0xD0 0x07); say = reply certified }
+    ∷ record { ask = judged threeBits frameA word000 (withMultiplier 0xA0 0x0F); say = reply certified }
+    ∷ record { ask = judged threeBits frameA word000 (withMultiplier 0xA1 0x0F); say = reply (gapOf 4) }
+    ∷ record {
+      ask = shows oneBit frameC 1024;
+      say = shown certified 2 (record {
+        spins = pos 4096 ∷ [];
+        copies = pos 4096 ∷ [];
+        offsets = negsuc 4100 ∷ [];
+        multipliers = 4101 ∷ [];
+        masks = 1 ∷ [];
+        word = 0 ∷ [];
+        certificate = 0x01 ∷ 0x00 ∷ 0x01 ∷ 0x00 ∷ 0x00 ∷ 0x00 ∷ 0x05 ∷ 0x10 ∷ 0x00 ∷ 0x00 ∷ 0x01 ∷ 0x00 ∷ 0x00 ∷ 0x00 ∷ [];
+      });
+    }
+    ∷ record { ask = boundIs oneBit frameC 1024; say = number (negsuc 4) }
+    ∷ []
+
+pub frames : asked cases ≡ said cases
+unfolding cases threeBits oneBit frameA frameB frameC answerTo must then replyOf u16At u32At agreement maskRight ones lib.Count.onesIn inRange contents countsRight startsRight totalCount numbersAt bodies ascends membersRight bitsRight fileOf codeFile codeFileReply onFrame onWord cut lastWhere multiplier step reduced bound gap total divided spin round certificateOf itemsAt follows onItem onItems onCertificate verdict judge judgeReply fits next iterate sound admits callOn call start clipZ
+frames = refl

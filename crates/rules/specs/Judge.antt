@@ -1,0 +1,54 @@
+-- The judge of anybody's certificates (document 01, "Certificates"). Definitions only. Assumes nothing.
+use mathlib.Core.Bool.{Bool, cond}
+use mathlib.Core.List.{List, [], _∷_}
+use mathlib.Core.Option.{Option, some, none}
+use Prim.Native.Nat.{ℕ}
+use lib.IntN.{ℤ, pos}
+use Rattle.rules.specs.Refusal.{Answer, gives, then, Reply, replyOf}
+use Rattle.rules.specs.Table.{Table}
+use Rattle.rules.specs.Parity.{firstBroken, agreement}
+use Rattle.rules.specs.CodeFile.{codeFile}
+use Rattle.rules.specs.Input.{onFrame, onWord, bitsOf}
+use Rattle.rules.specs.Bound.{Row, gap}
+use Rattle.rules.specs.Round.{isZero}
+use Rattle.rules.specs.Certificate.{onCertificate, scaleOf, itemsOf, rowsAt}
+
+-- "The checker answers the first broken check; if none, certified for gap 0, else the gap"
+pub data Verdict : Type 0 where
+  breaks : ℕ → Verdict
+  passes : Verdict
+  misses : ℤ → Verdict
+
+abbrev pub weigh : Option ℕ → ℤ → Verdict
+weigh (some j) g = breaks j
+weigh none g = cond (isZero g) passes (misses g)
+
+unfoldable pub verdict : Table → ℕ → List ℤ → List Row → List Bool → Verdict
+verdict t s l rs w = weigh (firstBroken 0 w (t .checks)) (gap (t .bits) s l rs w)
+
+-- "1 to 7; then 8, 9, 15, 10, 11, entry by entry 12, 13, 14"
+unfoldable pub judge : List ℕ → List ℤ → List ℕ → List ℕ → Answer Verdict
+judge file l w bs =
+    then (codeFile file) (λ t. onFrame t l (onWord t w (onCertificate t bs (gives (verdict t (scaleOf bs) l (rowsAt t (itemsOf bs)) (bitsOf w))))))
+
+-- the values of the answer: 0 and the broken check, 1 for certified, or 2 and the gap
+abbrev pub verdictValues : Verdict → List ℤ
+verdictValues (breaks j) = pos 0 ∷ pos j ∷ []
+verdictValues passes = pos 1 ∷ []
+verdictValues (misses g) = pos 2 ∷ g ∷ []
+
+unfoldable pub judgeReply : List ℕ → List ℤ → List ℕ → List ℕ → Reply
+judgeReply file l w bs = replyOf verdictValues (judge file l w bs)
+
+-- ---- the judge's parts, for callers who want them alone
+-- whether a word meets all checks: the first broken one, or none
+unfoldable pub syndrome : List ℕ → List ℕ → Answer (Option ℕ)
+syndrome file w = then (codeFile file) (λ t. onWord t w (gives (firstBroken 0 (bitsOf w) (t .checks))))
+
+abbrev pub syndromeValues : Option ℕ → List ℤ
+syndromeValues none = []
+syndromeValues (some j) = pos j ∷ []
+
+-- the agreement of a word with a frame
+unfoldable pub agreementOf : List ℕ → List ℤ → List ℕ → Answer ℤ
+agreementOf file l w = then (codeFile file) (λ t. onFrame t l (onWord t w (gives (agreement (t .bits) l (bitsOf w)))))

@@ -1,0 +1,58 @@
+-- The numbers of document 01, each in one place. Definitions only. Assumes nothing.
+use Prim.Native.Nat.{ℕ, _+_, _*_}
+
+-- U: spin +U is bit 0, spin −U is bit 1
+abbrev pub unit : ℕ
+unit = 4096
+
+-- "n and m are 1 to 2,048, a count (degree) 1 to 32, E at most 8,192, and each bit stands in 1 to 32 checks"
+abbrev pub maxBits : ℕ
+maxBits = 2048
+
+abbrev pub maxChecks : ℕ
+maxChecks = 2048
+
+abbrev pub minDegree : ℕ
+minDegree = 1
+
+abbrev pub maxDegree : ℕ
+maxDegree = 32
+
+abbrev pub maxEdges : ℕ
+maxEdges = 8192
+
+abbrev pub maxBitDegree : ℕ
+maxBitDegree = 32
+
+-- "a frame is n signed 16-bit numbers l, from −8,191 to 8,191"
+abbrev pub frameLimit : ℕ
+frameLimit = 8191
+
+-- "a run has at most 1,024 rounds"
+abbrev pub roundLimit : ℕ
+roundLimit = 1024
+
+-- "an offset beyond 8,192 × rounds done"
+abbrev pub offsetPerRound : ℕ
+offsetPerRound = 8192
+
+-- "q 0 to 4,096; S 1 to 1,023; multiplier 1 to 16,777,215"
+abbrev pub maxEntries : ℕ
+maxEntries = 4096
+
+abbrev pub maxScale : ℕ
+maxScale = 1023
+
+abbrev pub maxMultiplier : ℕ
+maxMultiplier = 16777215
+
+-- where the code file's contents and bodies begin: "length is 4 + 4m + 2E bytes"
+abbrev pub contentsEnd : ℕ → ℕ
+contentsEnd m = 4 + 4 * m
+
+abbrev pub fileLength : ℕ → ℕ → ℕ
+fileLength m e = contentsEnd m + 2 * e
+
+-- of q entries: "length 4 + 10q"
+abbrev pub certificateLength : ℕ → ℕ
+certificateLength q = 4 + 10 * q

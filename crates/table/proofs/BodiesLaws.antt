@@ -1,0 +1,114 @@
+-- The bodies as the loops go over them, and in one piece: the edges. Assumes nothing.
+use mathlib.Core.Path.{_≡_, refl, sym, _∙_, ap, ap₂}
+use mathlib.Core.Bool.{true, false, _&&_}
+use mathlib.Core.List.{List, [], _∷_, _++_}
+use Prim.Native.Nat.{ℕ, zero, suc, _+_, _*_, _-_, _≤_, _<_}
+use native.Mathlib.Omega.{arith}
+use lib.Dec.{leb, ltb}
+use lib.ListN.{length}
+use borrow.Author.Tests.{lt-ltb, le-ltb, le-leb, lt-leb}
+use Rattle.rules.specs.Bytes.{u16At}
+use Rattle.rules.specs.Table.{edges}
+use Rattle.rules.specs.CodeFile.{Content, contentAt, contents, totalCount, numbersAt, bodies, ascends, membersRight}
+use Rattle.table.proofs.ContentsLaws.{left-more, left-none, contents-more, contents-end, contents-length}
+
+-- ---- numbers from a byte on
+module _ (file : List ℕ) (at d k : ℕ) where
+  pub numbers-more : k < d → numbersAt file (at + 2 * k) (d - k) ≡ u16At file (at + 2 * k) ∷ numbersAt file (at + 2 * (k + 1)) (d - (k + 1))
+  unfolding numbersAt
+  numbers-more h = ap (numbersAt file (at + 2 * k)) (left-more k d h) ∙ ap (λ a. u16At file (at + 2 * k) ∷ numbersAt file a (d - (k + 1))) (omega arith)
+
+  pub numbers-end : d ≤ k → numbersAt file (at + 2 * k) (d - k) ≡ []
+  unfolding numbersAt
+  numbers-end h = ap (numbersAt file (at + 2 * k)) (left-none k d h)
+
+pub numbers-all : (file : List ℕ) (at d : ℕ) → numbersAt file (at + 2 * 0) (d - 0) ≡ numbersAt file at d
+numbers-all file at d = ap₂ (numbersAt file) (omega arith) (omega arith)
+
+pub numbers-length : (file : List ℕ) (a k : ℕ) → length (numbersAt file a k) ≡ k
+unfolding numbersAt
+numbers-length file a zero = refl
+numbers-length file a (suc k) = ap suc (numbers-length file (a + 2) k)
+
+numbers-append : (file : List ℕ) (a d k : ℕ) → numbersAt file a (d + k) ≡ numbersAt file a d ++ numbersAt file (a + 2 * d) k
+unfolding numbersAt
+numbers-append file a zero k = ap₂ (numbersAt file) (none a) (left k)
+  where
+    none : (a : ℕ) → a ≡ a + 2 * 0
+    none a = omega arith
+
+    left : (k : ℕ) → 0 + k ≡ k
+    left k = omega arith
+numbers-append file a (suc d) k =
+    ap (numbersAt file a) (more d k)
+    ∙ ap (λ l. u16At file a ∷ l) (numbers-append file (a + 2) d k ∙ ap (λ b. numbersAt file (a + 2) d ++ numbersAt file b k) (shift a d))
+  where
+    more : (d k : ℕ) → suc d + k ≡ suc (d + k)
+    more d k = omega arith
+
+    shift : (a d : ℕ) → a + 2 + 2 * d ≡ a + 2 * suc d
+    shift a d = omega arith
+
+-- ---- strictly ascending
+ascends-cons : (n least x : ℕ) (xs : List ℕ) → ascends n least (x ∷ xs) ≡ ((leb least x && ltb x n) && ascends n (x + 1) xs)
+unfolding ascends
+ascends-cons n least x xs = refl
+
+module _ (file : List ℕ) (at d k n least x : ℕ) (h : k < d) (e : x ≡ u16At file (at + 2 * k)) where
+  ascends-at : ascends n least (numbersAt file (at + 2 * k) (d - k)) ≡ ((leb least x && ltb x n) && ascends n (x + 1) (numbersAt file (at + 2 * (k + 1)) (d - (k + 1))))
+  ascends-at = ap (ascends n least) (numbers-more file at d k h) ∙ ascends-cons n least (u16At file (at + 2 * k)) (numbersAt file (at + 2 * (k + 1)) (d - (k + 1))) ∙ rw e refl
+
+  pub ascends-low : x < least → ascends n least (numbersAt file (at + 2 * k) (d - k)) ≡ false
+  ascends-low t = ascends-at ∙ simp (lt-leb least x t)
+
+  pub ascends-high : least ≤ x → n ≤ x → ascends n least (numbersAt file (at + 2 * k) (d - k)) ≡ false
+  ascends-high s t = ascends-at ∙ simp (le-leb least x s, le-ltb x n t)
+
+  pub ascends-more : least ≤ x → x < n → ascends n least (numbersAt file (at + 2 * k) (d - k)) ≡ ascends n (x + 1) (numbersAt file (at + 2 * (k + 1)) (d - (k + 1)))
+  ascends-more s t = ascends-at ∙ simp (le-leb least x s, lt-ltb x n t)
+
+pub ascends-end : (file : List ℕ) (at d k n least : ℕ) → d ≤ k → ascends n least (numbersAt file (at + 2 * k) (d - k)) ≡ true
+unfolding ascends
+ascends-end file at d k n least h = ap (ascends n least) (numbers-end file at d k h)
+
+-- ---- check by check
+bodies-cons : (file : List ℕ) (a : ℕ) (e : Content) (es : List Content) → bodies file a (e ∷ es) ≡ numbersAt file a (e .count) ∷ bodies file (a + 2 * e .count) es
+unfolding bodies
+bodies-cons file a e es = refl
+
+pub bodies-more : (file : List ℕ) (m j a d : ℕ) → j < m → d ≡ u16At file (6 + 4 * j)
+    → bodies file a (contents file j (m - j)) ≡ numbersAt file a d ∷ bodies file (a + 2 * d) (contents file (j + 1) (m - (j + 1)))
+bodies-more file m j a d h e = ap (bodies file a) (contents-more file m j h) ∙ bodies-cons file a (contentAt file j) (contents file (j + 1) (m - (j + 1))) ∙ rw e refl
+
+pub bodies-end : (file : List ℕ) (m j a : ℕ) → m ≤ j → bodies file a (contents file j (m - j)) ≡ []
+unfolding bodies
+bodies-end file m j a h = ap (bodies file a) (contents-end file m j h)
+
+members-cons : (n : ℕ) (ms : List ℕ) (cs : List (List ℕ)) → membersRight n (ms ∷ cs) ≡ (ascends n 0 ms && membersRight n cs)
+unfolding membersRight
+members-cons n ms cs = refl
+
+pub members-more : (file : List ℕ) (m j a n d : ℕ) → j < m → d ≡ u16At file (6 + 4 * j)
+    → membersRight n (bodies file a (contents file j (m - j))) ≡ (ascends n 0 (numbersAt file a d) && membersRight n (bodies file (a + 2 * d) (contents file (j + 1) (m - (j + 1)))))
+members-more file m j a n d h e = ap (membersRight n) (bodies-more file m j a d h e) ∙ members-cons n (numbersAt file a d) (bodies file (a + 2 * d) (contents file (j + 1) (m - (j + 1))))
+
+pub members-end : (file : List ℕ) (m j a n : ℕ) → m ≤ j → membersRight n (bodies file a (contents file j (m - j))) ≡ true
+unfolding membersRight
+members-end file m j a n h = ap (membersRight n) (bodies-end file m j a h)
+
+-- ---- in one piece
+bodies-each : (file : List ℕ) (a : ℕ) (es : List Content) → length (bodies file a es) ≡ length es
+unfolding bodies
+bodies-each file a [] = refl
+bodies-each file a (e ∷ es) = ap suc (bodies-each file (a + 2 * e .count) es)
+
+pub bodies-length : (file : List ℕ) (a m : ℕ) → length (bodies file a (contents file 0 m)) ≡ m
+bodies-length file a m = bodies-each file a (contents file 0 m) ∙ contents-length file 0 m
+
+pub edges-bodies : (file : List ℕ) (a : ℕ) (es : List Content) → edges (bodies file a es) ≡ numbersAt file a (totalCount es)
+unfolding bodies totalCount numbersAt
+edges-bodies file a [] = refl
+edges-bodies file a (e ∷ es) = ap (λ l. numbersAt file a (e .count) ++ l) (edges-bodies file (a + 2 * e .count) es) ∙ sym (numbers-append file a (e .count) (totalCount es))
+
+pub edges-length : (file : List ℕ) (a : ℕ) (es : List Content) → length (edges (bodies file a es)) ≡ totalCount es
+edges-length file a es = ap length (edges-bodies file a es) ∙ numbers-length file a (totalCount es)

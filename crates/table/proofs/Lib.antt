@@ -1,0 +1,9 @@
+pub mod AnswerLaws
+pub mod ContentsLaws
+pub mod BodiesLaws
+pub mod DegreesLaws
+pub mod StartsLaws
+pub mod FillLaws
+pub mod StageLaws
+pub mod AcceptedLaws
+pub mod LoadedLaws

@@ -1,0 +1,63 @@
+-- `counts_right` meets its contract: the counts from j on decide. Assumes nothing.
+use mathlib.Core.Path.{_≡_, sym, _∙_, ap}
+use Prim.Native.Nat.{_-_, _≤_}
+use native.Mathlib.Omega.{arith}
+use borrow.Author.Tests.{not-true, not-false}
+use Rattle.rules.specs.CodeFile.{contents, countsRight}
+use Rattle.table.proofs.AnswerLaws.{and-fails, and-holds}
+use Rattle.table.proofs.ContentsLaws.{contents-all, counts-more, counts-end}
+use Rattle.table.proofs.contents.counts_right.Statement.{statement}
+use Rattle.table.proofs.contents.counts_right.Tie as tie
+
+abbrev Inv-loop : tie.InvT-loop
+Inv-loop code m j₀ j = (j ≤ m) × (countsRight (contents code 0 m) ≡ countsRight (contents code j (m - j)))
+
+abbrev μ-loop : tie.MeasureT-loop
+μ-loop code m j₀ j = m - j
+
+loop-holds : tie.Need-loop-holds Inv-loop μ-loop
+loop-holds c = (omega arith, sym (ap countsRight (contents-all _ _)))
+
+count-at-requires : tie.Need-count-at-requires Inv-loop μ-loop
+count-at-requires c κs = omega arith
+
+in-range-requires : tie.Need-in-range-requires Inv-loop μ-loop
+in-range-requires c κs = tt
+
+returns : tie.Need-returns Inv-loop μ-loop
+returns c =
+    sym (c .before .before .before .before .loop .inv .1
+    ∙ counts-more _ _ _ _ (c .before .before .before .loop-test .taken) (c .before .before .count-at .ensures .0)
+    ∙ and-fails _ _ (sym (c .before .in-range .ensures) ∙ not-true _ (c .if1 .taken)))
+
+add-j : tie.Need-add-j Inv-loop μ-loop
+add-j c = omega arith
+
+loop-less : tie.Need-loop-less Inv-loop μ-loop
+loop-less c = omega arith
+
+loop-again : tie.Need-loop-again Inv-loop μ-loop
+loop-again c = (
+  omega arith,
+  c .before .before .before .before .loop .inv .1
+      ∙ counts-more _ _ _ _ (c .before .before .before .loop-test .taken) (c .before .before .count-at .ensures .0)
+      ∙ and-holds _ _ (sym (c .before .in-range .ensures) ∙ not-false _ (c .if1 .left)),
+)
+
+returns-2 : tie.Need-returns-2 Inv-loop μ-loop
+returns-2 c = sym (c .before .loop .inv .1 ∙ counts-end _ _ _ (c .loop-test .left))
+
+pub counts-right-spec : {M : Type 1} → statement M
+counts-right-spec =
+    tie.close
+    (tie.spec
+    Inv-loop
+    μ-loop
+    loop-holds
+    count-at-requires
+    in-range-requires
+    returns
+    add-j
+    loop-less
+    loop-again
+    returns-2)

@@ -1,0 +1,73 @@
+-- `load` meets its contract: each return has the answer and the tests that led there. Assumes nothing.
+use mathlib.Core.Path.{sym, _∙_, ap}
+use native.Mathlib.Omega.{arith}
+use borrow.Author.Needs.{needs}
+use Rattle.table.specs.Reply.{numbered}
+use Rattle.table.proofs.AcceptedLaws.{Readable, readable, refused-is}
+use Rattle.table.proofs.LoadedLaws.{loaded-refused, loaded-few-starts, loaded-few-members, loaded-table}
+use Rattle.table.proofs.load.Statement.{statement}
+use Rattle.table.proofs.load.Tie as tie
+
+check-requires : tie.Need-check-requires
+check-requires c κs = tt
+
+enum-known-answer : tie.Need-enum-known-answer
+enum-known-answer c = search needs
+
+enum-known-answer-2 : tie.Need-enum-known-answer-2
+enum-known-answer-2 c = search needs
+
+-- the file was accepted
+accepted : (c : tie.After-answer2) → Readable (c .before .before .before .before .before .before .args .code .now) (c .answer2 .given .0 .0) (c .answer2 .given .0 .1 .0) (c .answer2 .given .0 .1 .1 .0)
+accepted c = readable _ _ _ _ (ap numbered (sym (c .answer2 .given .1)) ∙ c .before .before .check .ensures)
+
+returns : tie.Need-returns
+returns c = loaded-few-starts _ _ _ _ _ _ (accepted (c .before .before)) (c .if1 .taken)
+
+returns-2 : tie.Need-returns-2
+returns-2 c = loaded-few-members _ _ _ _ _ _ (accepted (c .before .before .before)) (c .before .if1 .left) (c .if2 .taken)
+
+write-starts-requires : tie.Need-write-starts-requires
+write-starts-requires c κs =
+    let r = accepted (c .before .before .before .before) in
+    (omega (arith, r .size), r .many, omega (arith, r .sum, r .few), c .before .before .if1 .left)
+
+contents-end-requires : tie.Need-contents-end-requires
+contents-end-requires c κs = accepted (c .before .before .before .before .before .before .before) .many
+
+write-members-requires : tie.Need-write-members-requires
+write-members-requires c κs =
+    let r = accepted (c .before .before .before .before .before .before .before .before .before) in
+    (omega (arith, r .size, c .before .contents-end .ensures), c .before .before .before .before .before .before .if2 .left)
+
+returns-3 : tie.Need-returns-3
+returns-3 c = loaded-refused _ _ _ _ (refused-is _ _ (ap numbered (sym (c .before .answer .given .1)) ∙ c .before .before .before .check .ensures))
+
+same-length : tie.Need-same-length
+same-length c = search needs
+
+same-length-2 : tie.Need-same-length-2
+same-length-2 c = search needs
+
+returns-4 : tie.Need-returns-4
+returns-4 c =
+    let room = c .before .before .before .before .before .before .before .before .before in
+    loaded-table _ _ _ _ _ _ (accepted (room .before .before .before)) _ _ _ (c .before .before .before .before .contents-end .ensures) (room .before .if1 .left) (room .if2 .left)
+    (c .before .before .before .before .before .before .before .write-starts .ensures) (c .before .before .write-members .ensures)
+
+pub load-spec : {M : Type 1} → statement M
+load-spec =
+    tie.close
+    (tie.spec
+    check-requires
+    enum-known-answer
+    enum-known-answer-2
+    returns
+    returns-2
+    write-starts-requires
+    contents-end-requires
+    write-members-requires
+    returns-3
+    same-length
+    same-length-2
+    returns-4)

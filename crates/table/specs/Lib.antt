@@ -1,0 +1,5 @@
+pub mod Reply
+pub mod Starts
+pub mod Stages
+pub mod Loaded
+pub mod Examples

@@ -1,0 +1,57 @@
+// The bodies: the members of each check, one check after the other.
+use super::contents::contents_end;
+use super::contents::count_at;
+use super::numbers::u16_at;
+ghost use mathlib.Core.Path.{_≡_};
+ghost use Prim.Native.Nat.{_+_, _*_, _≤_, _<_};
+ghost use lib.ListN.{length};
+ghost use Rattle.rules.specs.Limits.{maxChecks, contentsEnd, fileLength};
+ghost use Rattle.rules.specs.Bytes.{u16At};
+ghost use Rattle.rules.specs.CodeFile.{contents, totalCount, numbersAt, bodies, ascends, membersRight};
+
+// The k-th member of the bodies from byte `at` on.
+pub(crate) fn member_at(code: &[u8], at: usize, k: usize) -> usize
+    requires { ⌜ at + 2 * (k + 1) ≤ length (now code) ⌝ }
+    ensures { λ r. ⌜ (r ≡ u16At (now (code .entry)) (at + 2 * k)) × (r < 65536) ⌝ }
+{
+    u16_at(code, at + 2 * k)
+}
+
+// The d members from byte `at` on are below n and "strictly ascending".
+pub(crate) fn ascending(code: &[u8], at: usize, d: usize, n: usize) -> bool
+    requires { ⌜ at + 2 * d ≤ length (now code) ⌝ }
+    ensures { λ r. ⌜ r ≡ ascends n 0 (numbersAt (now (code .entry)) at d) ⌝ }
+{
+    let mut least: usize = 0;
+    let mut k: usize = 0;
+    while k < d {
+        let x = member_at(code, at, k);
+        if x < least {
+            return false;
+        }
+        if n <= x {
+            return false;
+        }
+        least = x + 1;
+        k += 1;
+    }
+    true
+}
+
+// Every check's members, where the bodies are all that follows the contents.
+pub(crate) fn members_right(code: &[u8], m: usize, n: usize) -> bool
+    requires { ⌜ (length (now code) ≡ fileLength m (totalCount (contents (now code) 0 m))) × (m ≤ maxChecks) ⌝ }
+    ensures { λ r. ⌜ r ≡ membersRight n (bodies (now (code .entry)) (contentsEnd m) (contents (now (code .entry)) 0 m)) ⌝ }
+{
+    let mut at = contents_end(m);
+    let mut j: usize = 0;
+    while j < m {
+        let d = count_at(code, j);
+        if !ascending(code, at, d, n) {
+            return false;
+        }
+        at += 2 * d;
+        j += 1;
+    }
+    true
+}

@@ -1,0 +1,23 @@
+// The 16-bit numbers of a file, and the test of a range.
+ghost use mathlib.Core.Path.{_≡_};
+ghost use Prim.Native.Nat.{_+_, _<_};
+ghost use lib.ListN.{length};
+ghost use Rattle.rules.specs.Bytes.{u16At};
+ghost use Rattle.rules.specs.CodeFile.{inRange};
+
+// The number at byte `at`: "file numbers are little-endian".
+pub(crate) fn u16_at(code: &[u8], at: usize) -> usize
+    requires { ⌜ at + 1 < length (now code) ⌝ }
+    ensures { λ r. ⌜ (r ≡ u16At (now (code .entry)) at) × (r < 65536) ⌝ }
+{
+    let low = code[at] as usize;
+    let high = code[at + 1] as usize;
+    low + 256 * high
+}
+
+// x is from lo to hi.
+pub(crate) fn in_range(lo: usize, hi: usize, x: usize) -> bool
+    ensures { λ r. ⌜ r ≡ inRange lo hi x ⌝ }
+{
+    lo <= x && x <= hi
+}

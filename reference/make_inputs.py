@@ -1,0 +1,163 @@
+"""Frames, words, points and certificates for a given table.
+
+A table is a pair (n, checks) as in make_tables.  The makers here know the formats of
+document 01 but take no answer from the decoder; only `run_certificate` runs it.
+"""
+
+import certificate
+import report
+import rounds
+from certificate import Entry, write_certificate
+from make_tables import code_file
+from table import FRAME_LIMIT, UNIT, parse_code_file
+
+
+# --- frames ----------------------------------------------------------------------------------
+
+def zero_frame(rng, n):
+    return [0] * n
+
+
+def tiny_frame(rng, n):
+    return [rng.between(-2, 2) for _ in range(n)]
+
+
+def full_frame(rng, n):
+    """Only the two ends of the range."""
+    return [rng.choice([-FRAME_LIMIT, FRAME_LIMIT]) for _ in range(n)]
+
+
+def tied_frame(rng, n):
+    """One size, random signs."""
+    size = rng.between(1, FRAME_LIMIT)
+    return [rng.choice([-size, size]) for _ in range(n)]
+
+
+def random_frame(rng, n):
+    return [rng.between(-FRAME_LIMIT, FRAME_LIMIT) for _ in range(n)]
+
+
+def noisy_frame(rng, n):
+    """The zero word as a channel may deliver it: mostly positive, a few leaning wrong."""
+    return [rng.between(-1500, 6000) for _ in range(n)]
+
+
+FRAME_MAKERS = [zero_frame, tiny_frame, full_frame, tied_frame, random_frame, noisy_frame]
+
+
+def frames(rng, n):
+    return [maker(rng, n) for maker in FRAME_MAKERS]
+
+
+def lively_frame(rng, n):
+    """Any frame but the all zero one, which only ever ends spent."""
+    return rng.choice(FRAME_MAKERS[1:])(rng, n)
+
+
+def negated_under(frame, codeword):
+    return [-number if bit == 1 else number for number, bit in zip(frame, codeword)]
+
+
+# --- words and points ------------------------------------------------------------------------
+
+def random_word(rng, n):
+    return [rng.between(0, 1) for _ in range(n)]
+
+
+def meets_all(checks, word):
+    return all(sum(word[bit] for bit in members) % 2 == 0 for members in checks)
+
+
+def codewords(table):
+    """All codewords, by listing all words: small n only."""
+    n, checks = table
+    words = ([number >> bit & 1 for bit in range(n)] for number in range(1 << n))
+    return [word for word in words if meets_all(checks, word)]
+
+
+def random_spins(rng, count):
+    """Spins of several kinds: anywhere, near the ends, near zero, tied, from a short list."""
+    kind = rng.between(0, 5)
+    if kind == 0:
+        return [rng.between(-UNIT, UNIT) for _ in range(count)]
+    if kind == 1:
+        return [rng.choice([-1, 1]) * (UNIT - rng.between(0, 1200)) for _ in range(count)]
+    if kind == 2:
+        return [rng.choice([-UNIT, UNIT, UNIT, -UNIT, 0]) for _ in range(count)]
+    if kind == 3:
+        size = rng.between(0, UNIT)
+        return [rng.choice([-size, size]) for _ in range(count)]
+    if kind == 4:
+        return [rng.choice([-UNIT, UNIT, -UNIT + 1, UNIT - 1, 0, 1, -1]) for _ in range(count)]
+    # One weak member among strong ones: where cuts are won or lost by one.
+    spins = [rng.choice([-1, 1]) * (UNIT - rng.between(0, 2)) for _ in range(count)]
+    spins[rng.between(0, count - 1)] = rng.between(-8, 8)
+    return spins
+
+
+# --- certificates ----------------------------------------------------------------------------
+
+def run_certificate(table, frame):
+    """Word and certificate bytes that a run writes for the frame, or None."""
+    data = code_file(table)
+    lent = report.fresh_buffers(parse_code_file(data))
+    record = rounds.start(data, lent.copies, lent.offsets)
+    if rounds.rounds(data, frame, record, rounds.ROUNDS_LIMIT, lent) != rounds.CERTIFIED:
+        return None
+    count = lent.certificate[0] + 256 * lent.certificate[1]
+    return lent.word, bytes(lent.certificate[:4 + 10 * count])
+
+
+def read_entries(data):
+    """Scale and entries of a well-formed certificate."""
+    count = int.from_bytes(data[:2], "little")
+    entries = [certificate.entry_at(data, count, number) for number in range(count)]
+    return int.from_bytes(data[2:4], "little"), entries
+
+
+def scaled(data, factor):
+    """The same certificate at a greater scale: it must be judged alike."""
+    scale, entries = read_entries(data)
+    return write_certificate([entry._replace(multiplier=entry.multiplier * factor)
+                              for entry in entries], scale * factor)
+
+
+def off_by(data, number, by):
+    """One multiplier wrong by a little."""
+    scale, entries = read_entries(data)
+    entries[number] = entries[number]._replace(multiplier=entries[number].multiplier + by)
+    return write_certificate(entries, scale)
+
+
+def reordered(data):
+    """The first two entries the other way round."""
+    scale, entries = read_entries(data)
+    return write_certificate([entries[1], entries[0]] + entries[2:], scale)
+
+
+def random_mask(rng, degree):
+    mask = rng.between(0, (1 << degree) - 1)
+    return mask if mask.bit_count() % 2 == 1 else mask ^ 1 << rng.between(0, degree - 1)
+
+
+def handmade_entries(rng, table, tries, largest):
+    """Well-formed entries that no decoder wrote; several masks of one check are allowed."""
+    _, checks = table
+    wanted = set()
+    for _ in range(tries):
+        check = rng.between(0, len(checks) - 1)
+        wanted.add((check, random_mask(rng, len(checks[check]))))
+    return [Entry(check, rng.between(1, largest), mask) for check, mask in sorted(wanted)]
+
+
+def handmade_certificate(rng, table):
+    scale = rng.choice([1, 1, 2, 1023, rng.between(1, 1023)])
+    largest = rng.choice([5, 9000, 9000 * scale, certificate.MULTIPLIER_LIMIT])
+    entries = handmade_entries(rng, table, rng.between(0, 6), largest)
+    return write_certificate(entries, scale)
+
+
+def many_entries(count, multiplier=1):
+    """`count` entries on one check of degree 32; the last mask holds bit 31."""
+    odd = [number << 1 | number.bit_count() % 2 ^ 1 for number in range(count - 1)]
+    return [Entry(0, multiplier, mask) for mask in odd + [1 << 31]]

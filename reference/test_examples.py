@@ -1,0 +1,166 @@
+"""The worked examples of document 01, number by number, and a few more worked by hand.
+
+Each frame test is a function without arguments, so that the mutation test can run them all
+against a wrong decoder.
+"""
+
+import certificate
+import decoder
+import make_inputs as inputs
+import make_tables as tables
+from certificate import BrokenCheck, Entry, Gap, write_certificate
+from cut import cut_search
+from prng import Prng
+from make_runs import Call
+from rounds import CERTIFIED, RUNNING, buffer_lengths
+from support import Run, expect, expect_equal
+from table import parse_code_file
+
+
+def fresh(table, frame):
+    return Run(table, frame, Prng(1))
+
+
+def expect_round(run, status, **wanted):
+    """One more round; the named buffers must hold these numbers."""
+    expect_equal(run.call(Call(1, None)).answer, status, f"answer for {run.frame}")
+    shown = run.round_shown()._asdict()
+    for name, values in wanted.items():
+        expect_equal(shown[name], values, f"{name} for {run.frame}")
+
+
+def expect_ending(run, rounds_done, word, certificate_hex):
+    """The run is certified with this word and certificate; the buffer's rest is as before."""
+    expect_equal((run.record.rounds_done, run.record.status), (rounds_done, CERTIFIED), "record")
+    expect_equal(run.lent.word[:run.code.bits], word, f"word for {run.frame}")
+    written = list(bytes.fromhex(certificate_hex))
+    expect_equal(run.lent.certificate, written + run.junk.certificate[len(written):],
+                 f"certificate for {run.frame}")
+    expect_equal(decoder.judge(run.code_file, run.frame, word, bytes(written)), CERTIFIED, "judge")
+
+
+def cut_examples():
+    data = tables.code_file(tables.three_bits())
+    expect_equal(cut_search(data, [1365, 1365, -1366], 0), None, "cut example without a cut")
+    expect_equal(cut_search(data, [1365, 1365, -1367], 0), 4, "cut example with mask 4")
+
+
+def leaning_frame():
+    """(4000, 4000, -2000): the received word breaks the check; three rounds mend it."""
+    run = fresh(tables.three_bits(), [4000, 4000, -2000])
+    expect_round(run, RUNNING, spins=[4000, 4000, -2000], multipliers=[1968], masks=[4],
+                 copies=[2032, 2032, -32], offsets=[1968, 1968, -1968])
+    expect_round(run, RUNNING, multipliers=[3334], copies=[2698, 2698, 1302], masks=[4])
+    expect_round(run, CERTIFIED, spins=[3364, 3364, 2636], multipliers=[3333], masks=[4])
+    expect_ending(run, 3, [0, 0, 0], "01 00 01 00 00 00 05 0D 00 00 04 00 00 00")
+
+
+def two_ones_frame():
+    """(-4000, -4000, -2000), the first frame negated under 110."""
+    run = fresh(tables.three_bits(), [-4000, -4000, -2000])
+    expect_round(run, RUNNING, multipliers=[1968], masks=[7])
+    expect_round(run, RUNNING, multipliers=[3334], masks=[7])
+    expect_round(run, CERTIFIED, multipliers=[3333], masks=[7])
+    expect_ending(run, 3, [1, 1, 0], "01 00 01 00 00 00 05 0D 00 00 07 00 00 00")
+
+
+def four_gaps():
+    data, frame = tables.code_file(tables.three_bits()), [4000, 4000, -2000]
+    for multiplier, gap in [(1999, 2), (2000, 0), (4000, 0), (4001, 4)]:
+        wanted = Gap(gap) if gap else CERTIFIED
+        written = write_certificate([Entry(0, multiplier, 4)])
+        expect_equal(decoder.judge(data, frame, [0, 0, 0], written), wanted, f"gap at {multiplier}")
+        expect_equal(decoder.judge(data, frame, [0, 0, 1], written), BrokenCheck(0), "broken word")
+
+
+def one_bit_frame():
+    """One check on one bit, frame (-5): the check alone decides, and the bound is -5."""
+    run = fresh(tables.one_bit(), [-5])
+    expect_round(run, RUNNING, spins=[-5], multipliers=[4101], masks=[1], copies=[4096])
+    expect_round(run, CERTIFIED, spins=[4096], multipliers=[4101], masks=[1])
+    expect_ending(run, 2, [0], "01 00 01 00 00 00 05 10 00 00 01 00 00 00")
+    bound = certificate.dual_bound(run.code, [-5], 1, [Entry(0, 4101, 1)])
+    expect_equal(bound, -5, "bound of the one-bit frame")
+
+
+def three_frame_report():
+    data = bytes.fromhex("03 00 01 00 00 00 03 00 00 00 01 00 02 00 A0 0F A0 0F 30 F8"
+                         "0A 00 0A 00 0A 00 00 00 00 00 00 00")
+    expect_equal(decoder.frame_report(data), "bits 3 checks 1 edges 3\nframe 0 certified 3 6000 1\n"
+                 "frame 1 certified 1 30 0\nframe 2 spent 1024\n", "report")
+
+
+# --- frames worked by hand beyond document 01 ------------------------------------------------
+
+def odd_total_frame():
+    """One bit in two checks of one member, frame (-5): the total -5 over 2 edges is -2."""
+    run = fresh(tables.stacked_singles(2), [-5])
+    expect_round(run, RUNNING, spins=[-2], multipliers=[4098, 4098], offsets=[-4098, -4098])
+    expect_round(run, CERTIFIED, spins=[4096], multipliers=[4098, 4098])
+    expect_ending(run, 2, [0], "02 00 01 00 00 00 02 10 00 00 01 00 02 10 00 00 01 00 00 00"
+                  "01 00 00 00")
+
+
+def side_change_frame():
+    """(4000, 4000, 2000): no negative spin, so the nearest member changes sides.
+
+    96 + 96 + 6096 is 1904 short of 8192, which three members make up in 635 steps.
+    """
+    run = fresh(tables.three_bits(), [4000, 4000, 2000])
+    expect_round(run, CERTIFIED, multipliers=[635], masks=[4], copies=[3365, 3365, 2635])
+    expect_ending(run, 1, [0, 0, 0], "01 00 01 00 00 00 7B 02 00 00 04 00 00 00")
+
+
+def second_best_frame():
+    """A table of two codewords, 0000 and 1101.  Round 5's candidate is 1101, the worse one,
+    with a gap of 2598; it must not be marked, and 0000 with agreement 6400 wins later."""
+    run = fresh((4, [[0, 3], [0, 1], [0, 1, 2]]), [-5400, -1800, 6000, 7600])
+    run.call(Call(5, None))
+    expect(all(spin != 0 for spin in run.round_shown().spins), "round 5 has a candidate")
+    expect_equal([int(spin < 0) for spin in run.round_shown().spins], [1, 1, 0, 1], "candidate")
+    expect_equal(run.record.status, RUNNING, "status after the second best codeword")
+    expect_equal(run.call(Call(1019, None)).word, [0, 0, 0, 0], "best codeword")
+
+
+def report_edges():
+    """Readings 5 and 6: surplus bytes are frames, a short frame is 8, bad files stand alone."""
+    head = bytes.fromhex("01 00 01 00 00 00 01 00 00 00")
+    line = "bits 1 checks 1 edges 1\n"
+    cases = [(b"", "refused 1\n"), (head[:7], "refused 5\n"), (head[:-1], "refused 5\n"),
+             (head, line), (head + b"\5", line + "frame 0 refused 8\n"),
+             (head + b"\0\x20\5\0", line + "frame 0 refused 9\nframe 1 certified 1 5 1\n"),
+             (head + b"\0\x80\xFB\xFF\0", line + "frame 0 refused 9\nframe 1 certified 2 -5 1\n"
+              "frame 2 refused 8\n")]
+    for data, text in cases:
+        expect_equal(decoder.frame_report(data), text, f"report for {data.hex(' ')}")
+
+
+FRAME_TESTS = [cut_examples, leaning_frame, two_ones_frame, four_gaps, one_bit_frame,
+               three_frame_report, odd_total_frame, side_change_frame, second_best_frame,
+               report_edges]
+
+
+def worked_examples(account):
+    account.announce("worked examples")
+    for frame_test in FRAME_TESTS:
+        frame_test()
+        account.add("worked examples")
+
+
+def wide_degree(account):
+    """Degree 32: mask bit 31 is below the degree, and 4,096 entries are still allowed."""
+    account.announce("degree 32 certificates")
+    data = tables.code_file(tables.one_wide_check())
+    frame = [1000] * 31 + [-1]
+    for entries in ([Entry(0, 7, 1 << 31)], inputs.many_entries(4096)):
+        written = write_certificate(entries)
+        got = decoder.judge(data, frame, [0] * 32, written)
+        expect(got == CERTIFIED or isinstance(got, Gap), f"degree 32 judged {got}")
+        account.add("degree 32 certificates")
+    # Bound: 31 reduced numbers of 999, one of -1 + 1, and 1 x (32 - 2).
+    got = decoder.judge(data, frame, [0] * 32, write_certificate([Entry(0, 1, 1 << 31)]))
+    expect_equal(got, CERTIFIED, "31 x 999 + 0 + 30 against 30999")
+    expect_equal(buffer_lengths(parse_code_file(data)).certificate, 14, "certificate length")
+
+
+TESTS = [worked_examples, wide_degree]

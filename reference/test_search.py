@@ -1,0 +1,97 @@
+"""The cut search against all odd sets, and the multiplier against its definition."""
+
+import cut
+import make_inputs as inputs
+from prng import Prng
+from support import expect, expect_equal
+from table import UNIT
+
+
+def known_against_exhaustive(account):
+    """None exactly if no odd set is violated, and never more than one is."""
+    account.announce("searches with a cut", "searches without a cut", "cuts with a zero spin",
+                     "cuts by a side change", "spins tied for the side change")
+    rng = Prng(31)
+    for degree in range(1, 9):
+        for _ in range(1000 if degree < 7 else 400):
+            spins = inputs.random_spins(rng, degree)
+            violated = cut.all_cuts(spins)
+            expect(len(violated) <= 1, f"{spins} violates {violated}")
+            expect_equal(cut.known_cut(spins), violated[0] if violated else None, f"cut of {spins}")
+            count_search(account, spins, violated)
+
+
+def count_search(account, spins, violated):
+    even = sum(spin < 0 for spin in spins) % 2 == 0
+    sizes = sorted(map(abs, spins))
+    account.add("searches with a cut" if violated else "searches without a cut")
+    account.add("cuts with a zero spin", bool(violated) and 0 in spins)
+    account.add("cuts by a side change", bool(violated) and even)
+    account.add("spins tied for the side change", even and sizes[:1] == sizes[1:2])
+
+
+def ties_are_never_cut(account):
+    """Two members tied for the least size put the left side at 2U or more, on either side."""
+    account.announce("ties without a cut")
+    rng = Prng(32)
+    for _ in range(600):
+        spins = inputs.random_spins(rng, rng.between(2, 8))
+        sizes = sorted(map(abs, spins))
+        if sizes[0] == sizes[1] and sum(spin < 0 for spin in spins) % 2 == 0:
+            expect_equal(cut.all_cuts(spins), [], f"tie in {spins}")
+            account.add("ties without a cut")
+
+
+def wide_checks_by_hand(account):
+    """Degree 32, where not all sets can be tried.  31 full spins add nothing to the left
+    side of V = {31}, and the last one U - weak, which is always below 2U."""
+    account.announce("cuts with mask bit 31")
+    for weak in range(-UNIT + 256, UNIT + 1, 256):
+        expect_equal(cut.known_cut([UNIT] * 31 + [-weak]), 1 << 31, f"weak {weak}")
+        account.add("cuts with mask bit 31")
+    expect_equal(cut.known_cut([UNIT] * 32), None, "a full codeword")
+
+
+def cut_values(rng):
+    """Values as they come in step 2 (spin plus offset, unclipped) whose check is cut."""
+    while True:
+        reach = rng.choice([0, 50, 3000, 9000])
+        values = [spin + rng.between(-reach, reach)
+                  for spin in inputs.random_spins(rng, rng.between(1, 8))]
+        mask = cut.known_cut([cut.clip(value) for value in values])
+        if mask is not None:
+            return values, mask
+
+
+def fast_multiplier_against_counting(account):
+    account.announce("multipliers compared", "multipliers above 2U", "multipliers of 1")
+    rng = Prng(33)
+    for _ in range(400):
+        values, mask = cut_values(rng)
+        fast = cut.least_multiplier(values, mask)
+        expect_equal(fast, cut.least_multiplier_by_counting(values, mask), f"{values} on {mask}")
+        account.add("multipliers compared")
+        account.add("multipliers above 2U", fast > 2 * UNIT)
+        account.add("multipliers of 1", fast == 1)
+
+
+def multiplier_is_least(account):
+    """Large offsets and degree 32, too far to count: b meets the inequality, b - 1 doesn't."""
+    account.announce("large multipliers")
+    rng = Prng(34)
+    for _ in range(400):
+        degree = rng.choice([1, 2, 3, 31, 32])
+        reach = 8192 * rng.between(1, 1023)
+        values = [rng.between(-UNIT, UNIT) + rng.between(-reach, reach) for _ in range(degree)]
+        mask = cut.known_cut([cut.clip(value) for value in values])
+        if mask is None:
+            continue
+        least = cut.least_multiplier(values, mask)
+        expect(least >= 1, f"multiplier {least} of a cut")
+        expect(not cut.is_violated(cut.moved(values, mask, least), mask), f"{least} closes {values}")
+        expect(cut.is_violated(cut.moved(values, mask, least - 1), mask), f"less than {least}")
+        account.add("large multipliers", least > 8192)
+
+
+TESTS = [known_against_exhaustive, ties_are_never_cut, wide_checks_by_hand,
+         fast_multiplier_against_counting, multiplier_is_least]
