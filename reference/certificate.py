@@ -69,6 +69,22 @@ def agreement(frame, word):
     return sum(-number if bit == 1 else number for number, bit in zip(frame, word))
 
 
+def syndrome(code_file, word):
+    """The first broken check as BrokenCheck, or None; or a refusal 1-7, 15."""
+    code = table.parse_code_file(code_file)
+    table.check_word(code, word)
+    broken = table.first_broken_check(code, word)
+    return None if broken is None else BrokenCheck(broken)
+
+
+def word_agreement(code_file, frame, word):
+    """The agreement of any word, codeword or not; or a refusal 1-9, 15."""
+    code = table.parse_code_file(code_file)
+    table.check_frame(code, frame)
+    table.check_word(code, word)
+    return agreement(frame, word)
+
+
 def reduced_numbers(code, frame, scale, entries):
     reduced = [scale * number for number in frame]
     for entry in entries:

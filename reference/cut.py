@@ -9,7 +9,7 @@ from table import UNIT
 
 
 def clip(value):
-    return max(-UNIT, min(UNIT, value))
+    return -UNIT if value < -UNIT else UNIT if value > UNIT else value
 
 
 def in_set(mask, member):

@@ -15,6 +15,10 @@ import make_damage as damage
 import make_tables as tables
 from make_tables import code_file, u16
 from decoder import answer, parse_code_file
+from kind_calls import call_cases
+from kind_cuts import cut_cases
+from kind_judge import judge_cases
+from kind_reports import report, report_long
 from prng import Prng
 
 RECORD_LIMIT = 30000
@@ -139,7 +143,8 @@ def code_files():
 
 # --- the command line ------------------------------------------------------------------------
 
-KINDS = {"code_files": code_files}
+KINDS = {"code_files": code_files, "cut_cases": cut_cases, "judge_cases": judge_cases,
+         "call_cases": call_cases, "report": report, "report_long": report_long}
 
 
 def check_stored(kind, in_path, out_path):
@@ -164,7 +169,7 @@ def main(arguments):
     stream, text = KINDS[kind]()
     Path(in_path).write_bytes(stream)
     Path(out_path).write_bytes(text.encode("ascii"))
-    print(f"{kind}: {len(text.splitlines())} records, {len(stream)} bytes")
+    print(f"{kind}: {len(text.splitlines())} lines, {len(stream)} bytes")
     return 0
 
 

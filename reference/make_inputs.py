@@ -42,6 +42,12 @@ def noisy_frame(rng, n):
     return [rng.between(-1500, 6000) for _ in range(n)]
 
 
+def channel_frame(rng, n, mean, spread):
+    """The zero word over a channel: three uniform draws stand for the noise, clipped."""
+    noise = [sum(rng.between(-spread, spread) for _ in range(3)) // 2 for _ in range(n)]
+    return [max(-FRAME_LIMIT, min(FRAME_LIMIT, mean + draw)) for draw in noise]
+
+
 FRAME_MAKERS = [zero_frame, tiny_frame, full_frame, tied_frame, random_frame, noisy_frame]
 
 
@@ -75,6 +81,24 @@ def codewords(table):
     return [word for word in words if meets_all(checks, word)]
 
 
+def random_codeword(rng, table):
+    """A codeword of a table of any size.  Each kept row is the sum of some checks and settles
+    its highest bit; all the other bits are free."""
+    n, checks = table
+    rows = {}
+    for members in checks:
+        row = sum(1 << bit for bit in members)
+        while row.bit_length() in rows:
+            row ^= rows[row.bit_length()]
+        if row != 0:
+            rows[row.bit_length()] = row
+    word = sum(bit << place for place, bit in enumerate(random_word(rng, n)))
+    for length in sorted(rows):
+        if (rows[length] & word).bit_count() % 2 == 1:
+            word ^= 1 << length - 1
+    return [word >> bit & 1 for bit in range(n)]
+
+
 def random_spins(rng, count):
     """Spins of several kinds: anywhere, near the ends, near zero, tied, from a short list."""
     kind = rng.between(0, 5)
@@ -104,15 +128,18 @@ def run_certificate(table, frame):
     record = rounds.start(data, lent.copies, lent.offsets)
     if rounds.rounds(data, frame, record, rounds.ROUNDS_LIMIT, lent) != rounds.CERTIFIED:
         return None
-    count = lent.certificate[0] + 256 * lent.certificate[1]
-    return lent.word, bytes(lent.certificate[:4 + 10 * count])
+    return lent.word, bytes(lent.certificate[:4 + 10 * entry_count(lent.certificate)])
 
 
 def read_entries(data):
     """Scale and entries of a well-formed certificate."""
-    count = int.from_bytes(data[:2], "little")
+    count = entry_count(data)
     entries = [certificate.entry_at(data, count, number) for number in range(count)]
     return int.from_bytes(data[2:4], "little"), entries
+
+
+def entry_count(data):
+    return data[0] + 256 * data[1]
 
 
 def scaled(data, factor):
@@ -161,3 +188,23 @@ def many_entries(count, multiplier=1):
     """`count` entries on one check of degree 32; the last mask holds bit 31."""
     odd = [number << 1 | number.bit_count() % 2 ^ 1 for number in range(count - 1)]
     return [Entry(0, multiplier, mask) for mask in odd + [1 << 31]]
+
+
+def tight_entries(rng, table, word, per_check, largest):
+    """Entries whose inequalities the codeword meets exactly: its ones on the check, with one
+    member turned.  Each check has `per_check` masks, or as many as it has members."""
+    entries = []
+    for check, members in enumerate(table[1]):
+        ones = sum(word[bit] << k for k, bit in enumerate(members))
+        turned = rng.sample(range(len(members)), per_check)
+        entries += [Entry(check, rng.between(1, largest), mask)
+                    for mask in sorted(ones ^ 1 << k for k in turned)]
+    return entries
+
+
+def weakest_frame(table, word, scale, entries):
+    """The weakest frame that leaves every reduced number on the word's side, or at 0."""
+    code = parse_code_file(code_file(table))
+    pulls = certificate.reduced_numbers(code, [0] * code.bits, scale, entries)
+    # For a 0 bit: scale times the number plus the pull is at least 0; for a 1 bit at most 0.
+    return [-(pull // scale) if bit == 0 else -pull // scale for pull, bit in zip(pulls, word)]

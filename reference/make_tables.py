@@ -100,6 +100,16 @@ def largest_regular(rng):
     return regular_table(rng, 2048, 4, 4)
 
 
+def half_rate(rng):
+    """(3,6)-regular with n = 2048, m = 1024, E = 6144.  2,048 is no multiple of 6, so a few
+    checks reach from one layer into the next; a deal that gives one a bit twice is redone."""
+    while True:
+        dealt = [bit for _ in range(3) for bit in rng.shuffled(range(2048))]
+        checks = [sorted(dealt[k:k + 6]) for k in range(0, len(dealt), 6)]
+        if all(len(set(members)) == 6 for members in checks):
+            return 2048, checks
+
+
 def largest_uneven(rng):
     """The same three limits with degrees from 1 to 32 on both sides."""
     checks = [{bit} for bit in range(2048)]

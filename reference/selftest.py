@@ -10,13 +10,15 @@ import traceback
 
 import test_calls
 import test_examples
+import test_kinds
 import test_mutants
 import test_optimal
 import test_refusals
 import test_search
 from support import Account
 
-PARTS = [test_examples, test_search, test_optimal, test_calls, test_refusals, test_mutants]
+PARTS = [test_examples, test_search, test_optimal, test_calls, test_refusals, test_kinds,
+         test_mutants]
 
 
 def run_test(test, account):

@@ -57,7 +57,7 @@ called-eq p e = λ i. record { answer = p i; run = e i }
 refused-back : (k : ℕ) (n : Lengths) (r : Run) → giveBack (refusedAt k (lend n r)) r ≡ refusedAt k r
 refused-back k n r = called-eq refl (run-eq refl (over-same n (r .buffers)))
 
-ran-back : (t : Table) (l : List ℤ) (k : ℕ) (n : Lengths) (r : Run) → Part (needs t) n → Part n (lengthsOf (r .buffers))
+pub ran-back : (t : Table) (l : List ℤ) (k : ℕ) (n : Lengths) (r : Run) → Part (needs t) n → Part n (lengthsOf (r .buffers))
     → giveBack (ranOn (r .progress .rounds + k) (iterate t l k (lend n r))) r ≡ ranOn (r .progress .rounds + k) (iterate t l k r)
 ran-back t l k n r h p = ap (λ q. giveBack (ranOn (r .progress .rounds + k) q) r) (iterate-lend t l n h k r)
     ∙ called-eq refl (run-eq refl (over-parts (needs t) n (iterate t l k r .buffers) (r .buffers) h p

@@ -1,52 +1,19 @@
--- An accepted code file has passed every test; what the code reads off n, m and E then. Assumes nothing.
+-- What the code's n, m and E say of the file that it accepted. Assumes nothing.
 use mathlib.Core.Path.{_≡_, refl, sym, _∙_, ap, ap₂}
-use mathlib.Core.Bool.{true, _&&_}
 use mathlib.Core.List.{List, [], _∷_}
 use Prim.Native.Nat.{ℕ, _≤_}
 use native.Mathlib.Omega.{arith}
-use lib.Dec.{leb, eqb}
 use lib.IntN.{pos}
 use lib.ListN.{length}
 use borrow.Author.Tests.{eqb-true}
-use Rattle.rules.specs.Limits.{maxBits, maxChecks, maxEdges, contentsEnd, fileLength}
-use Rattle.rules.specs.Refusal.{Answer, refused, gives, replyOf, headerShort, sizeRange, countRange, startWrong, lengthWrong, memberWrong, bitDegree}
+use Rattle.rules.specs.Limits.{maxChecks, maxEdges, contentsEnd, fileLength}
+use Rattle.rules.specs.Refusal.{Answer, refused, gives, replyOf}
 use Rattle.rules.specs.Bytes.{u16At}
-use Rattle.rules.specs.Table.{Table, edges, edgesOf, checksOf, degreeOf}
-use Rattle.rules.specs.CodeFile.{inRange, contents, countsRight, startsRight, totalCount, membersRight, bitsRight, tableAt, fileOf, codeFile, tableValues, codeFileReply}
-use Rattle.table.specs.Stages.{bodiesStage, contentsStage}
-use Rattle.table.proofs.AnswerLaws.{must-gives}
-use Rattle.table.proofs.BodiesLaws.{bodies-length, edges-length}
+use Rattle.rules.specs.Table.{Table, edgesOf, checksOf}
+use Rattle.rules.specs.CodeFile.{contents, totalCount, tableAt, codeFile, tableValues, codeFileReply}
+use Rattle.rules.proofs.FileLaws.{bodies-length, edges-length}
+use Rattle.rules.proofs.Tables.{passed}
 use Rattle.table.proofs.StageLaws.{sizes-most, starts-few}
-
--- ---- every test but those of the length that the later one implies
-pub record Passed (file : List ℕ) (n m : ℕ) : Type 0 where
-  pub sizes : inRange 1 maxBits n && inRange 1 maxChecks m ≡ true
-  pub counts : countsRight (contents file 0 m) ≡ true
-  pub starts : startsRight 0 (contents file 0 m) && leb (totalCount (contents file 0 m)) maxEdges ≡ true
-  pub size : eqb (length file) (fileLength m (totalCount (contents file 0 m))) ≡ true
-  pub members : membersRight n (tableAt file n m .checks) ≡ true
-  pub bits : bitsRight (λ i. degreeOf i (edges (tableAt file n m .checks))) 0 n ≡ true
-
-gives-same : (a b : Table) → gives a ≡ gives b → a ≡ b
-gives-same a b e = cc
-
-file-passes : (file : List ℕ) (n m : ℕ) (t : Table) → fileOf file n m ≡ gives t → Passed file n m × (tableAt file n m ≡ t)
-unfolding fileOf
-file-passes file n m t h =
-    let es = contents file 0 m in
-    let p1 = must-gives (leb 4 (length file)) headerShort _ t h in
-    let p2 = must-gives (inRange 1 maxBits n && inRange 1 maxChecks m) sizeRange _ t (p1 .1) in
-    let p3 = must-gives (leb (contentsEnd m) (length file)) lengthWrong (contentsStage file n m) t (p2 .1) in
-    let p4 = must-gives (countsRight es) countRange _ t (p3 .1) in
-    let p5 = must-gives (startsRight 0 es && leb (totalCount es) maxEdges) startWrong _ t (p4 .1) in
-    let p6 = must-gives (eqb (length file) (fileLength m (totalCount es))) lengthWrong (bodiesStage file n m) t (p5 .1) in
-    let p7 = must-gives (membersRight n (tableAt file n m .checks)) memberWrong _ t (p6 .1) in
-    let p8 = must-gives (bitsRight (λ i. degreeOf i (edges (tableAt file n m .checks))) 0 n) bitDegree (gives (tableAt file n m)) t (p7 .1) in
-    (record { sizes = p2 .0; counts = p4 .0; starts = p5 .0; size = p6 .0; members = p7 .0; bits = p8 .0 }, gives-same (tableAt file n m) t (p8 .1))
-
-pub passed : (file : List ℕ) (t : Table) → codeFile file ≡ gives t → Passed file (u16At file 0) (u16At file 2) × (tableAt file (u16At file 0) (u16At file 2) ≡ t)
-unfolding codeFile
-passed file t h = file-passes file (u16At file 0) (u16At file 2) t h
 
 -- ---- from the code's n, m and E back to the file
 pub record Readable (file : List ℕ) (n m e : ℕ) : Type 0 where
@@ -65,7 +32,7 @@ readable-table file n m e t p hn hm he =
     let bits : n ≡ n₀ = hn ∙ ap (λ x. x .bits) (sym (q .1)) in
     let checks : m ≡ m₀ = hm ∙ ap checksOf (sym (q .1)) ∙ bodies-length file (contentsEnd m₀) m₀ in
     let sum : e ≡ totalCount es = he ∙ ap edgesOf (sym (q .1)) ∙ edges-length file (contentsEnd m₀) es in
-    let most = sizes-most n₀ m₀ (q .0 .sizes) in
+    let most = sizes-most n₀ m₀ (q .0 .ranges) in
     let few : totalCount es ≤ maxEdges = starts-few es (q .0 .starts) in
     let size : length file ≡ fileLength m₀ (totalCount es) = eqb-true (length file) (fileLength m₀ (totalCount es)) (q .0 .size) in
     record {

@@ -1,9 +1,8 @@
 -- What a test that holds, or fails, makes of a conjunction and of an answer. Assumes nothing.
-use mathlib.Core.Path.{_≡_, refl, ap}
+use mathlib.Core.Path.{_≡_, ap}
 use mathlib.Core.Bool.{Bool, true, false, _&&_}
 use mathlib.Core.List.{List, []}
 use Prim.Native.Nat.{ℕ}
-use native.Mathlib.Omega.{arith}
 use lib.IntN.{ℤ}
 use Rattle.rules.specs.Refusal.{Answer, gives, must, replyOf}
 
@@ -13,10 +12,6 @@ and-fails a b e = ap (λ x. x && b) e
 pub and-holds : (a b : Bool) → a ≡ true → a && b ≡ b
 and-holds a b e = ap (λ x. x && b) e
 
-pub and-both : (a b : Bool) → a && b ≡ true → (a ≡ true) × (b ≡ true)
-and-both true b e = (refl, e)
-and-both false b e = absurd (let z : _≡_ {A = ℕ} 0 1 = cc in omega arith)
-
 module _ {A : Type 0} (f : A → List ℤ) (b : Bool) (k : ℕ) (a : Answer A) where
   pub must-fails : b ≡ false → replyOf f (must b k a) ≡ record { number = k; values = [] }
   unfolding must replyOf
@@ -25,8 +20,3 @@ module _ {A : Type 0} (f : A → List ℤ) (b : Bool) (k : ℕ) (a : Answer A) w
   pub must-holds : b ≡ true → replyOf f (must b k a) ≡ replyOf f a
   unfolding must
   must-holds e = ap (λ x. replyOf f (must x k a)) e
-
-pub must-gives : {A : Type 0} (b : Bool) (k : ℕ) (a : Answer A) (t : A) → must b k a ≡ gives t → (b ≡ true) × (a ≡ gives t)
-unfolding must
-must-gives true k a t h = (refl, h)
-must-gives false k a t h = absurd (let z : _≡_ {A = ℕ} 0 1 = cc in omega arith)

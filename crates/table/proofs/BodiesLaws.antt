@@ -1,16 +1,14 @@
--- The bodies as the loops go over them, and in one piece: the edges. Assumes nothing.
-use mathlib.Core.Path.{_≡_, refl, sym, _∙_, ap, ap₂}
+-- The bodies as the loops go over them: what is left is a number, or a check, and what is left after it. Assumes nothing.
+use mathlib.Core.Path.{_≡_, refl, _∙_, ap, ap₂}
 use mathlib.Core.Bool.{true, false, _&&_}
-use mathlib.Core.List.{List, [], _∷_, _++_}
-use Prim.Native.Nat.{ℕ, zero, suc, _+_, _*_, _-_, _≤_, _<_}
+use mathlib.Core.List.{List, [], _∷_}
+use Prim.Native.Nat.{ℕ, _+_, _*_, _-_, _≤_, _<_}
 use native.Mathlib.Omega.{arith}
 use lib.Dec.{leb, ltb}
-use lib.ListN.{length}
 use borrow.Author.Tests.{lt-ltb, le-ltb, le-leb, lt-leb}
 use Rattle.rules.specs.Bytes.{u16At}
-use Rattle.rules.specs.Table.{edges}
-use Rattle.rules.specs.CodeFile.{Content, contentAt, contents, totalCount, numbersAt, bodies, ascends, membersRight}
-use Rattle.table.proofs.ContentsLaws.{left-more, left-none, contents-more, contents-end, contents-length}
+use Rattle.rules.specs.CodeFile.{Content, contentAt, contents, numbersAt, bodies, ascends, membersRight}
+use Rattle.table.proofs.ContentsLaws.{left-more, left-none, contents-more, contents-end}
 
 -- ---- numbers from a byte on
 module _ (file : List ℕ) (at d k : ℕ) where
@@ -24,30 +22,6 @@ module _ (file : List ℕ) (at d k : ℕ) where
 
 pub numbers-all : (file : List ℕ) (at d : ℕ) → numbersAt file (at + 2 * 0) (d - 0) ≡ numbersAt file at d
 numbers-all file at d = ap₂ (numbersAt file) (omega arith) (omega arith)
-
-pub numbers-length : (file : List ℕ) (a k : ℕ) → length (numbersAt file a k) ≡ k
-unfolding numbersAt
-numbers-length file a zero = refl
-numbers-length file a (suc k) = ap suc (numbers-length file (a + 2) k)
-
-numbers-append : (file : List ℕ) (a d k : ℕ) → numbersAt file a (d + k) ≡ numbersAt file a d ++ numbersAt file (a + 2 * d) k
-unfolding numbersAt
-numbers-append file a zero k = ap₂ (numbersAt file) (none a) (left k)
-  where
-    none : (a : ℕ) → a ≡ a + 2 * 0
-    none a = omega arith
-
-    left : (k : ℕ) → 0 + k ≡ k
-    left k = omega arith
-numbers-append file a (suc d) k =
-    ap (numbersAt file a) (more d k)
-    ∙ ap (λ l. u16At file a ∷ l) (numbers-append file (a + 2) d k ∙ ap (λ b. numbersAt file (a + 2) d ++ numbersAt file b k) (shift a d))
-  where
-    more : (d k : ℕ) → suc d + k ≡ suc (d + k)
-    more d k = omega arith
-
-    shift : (a d : ℕ) → a + 2 + 2 * d ≡ a + 2 * suc d
-    shift a d = omega arith
 
 -- ---- strictly ascending
 ascends-cons : (n least x : ℕ) (xs : List ℕ) → ascends n least (x ∷ xs) ≡ ((leb least x && ltb x n) && ascends n (x + 1) xs)
@@ -95,20 +69,3 @@ members-more file m j a n d h e = ap (membersRight n) (bodies-more file m j a d 
 pub members-end : (file : List ℕ) (m j a n : ℕ) → m ≤ j → membersRight n (bodies file a (contents file j (m - j))) ≡ true
 unfolding membersRight
 members-end file m j a n h = ap (membersRight n) (bodies-end file m j a h)
-
--- ---- in one piece
-bodies-each : (file : List ℕ) (a : ℕ) (es : List Content) → length (bodies file a es) ≡ length es
-unfolding bodies
-bodies-each file a [] = refl
-bodies-each file a (e ∷ es) = ap suc (bodies-each file (a + 2 * e .count) es)
-
-pub bodies-length : (file : List ℕ) (a m : ℕ) → length (bodies file a (contents file 0 m)) ≡ m
-bodies-length file a m = bodies-each file a (contents file 0 m) ∙ contents-length file 0 m
-
-pub edges-bodies : (file : List ℕ) (a : ℕ) (es : List Content) → edges (bodies file a es) ≡ numbersAt file a (totalCount es)
-unfolding bodies totalCount numbersAt
-edges-bodies file a [] = refl
-edges-bodies file a (e ∷ es) = ap (λ l. numbersAt file a (e .count) ++ l) (edges-bodies file (a + 2 * e .count) es) ∙ sym (numbers-append file a (e .count) (totalCount es))
-
-pub edges-length : (file : List ℕ) (a : ℕ) (es : List Content) → length (edges (bodies file a es)) ≡ totalCount es
-edges-length file a es = ap length (edges-bodies file a es) ∙ numbers-length file a (totalCount es)

@@ -2,10 +2,9 @@
 use mathlib.Core.Path.{_≡_, refl, _∙_, ap}
 use mathlib.Core.Bool.{true, _&&_}
 use mathlib.Core.List.{List, [], _∷_}
-use Prim.Native.Nat.{ℕ, zero, suc, _+_, _*_, _-_, _≤_, _<_}
+use Prim.Native.Nat.{ℕ, suc, _+_, _*_, _-_, _≤_, _<_}
 use native.Mathlib.Omega.{arith}
 use lib.Dec.{eqb}
-use lib.ListN.{length}
 use Rattle.rules.specs.Limits.{minDegree, maxDegree}
 use Rattle.rules.specs.Bytes.{u16At}
 use Rattle.rules.specs.CodeFile.{Content, contentAt, inRange, contents, countsRight, startsRight, totalCount}
@@ -27,11 +26,6 @@ module _ (file : List ℕ) (m j : ℕ) where
 
 pub contents-all : (file : List ℕ) (m : ℕ) → contents file 0 (m - 0) ≡ contents file 0 m
 contents-all file m = ap (contents file 0) (omega arith)
-
-pub contents-length : (file : List ℕ) (j k : ℕ) → length (contents file j k) ≡ k
-unfolding contents
-contents-length file j zero = refl
-contents-length file j (suc k) = ap suc (contents-length file (j + 1) k)
 
 -- ---- counts
 counts-cons : (e : Content) (es : List Content) → countsRight (e ∷ es) ≡ (inRange minDegree maxDegree (e .count) && countsRight es)

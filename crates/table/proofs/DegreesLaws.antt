@@ -13,7 +13,8 @@ use Rattle.rules.specs.Bytes.{u16At}
 use Rattle.rules.specs.Table.{degreeOf}
 use Rattle.rules.specs.CodeFile.{inRange, numbersAt, bitsRight}
 use Rattle.table.proofs.ContentsLaws.{left-more, left-none}
-use Rattle.table.proofs.BodiesLaws.{numbers-more, numbers-end, numbers-all, numbers-length}
+use Rattle.table.proofs.BodiesLaws.{numbers-more, numbers-end, numbers-all}
+use Rattle.rules.proofs.FileLaws.{numbers-length}
 
 -- ---- counting
 one-more : (b : Bool) (x y : ℕ) → x ≤ y → cond b 1 0 + x ≤ suc y

@@ -10,7 +10,8 @@ use Rattle.rules.specs.Limits.{contentsEnd}
 use Rattle.rules.specs.Bytes.{u16At}
 use Rattle.rules.specs.CodeFile.{contents, numbersAt, bodies}
 use Rattle.table.specs.Starts.{startsOf}
-use Rattle.table.proofs.BodiesLaws.{numbers-length, bodies-more, bodies-end}
+use Rattle.table.proofs.BodiesLaws.{bodies-more, bodies-end}
+use Rattle.rules.proofs.FileLaws.{numbers-length}
 
 pub fill-more : (l : List ℕ) (k e x : ℕ) (rest : List ℕ) → k < e → k < length l → take (k + 1) (set l k x) ++ (rest ++ drop e (set l k x)) ≡ take k l ++ ((x ∷ rest) ++ drop e l)
 fill-more l k e x rest h hl =

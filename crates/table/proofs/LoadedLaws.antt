@@ -16,7 +16,7 @@ use Rattle.rules.specs.Buffers.{over}
 use Rattle.table.specs.Starts.{startsOf}
 use Rattle.table.specs.Loaded.{withRoom, laid, loaded}
 use Rattle.table.proofs.AnswerLaws.{and-fails, and-holds}
-use Rattle.table.proofs.BodiesLaws.{bodies-length, edges-bodies, edges-length}
+use Rattle.rules.proofs.FileLaws.{bodies-length, edges-bodies, edges-length}
 use Rattle.table.proofs.StartsLaws.{starts-length}
 use Rattle.table.proofs.StageLaws.{table-reply}
 use Rattle.table.proofs.AcceptedLaws.{Readable, readable-table}

@@ -13,16 +13,11 @@ use Rattle.rules.specs.Bytes.{u16At}
 use Rattle.rules.specs.Table.{edges, degreeOf}
 use Rattle.rules.specs.CodeFile.{Content, inRange, contents, startsRight, totalCount, numbersAt, bitsRight, tableAt, fileOf, codeFile, tableValues, codeFileReply}
 use Rattle.table.specs.Stages.{contentsStage}
-use Rattle.table.proofs.AnswerLaws.{and-both}
-use Rattle.table.proofs.BodiesLaws.{bodies-length, edges-bodies, edges-length}
+use Rattle.rules.proofs.Basics.{and-both}
+use Rattle.rules.proofs.AnswerLaws.{range-both}
+use Rattle.rules.proofs.FileLaws.{bodies-length, edges-bodies, edges-length}
 
 -- ---- what the tests say
-pub range-both : (lo hi x : ℕ) → inRange lo hi x ≡ true → (lo ≤ x) × (x ≤ hi)
-unfolding inRange
-range-both lo hi x h =
-    let p = and-both (leb lo x) (leb x hi) h in
-    (leb-true lo x (p .0), leb-true x hi (p .1))
-
 pub sizes-most : (n m : ℕ) → inRange 1 maxBits n && inRange 1 maxChecks m ≡ true → (n ≤ maxBits) × (m ≤ maxChecks)
 sizes-most n m h =
     let p = and-both (inRange 1 maxBits n) (inRange 1 maxChecks m) h in

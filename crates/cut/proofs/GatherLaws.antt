@@ -1,0 +1,56 @@
+-- The spins at a check's members: none, one more, all. Assumes nothing.
+use mathlib.Core.Path.{_≡_, refl, sym, _∙_, ap, ap₂}
+use mathlib.Core.List.{List, [], _∷_, _++_, append-assoc}
+use Prim.Native.Nat.{ℕ, zero, suc, _+_, _≤_, _<_}
+use native.Mathlib.Omega.{arith}
+use native.Mathlib.Nat.{le-of-suc-le-suc}
+use native.Mathlib.Numerals.{add-one}
+use lib.ListN.{length, getD, take, drop, set}
+use lib.Seq.{take-suc, drop-cons, set-at, length-take-le, take-all, take-at}
+use lib.IntN.{ℤ, pos}
+use Rattle.rules.specs.Limits.{maxDegree}
+use Rattle.rules.specs.Table.{valuesAt}
+use Rattle.rules.proofs.Duality.{Below}
+
+pub below-at : (n : ℕ) (ms : List ℕ) (k : ℕ) → k < length ms → Below n ms → getD ms k 0 < n
+below-at n [] k h b = absurd (omega arith)
+below-at n (m ∷ ms) zero h b = b .0
+below-at n (m ∷ ms) (suc k) h b = below-at n ms k (le-of-suc-le-suc h) (b .1)
+
+pub values-length : (f : ℕ → ℤ) (ms : List ℕ) → length (valuesAt f ms) ≡ length ms
+values-length f [] = refl
+values-length f (m ∷ ms) = ap suc (values-length f ms)
+
+values-++ : (f : ℕ → ℤ) (ms ns : List ℕ) → valuesAt f (ms ++ ns) ≡ valuesAt f ms ++ valuesAt f ns
+values-++ f [] ns = refl
+values-++ f (m ∷ ms) ns = ap (λ l. f m ∷ l) (values-++ f ms ns)
+
+-- the first k places are written
+abbrev pub gathered : (ℕ → ℤ) → List ℕ → List ℤ → ℕ → List ℤ
+gathered f ms vs k = valuesAt f (take k ms) ++ drop k vs
+
+pub gather-more : (f : ℕ → ℤ) (ms : List ℕ) (vs ws : List ℤ) (k : ℕ) (z : ℤ) → k < length ms → length ms ≤ length vs → ws ≡ gathered f ms vs k → z ≡ f (getD ms k 0)
+    → set ws k z ≡ gathered f ms vs (k + 1)
+gather-more f ms vs ws k z h g e q =
+    let front = valuesAt f (take k ms) in
+    let size : length front ≡ k = values-length f (take k ms) ∙ length-take-le k ms (omega arith) in
+    let next : valuesAt f (take (suc k) ms) ≡ front ++ (f (getD ms k 0) ∷ []) = ap (valuesAt f) (take-suc ms k 0 h) ∙ values-++ f (take k ms) (getD ms k 0 ∷ []) in
+    ap₂ (λ l x. set l k x) (e ∙ ap (λ l. front ++ l) (drop-cons vs k (pos 0) (omega arith))) q
+    ∙ set-at front (getD vs k (pos 0)) (drop (suc k) vs) (f (getD ms k 0)) k size
+    ∙ sym (append-assoc front (f (getD ms k 0) ∷ []) (drop (suc k) vs))
+    ∙ ap (λ l. l ++ drop (suc k) vs) (sym next)
+    ∙ ap (gathered f ms vs) (sym (add-one k))
+
+pub gather-all : (f : ℕ → ℤ) (ms : List ℕ) (vs : List ℤ) (k : ℕ) → k ≡ length ms → gathered f ms vs k ≡ valuesAt f ms ++ drop (length ms) vs
+gather-all f ms vs k e = ap (gathered f ms vs) e ∙ ap (λ l. valuesAt f l ++ drop (length ms) vs) (take-all (length ms) ms (omega arith))
+
+-- ---- the front of the values is the members' spins
+module _ (f : ℕ → ℤ) (ms : List ℕ) (vs ws : List ℤ) (h : length ms ≤ maxDegree) (e : ws ≡ valuesAt f ms ++ vs) where
+  front-is : take (length ms) ws ≡ valuesAt f ms
+  front-is = ap (take (length ms)) e ∙ take-at (valuesAt f ms) vs (length ms) (values-length f ms)
+
+  pub front-length : length ms ≡ length (take (length ms) ws)
+  front-length = sym (ap length front-is ∙ values-length f ms)
+
+  pub front-all : take maxDegree (take (length ms) ws) ≡ valuesAt f ms
+  front-all = ap (take maxDegree) front-is ∙ take-all maxDegree (valuesAt f ms) (omega (arith, values-length f ms))

@@ -1,0 +1,10 @@
+pub mod ValueLaws
+pub mod ScanLaws
+pub mod SideLaws
+pub mod MaskLaws
+pub mod OfLaws
+pub mod GatherLaws
+pub mod PartLaws
+pub mod ReplyLaws
+pub mod SearchLaws
+pub mod SearchRule

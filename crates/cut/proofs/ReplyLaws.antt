@@ -1,0 +1,113 @@
+-- The reply of a search on a loaded table, in each of its cases. Assumes nothing.
+use mathlib.Core.Path.{_≡_, refl, sym, _∙_, ap, ap₂}
+use mathlib.Core.Bool.{Bool, true, false, cond, _&&_}
+use mathlib.Core.List.{List, [], _∷_}
+use Prim.Native.Nat.{ℕ, zero, suc, _≤_, _<_}
+use native.Mathlib.Omega.{arith}
+use native.Mathlib.Decide.{ℕ-discrete}
+use lib.Dec.{leb, eqb, ltb}
+use lib.ListN.{length}
+use lib.IntN.{ℤ, pos, natAbs}
+use borrow.Author.Tests.{eqb-true, leb-true, ltb-true, eq-eqb, ne-eqb, lt-ltb, le-ltb}
+use Rattle.integers.specs.Linear.{Within}
+use Rattle.integers.specs.Product.{within}
+use Rattle.integers.specs.Sum.{AllWithin}
+use Rattle.integers.specs.Clip.{clip-mid}
+use Rattle.rules.specs.Limits.{unit}
+use Rattle.rules.specs.Refusal.{gives, Reply, replyOf, pointWrong, askedTooMuch}
+use Rattle.rules.specs.Table.{at, valuesAt}
+use Rattle.rules.specs.Input.{eachWithin}
+use Rattle.rules.specs.Cut.{cut, cutValues}
+use Rattle.rules.specs.Step.{clips}
+use Rattle.rules.proofs.Basics.{and-both}
+use Rattle.inputs.specs.Refusals.{pointRefusal, turnedDown}
+use Rattle.cut.specs.CutMask.{cutMask}
+use Rattle.cut.specs.Search.{partAt, firstOf, searchRefusal, tableSearch, maskReply}
+use Rattle.cut.proofs.MaskLaws.{mask-none, mask-some}
+
+-- ---- the point
+pub each-all : (u : ℕ) (zs : List ℤ) → eachWithin u zs ≡ true → AllWithin u zs
+each-all u [] e = tt
+each-all u (z ∷ zs) e =
+    let p = and-both (leb (natAbs z) u) (eachWithin u zs) e in
+    (within u z (leb-true (natAbs z) u (p .0)), each-all u zs (p .1))
+
+pub point-right : (n : ℕ) (s : List ℤ) → pointRefusal n s ≡ 0 → (length s ≡ n) × AllWithin unit s
+unfolding pointRefusal
+point-right n s e = go (eqb (length s) n && eachWithin unit s) refl e
+  where
+    go : (b : Bool) → eqb (length s) n && eachWithin unit s ≡ b → _≡_ {A = ℕ} (cond b 0 pointWrong) 0 → (length s ≡ n) × AllWithin unit s
+    go true p q =
+        let r = and-both (eqb (length s) n) (eachWithin unit s) p in
+        (eqb-true (length s) n (r .0), each-all unit s (r .1))
+    go false p q = absurd (omega arith)
+
+within-at : (u : ℕ) (s : List ℤ) (k : ℕ) → AllWithin u s → Within u (at s k)
+within-at u [] zero w = record { hi = omega arith; lo = omega arith }
+within-at u [] (suc k) w = record { hi = omega arith; lo = omega arith }
+within-at u (x ∷ s) zero w = w .0
+within-at u (x ∷ s) (suc k) w = within-at u s k (w .1)
+
+pub values-within : (u : ℕ) (s : List ℤ) (ms : List ℕ) → AllWithin u s → AllWithin u (valuesAt (at s) ms)
+values-within u s [] w = tt
+values-within u s (m ∷ ms) w = (within-at u s m w, values-within u s ms w)
+
+clips-same : (u : ℕ) (vs : List ℤ) → AllWithin u vs → clips u vs ≡ vs
+clips-same u [] w = refl
+clips-same u (v ∷ vs) w = ap₂ _∷_ (clip-mid u v (w .0)) (clips-same u vs (w .1))
+
+-- ---- the mask as a reply
+mask-values : (u : ℕ) (ss : List ℤ) (m : ℕ) → m ≡ cutMask (cut u ss) → cond (eqb m 0) [] (pos m ∷ []) ≡ cutValues (cut u ss)
+mask-values u ss m e = go (ℕ-discrete m 0)
+  where
+    go : Dec (m ≡ 0) → cond (eqb m 0) [] (pos m ∷ []) ≡ cutValues (cut u ss)
+    go (yes z) = ap (λ b. cond b [] (pos m ∷ [])) (eq-eqb m 0 z) ∙ ap cutValues (sym (mask-none u ss (sym e ∙ z)))
+    go (no f) =
+        let is = mask-some u ss m e f in
+        ap (λ b. cond b [] (pos m ∷ [])) (ne-eqb m 0 f) ∙ ap (λ n. pos n ∷ []) (e ∙ ap cutMask is) ∙ ap cutValues (sym is)
+
+module _ (n m : ℕ) (s : List ℤ) (j : ℕ) where
+  -- ---- the refusal's number
+  module _ (r : ℕ) (e : r ≡ pointRefusal n s) where
+    pub refusal-point : (r ≡ 0 → ⊥) → r ≡ searchRefusal n m s j
+    unfolding searchRefusal
+    refusal-point f = go r f ∙ ap (λ i. firstOf i (cond (ltb j m) 0 askedTooMuch)) e
+      where
+        go : (i : ℕ) → (i ≡ 0 → ⊥) → i ≡ firstOf i (cond (ltb j m) 0 askedTooMuch)
+        go zero f = absurd (f refl)
+        go (suc i) f = refl
+
+    point-passes : r ≡ 0 → cond (ltb j m) 0 askedTooMuch ≡ searchRefusal n m s j
+    unfolding searchRefusal
+    point-passes z = ap (λ i. firstOf i (cond (ltb j m) 0 askedTooMuch)) (sym z ∙ e)
+
+    pub refusal-check : r ≡ 0 → m ≤ j → askedTooMuch ≡ searchRefusal n m s j
+    refusal-check z h = ap (λ b. cond b 0 askedTooMuch) (sym (le-ltb j m h)) ∙ point-passes z
+
+    pub refusal-none : r ≡ 0 → j < m → 0 ≡ searchRefusal n m s j
+    refusal-none z h = ap (λ b. cond b 0 askedTooMuch) (sym (lt-ltb j m h)) ∙ point-passes z
+
+  pub none-refused : searchRefusal n m s j ≡ 0 → (pointRefusal n s ≡ 0) × (j < m)
+  unfolding searchRefusal
+  none-refused e = go (pointRefusal n s) (ltb j m) refl refl e
+    where
+      go : (i : ℕ) (b : Bool) → pointRefusal n s ≡ i → ltb j m ≡ b → firstOf i (cond b 0 askedTooMuch) ≡ 0 → (pointRefusal n s ≡ 0) × (j < m)
+      go zero true p q e = (p, ltb-true j m q)
+      go zero false p q e = absurd (omega arith)
+      go (suc i) b p q e = absurd (omega arith)
+
+  -- ---- the reply
+  module _ (starts members : List ℕ) where
+    pub reply-refused : (k : ℕ) → k ≡ searchRefusal n m s j → (k ≡ 0 → ⊥) → record { number = k; values = [] } ≡ replyOf cutValues (tableSearch starts members n m s j)
+    unfolding tableSearch turnedDown replyOf
+    reply-refused zero e f = absurd (f refl)
+    reply-refused (suc k) e f = ap (λ r. replyOf cutValues (turnedDown r (gives (cut unit (valuesAt (at s) (partAt starts members j)))))) e
+
+    pub reply-mask : (r : Reply) (k : ℕ) → searchRefusal n m s j ≡ 0 → k ≡ cutMask (cut unit (clips unit (valuesAt (at s) (partAt starts members j)))) → r ≡ maskReply k
+        → r ≡ replyOf cutValues (tableSearch starts members n m s j)
+    unfolding tableSearch turnedDown replyOf
+    reply-mask r k z e q =
+        let vs = valuesAt (at s) (partAt starts members j) in
+        let same : clips unit vs ≡ vs = clips-same unit vs (values-within unit s (partAt starts members j) (point-right n s (none-refused z .0) .1)) in
+        q ∙ ap (λ l. record { number = 0; values = l }) (mask-values unit vs k (e ∙ ap (λ l. cutMask (cut unit l)) same))
+        ∙ ap (λ x. replyOf cutValues (turnedDown x (gives (cut unit vs)))) (sym z)

@@ -1,0 +1,40 @@
+-- One value: its sign as a bit, its size, its bit alone. Assumes nothing.
+use mathlib.Core.Path.{_≡_, _∙_, ap}
+use mathlib.Core.Bool.{Bool, true, false}
+use Prim.Native.Nat.{ℕ, suc, _+_, _*_, _%_, _^_, _≤_, _<_}
+use native.Mathlib.Omega.{arith}
+use native.Mathlib.Nat.{one-mul, pow-suc}
+use lib.Dec.{lit<}
+use lib.IntN.{ℤ, pos, negsuc, negℤ, natAbs, _-ℤ_}
+use lib.Pow.{shl-exact, pow-mono}
+use lib.Signed.{_≤ℤ_, _<ℤ_}
+use Rattle.integers.specs.Linear.{lin, arithZ}
+use Rattle.integers.specs.Product.{abs-neg}
+use Rattle.rules.specs.Mask.{digit}
+use Rattle.rules.specs.Cut.{isNeg}
+
+-- 1 << k at 32 bits
+pub shifted-one : (k : ℕ) → k < 32 → 1 * 2 ^ k % 2 ^ 32 ≡ 2 ^ k
+shifted-one k h = shl-exact 1 k 32 (lit< tt) (omega arith) ∙ one-mul (2 ^ k)
+
+pub negative-bit : (x : ℤ) (p : ℕ) → x <ℤ pos 0 → p ≡ digit (isNeg x) * p
+negative-bit (pos n) p h = absurd (omega arithZ)
+negative-bit (negsuc n) p h = omega arith
+
+pub other-bit : (x : ℤ) (p : ℕ) → pos 0 ≤ℤ x → 0 ≡ digit (isNeg x) * p
+other-bit (pos n) p h = omega arith
+other-bit (negsuc n) p h = absurd (h .le)
+
+pub abs-minus : (x : ℤ) → natAbs (pos 0 -ℤ x) ≡ natAbs x
+abs-minus x = ap natAbs (minus-neg x) ∙ abs-neg x
+  where
+    minus-neg : (x : ℤ) → pos 0 -ℤ x ≡ negℤ x
+    minus-neg x = simp lin (omega arithZ)
+
+-- bit k on top of a mask of k bits
+pub bit-above : (t : Bool) (m b k : ℕ) → k < 32 → m < 2 ^ k → b ≡ digit t * 2 ^ k → m + b < 2 ^ 32
+bit-above t m b k h p e = fits (pow-mono {i = suc k} {j = 32} (omega arith)) t e
+  where
+    fits : 2 ^ suc k ≤ 2 ^ 32 → (t : Bool) → b ≡ digit t * 2 ^ k → m + b < 2 ^ 32
+    fits q true e = omega (arith, pow-suc 2 k)
+    fits q false e = omega (arith, pow-suc 2 k)

@@ -1,0 +1,96 @@
+-- `gather` meets its contract: the first k values are the members' spins. Assumes nothing.
+use mathlib.Core.Path.{_≡_, refl, _∙_, ap}
+use Prim.Native.Nat.{_-_, _≤_, _<_}
+use native.Mathlib.Omega.{arith}
+use lib.ListN.{length}
+use mir.Syntax.{w32}
+use mir.Facts.{toZ-ofZ}
+use borrow.Author.Needs.{needs}
+use Rattle.integers.specs.Machine.{fit}
+use Rattle.rules.specs.Table.{at}
+use Rattle.cut.proofs.GatherLaws.{below-at, gathered, gather-more, gather-all}
+use Rattle.cut.proofs.check.gather.Statement.{statement}
+use Rattle.cut.proofs.check.gather.Tie as tie
+
+abbrev Inv-loop : tie.InvT-loop
+Inv-loop spins members values₀ k₀ values k = (k ≤ length members) × (length values ≡ length values₀) × (values ≡ gathered (at spins) members values₀ k)
+
+abbrev μ-loop : tie.MeasureT-loop
+μ-loop spins members values₀ k₀ values k = length members - k
+
+loop-holds : tie.Need-loop-holds Inv-loop μ-loop
+loop-holds c = (omega arith, refl, refl)
+
+mul-wide : tie.Need-mul-wide Inv-loop μ-loop
+mul-wide c = search needs
+
+shared-slice-read-wide : tie.Need-shared-slice-read-wide Inv-loop μ-loop
+shared-slice-read-wide c = search needs
+
+wide-requires : tie.Need-wide-requires Inv-loop μ-loop
+wide-requires c κs = tt
+
+reads-inside : (c : tie.After-wide Inv-loop μ-loop) → c .wide .result < length (c .before .before .before .before .before .args .spins .now)
+reads-inside c =
+    let args = c .before .before .before .before .before .args in
+    omega (arith, c .wide .ensures, below-at (length (args .spins .now)) (args .members .now) (c .before .before .before .loop .k) (c .before .before .loop-test .taken) (c .before .before .before .before .before .pre .1))
+
+mul-values : tie.Need-mul-values Inv-loop μ-loop
+mul-values c =
+    let inside : c .wide .result < length (c .before .before .before .before .before .args .spins .now) = reads-inside c in
+    search needs
+
+shared-slice-copy-out-values : tie.Need-shared-slice-copy-out-values Inv-loop μ-loop
+shared-slice-copy-out-values c = reads-inside c
+
+mul-t12 : tie.Need-mul-t12 Inv-loop μ-loop
+mul-t12 c = search needs
+
+slice-set-from-values : tie.Need-slice-set-from-values Inv-loop μ-loop
+slice-set-from-values c = omega arith
+
+add-k : tie.Need-add-k Inv-loop μ-loop
+add-k c = omega arith
+
+loop-less : tie.Need-loop-less Inv-loop μ-loop
+loop-less c = omega arith
+
+loop-again : tie.Need-loop-again Inv-loop μ-loop
+loop-again c =
+    let args = c .before .before .before .before .before .before .args in
+    let loop = c .before .before .before .before .loop in
+    let read = toZ-ofZ (fit w32 (at (args .spins .now) (c .before .wide .result)) (c .values .given)) in (
+      omega arith,
+      search needs,
+      gather-more (at (args .spins .now)) (args .members .now) (args .values .now) (loop .values) (loop .k) _ (c .before .before .before .loop-test .taken) (c .before .before .before .before .before .before .pre .0) (loop .inv .2)
+          (read ∙ ap (at (args .spins .now)) (c .before .wide .ensures)),
+    )
+
+same-length : tie.Need-same-length Inv-loop μ-loop
+same-length c = search needs
+
+returns : tie.Need-returns Inv-loop μ-loop
+returns c =
+    let args = c .before .before .before .args in
+    let done : c .before .loop .k ≡ length (args .members .now) = omega arith in
+    c .before .loop .inv .2 ∙ gather-all (at (args .spins .now)) (args .members .now) (args .values .now) (c .before .loop .k) done
+
+pub gather-spec : {M : Type 1} → statement M
+gather-spec =
+    tie.close
+    (tie.spec
+    Inv-loop
+    μ-loop
+    loop-holds
+    mul-wide
+    shared-slice-read-wide
+    wide-requires
+    mul-values
+    shared-slice-copy-out-values
+    mul-t12
+    slice-set-from-values
+    add-k
+    loop-less
+    loop-again
+    same-length
+    returns)

@@ -1,0 +1,29 @@
+-- Document 01's two points on the three-bit check, and refusals 16 and 17, on its loaded table, by computation. Assumes nothing.
+use mathlib.Core.Path.{_≡_, refl}
+use mathlib.Core.List.{List, [], _∷_}
+use Prim.Native.Nat.{ℕ}
+use lib.IntN.{ℤ, pos, negsuc}
+use Rattle.rules.specs.Refusal.{Reply, replyOf}
+use Rattle.rules.specs.Cut.{cut, cutValues}
+use Rattle.inputs.specs.Refusals.{pointRefusal, turnedDown}
+use Rattle.cut.specs.Search.{searchRefusal, tableSearch}
+
+-- the starts 0 and 3, the members 0, 1 and 2; what follows them in the slices does not count
+asked : List ℤ → ℕ → Reply
+asked s j = replyOf cutValues (tableSearch (0 ∷ 3 ∷ 9 ∷ []) (0 ∷ 1 ∷ 2 ∷ 9 ∷ []) 3 1 s j)
+
+-- "(1365, 1365, −1366) has no cut; (1365, 1365, −1367) has mask 4"
+no-cut : asked (pos 1365 ∷ pos 1365 ∷ negsuc 1365 ∷ []) 0 ≡ record { number = 0; values = [] }
+unfolding asked replyOf tableSearch searchRefusal pointRefusal turnedDown cut
+no-cut = refl
+
+mask-4 : asked (pos 1365 ∷ pos 1365 ∷ negsuc 1366 ∷ []) 0 ≡ record { number = 0; values = pos 4 ∷ [] }
+unfolding asked replyOf tableSearch searchRefusal pointRefusal turnedDown cut
+mask-4 = refl
+
+-- "16 point's length or a spin. 17 check number not below m": 16 comes first
+refusals : (asked (pos 0 ∷ pos 0 ∷ []) 1 ≡ record { number = 16; values = [] })
+    × (asked (pos 0 ∷ pos 4097 ∷ pos 0 ∷ []) 0 ≡ record { number = 16; values = [] })
+    × (asked (pos 0 ∷ pos 0 ∷ pos 0 ∷ []) 1 ≡ record { number = 17; values = [] })
+unfolding asked replyOf tableSearch searchRefusal pointRefusal turnedDown
+refusals = (refl, refl, refl)

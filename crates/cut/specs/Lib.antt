@@ -1,0 +1,5 @@
+pub mod CutMask
+pub mod Scan
+pub mod Reply
+pub mod Search
+pub mod Examples

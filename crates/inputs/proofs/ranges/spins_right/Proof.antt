@@ -1,0 +1,74 @@
+-- `spins_right` meets its contract: what is left from i on decides. Assumes nothing.
+use mathlib.Core.Path.{_≡_, refl, sym, _∙_, ap}
+use Prim.Native.Nat.{_-_, _≤_}
+use native.Mathlib.Omega.{arith}
+use lib.Dec.{leb}
+use lib.IntN.{pos, natAbs}
+use lib.ListN.{length, getD, drop}
+use mir.Syntax.{w32}
+use mir.Facts.{toZ-ofZ}
+use borrow.Author.Needs.{needs}
+use borrow.Author.Tests.{not-true, not-false}
+use Rattle.integers.specs.Machine.{fit}
+use Rattle.rules.specs.Limits.{unit}
+use Rattle.rules.specs.Input.{eachWithin}
+use Rattle.inputs.proofs.EachLaws.{each-fails, each-holds, each-end}
+use Rattle.inputs.proofs.ranges.spins_right.Statement.{statement}
+use Rattle.inputs.proofs.ranges.spins_right.Tie as tie
+
+abbrev Inv-loop : tie.InvT-loop
+Inv-loop s i₀ i = (i ≤ length s) × (eachWithin unit s ≡ eachWithin unit (drop i s))
+
+abbrev μ-loop : tie.MeasureT-loop
+μ-loop s i₀ i = length s - i
+
+loop-holds : tie.Need-loop-holds Inv-loop μ-loop
+loop-holds c = (omega arith, refl)
+
+mul-spin-right : tie.Need-mul-spin-right Inv-loop μ-loop
+mul-spin-right c = search needs
+
+shared-slice-copy-out-spin-right : tie.Need-shared-slice-copy-out-spin-right Inv-loop μ-loop
+shared-slice-copy-out-spin-right c = search needs
+
+spin-right-requires : tie.Need-spin-right-requires Inv-loop μ-loop
+spin-right-requires c κs = tt
+
+-- the element that was tested
+tested : (c : tie.After-spin-right Inv-loop μ-loop) → c .spin-right .result ≡ leb (natAbs (getD (c .before .before .before .before .args .s .now) (c .before .before .before .loop .i) (pos 0))) unit
+tested c = c .spin-right .ensures ∙ ap (λ x. leb (natAbs x) unit) (toZ-ofZ (fit w32 (getD (c .before .before .before .before .args .s .now) (c .before .before .before .loop .i) (pos 0)) (c .before .spin-right-arg .given)))
+
+returns : tie.Need-returns Inv-loop μ-loop
+returns c =
+    let loop = c .before .before .before .before .loop in
+    sym (loop .inv .1 ∙ each-fails (pos 0) (λ x. leb (natAbs x) unit) (eachWithin unit) refl (λ x xs. refl) _ _ (c .before .before .before .loop-test .taken) (sym (tested (c .before)) ∙ not-true _ (c .if1 .taken)))
+
+add-i : tie.Need-add-i Inv-loop μ-loop
+add-i c = omega arith
+
+loop-less : tie.Need-loop-less Inv-loop μ-loop
+loop-less c = omega arith
+
+loop-again : tie.Need-loop-again Inv-loop μ-loop
+loop-again c =
+    let loop = c .before .before .before .before .loop in
+    (omega arith, loop .inv .1 ∙ each-holds (pos 0) (λ x. leb (natAbs x) unit) (eachWithin unit) refl (λ x xs. refl) _ _ (c .before .before .before .loop-test .taken) (sym (tested (c .before)) ∙ not-false _ (c .if1 .left)))
+
+returns-2 : tie.Need-returns-2 Inv-loop μ-loop
+returns-2 c = sym (c .before .loop .inv .1 ∙ each-end (pos 0) (λ x. leb (natAbs x) unit) (eachWithin unit) refl (λ x xs. refl) _ _ (c .loop-test .left))
+
+pub spins-right-spec : {M : Type 1} → statement M
+spins-right-spec =
+    tie.close
+    (tie.spec
+    Inv-loop
+    μ-loop
+    loop-holds
+    mul-spin-right
+    shared-slice-copy-out-spin-right
+    spin-right-requires
+    returns
+    add-i
+    loop-less
+    loop-again
+    returns-2)

@@ -1,0 +1,64 @@
+-- What the judge's answer is worth, whoever wrote the certificate (document 00, demand 2; document 01, "Certificates"): certified exactly if the word
+-- meets all checks and its agreement, times the scale, equals the bound, and then nothing agrees better. Corollaries of rules' Judged. Assumes nothing.
+use mathlib.Core.Path.{_≡_, refl, sym, _∙_, ap, subst}
+use mathlib.Core.Bool.{true}
+use mathlib.Core.Logic.{_↔_}
+use mathlib.Core.List.{List}
+use Prim.Native.Nat.{ℕ}
+use native.Mathlib.Omega.{arith}
+use lib.IntN.{ℤ, pos, _*ℤ_}
+use lib.Signed.{_<ℤ_}
+use Rattle.rules.specs.Refusal.{Answer, refused, gives, replyOf}
+use Rattle.rules.specs.Table.{Table}
+use Rattle.rules.specs.Parity.{meets, agreement}
+use Rattle.rules.specs.CodeFile.{codeFile}
+use Rattle.rules.specs.Input.{bitsOf}
+use Rattle.rules.specs.Bound.{bound}
+use Rattle.rules.specs.Certificate.{scaleOf, itemsOf, rowsAt}
+use Rattle.rules.specs.Demand3.{Best}
+use Rattle.rules.specs.Judge.{Verdict, breaks, passes, misses, verdict, verdictValues, judge, judgeReply}
+use Rattle.rules.proofs.AnswerLaws.{gives-inj}
+use Rattle.rules.proofs.Judged.{judged, verdict-passes⇔, judge-best, judge-positive}
+use Rattle.judge.specs.declared.Verdict.the-variants.{Certified, Gap}
+use Rattle.judge.specs.Reply.{numbered}
+
+-- ---- the code's answer, whose number and values are the definition's, tell the definition's
+answer-passes : (a : Answer Verdict) → numbered Certified .values ≡ replyOf verdictValues a .values → a ≡ gives passes
+unfolding replyOf
+answer-passes (refused k) h = absurd (let z : _≡_ {A = ℕ} 0 1 = cc in omega arith)
+answer-passes (gives (breaks j)) h = absurd (let z : _≡_ {A = ℕ} 0 1 = cc in omega arith)
+answer-passes (gives passes) h = refl
+answer-passes (gives (misses g)) h = absurd (let z : _≡_ {A = ℕ} 0 1 = cc in omega arith)
+
+answer-misses : (g : ℤ) (a : Answer Verdict) → numbered (Gap g) .values ≡ replyOf verdictValues a .values → a ≡ gives (misses g)
+unfolding replyOf
+answer-misses g (refused k) h = absurd (let z : _≡_ {A = ℕ} 0 1 = cc in omega arith)
+answer-misses g (gives (breaks j)) h = absurd (let z : _≡_ {A = ℕ} 0 1 = cc in omega arith)
+answer-misses g (gives passes) h = absurd (let z : _≡_ {A = ℕ} 0 1 = cc in omega arith)
+answer-misses g (gives (misses x)) h = cc
+
+module _ (file : List ℕ) (l : List ℤ) (w bs : List ℕ) where
+  module _ (t : Table) (isFile : codeFile file ≡ gives t) where
+    verdict-says : (v : Verdict) → judge file l w bs ≡ gives v → verdict t (scaleOf bs) l (rowsAt t (itemsOf bs)) (bitsOf w) ≡ v
+    verdict-says v h =
+        let j = judged file l w bs v h in
+        subst (λ x. verdict x (scaleOf bs) l (rowsAt x (itemsOf bs)) (bitsOf w) ≡ v) (gives-inj (j .table) t (sym (j .isFile) ∙ isFile)) (j .says)
+
+    -- "passes exactly if the word meets all checks and its agreement, times the certificate's scale, equals the multipliers' bound", of inputs that are
+    -- not refused
+    pub certified⇔ : (v : Verdict) → judge file l w bs ≡ gives v
+        → (v ≡ passes)
+        ↔ ((meets (bitsOf w) (t .checks) ≡ true) × (pos (scaleOf bs) *ℤ agreement (t .bits) l (bitsOf w) ≡ bound (t .bits) (scaleOf bs) l (rowsAt t (itemsOf bs))))
+    certified⇔ v h =
+        let both = verdict-passes⇔ t (scaleOf bs) l (rowsAt t (itemsOf bs)) (bitsOf w) in
+        (λ e. both .0 (verdict-says v h ∙ e), λ p. sym (verdict-says v h) ∙ both .1 p)
+
+    -- a word that the code marks certified is best
+    pub certified-best : numbered Certified ≡ judgeReply file l w bs → Best t l (bitsOf w)
+    unfolding judgeReply
+    certified-best h = judge-best file l w bs t isFile (answer-passes (judge file l w bs) (ap (λ r. r .values) h))
+
+  -- "else the gap, which is then positive"
+  pub gap-positive : (g : ℤ) → numbered (Gap g) ≡ judgeReply file l w bs → pos 0 <ℤ g
+  unfolding judgeReply
+  gap-positive g h = judge-positive file l w bs g (answer-misses g (judge file l w bs) (ap (λ r. r .values) h))

@@ -1,0 +1,188 @@
+-- A code file that was loaded: the two slices hold its table, and what the code relies on at each check. Assumes nothing.
+use mathlib.Core.Path.{_≡_, refl, sym, _∙_, ap, ap₂, subst}
+use mathlib.Core.List.{List, [], _∷_, _++_}
+use Prim.Native.Nat.{ℕ, zero, suc, _+_, _-_, _≤_, _<_}
+use native.Mathlib.Omega.{arith}
+use native.Mathlib.Numerals.{add-one}
+use lib.IntN.{pos}
+use lib.ListN.{length, getD, take, drop, length-append, length-drop, drop-of-length-le, List·getD-append}
+use lib.Seq.{length-take-le, take-append-le, drop-append-le, drop-cons}
+use Rattle.rules.specs.Limits.{maxDegree, maxBits, maxChecks, maxEdges, contentsEnd}
+use Rattle.rules.specs.Refusal.{Answer, refused, gives, Reply, replyOf}
+use Rattle.rules.specs.Table.{Table, edges, checksOf}
+use Rattle.rules.specs.CodeFile.{tableAt, codeFile, tableValues, codeFileReply}
+use Rattle.rules.proofs.Duality.{Below}
+use Rattle.rules.proofs.Optimal.{AllBelow}
+use Rattle.rules.proofs.Tables.{Degrees, Sound, file-sound}
+use Rattle.rules.proofs.FileLaws.{bodies-length}
+use Rattle.table.specs.Starts.{startsOf}
+use Rattle.table.specs.Loaded.{laid, loaded}
+use Rattle.table.proofs.StartsLaws.{starts-length, starts-next, check-part}
+use Rattle.table.proofs.AcceptedLaws.{readable, refused-is}
+use Rattle.table.proofs.LoadedLaws.{loaded-room}
+use Rattle.judge.specs.Held.{degreeAt, partAt, partsFrom, tableIn, Part, Ordered, Held}
+use Rattle.judge.proofs.CheckLaws.{none-below, less-before}
+
+-- ---- check by check
+pub parts-length : (starts members : List ℕ) (j k : ℕ) → length (partsFrom starts members j k) ≡ k
+unfolding partsFrom
+parts-length starts members j zero = refl
+parts-length starts members j (suc k) = ap suc (parts-length starts members (j + 1) k)
+
+parts-from : (starts members : List ℕ) (i k j : ℕ) → j < k → getD (partsFrom starts members i k) j [] ≡ partAt starts members (i + j)
+unfolding partsFrom
+parts-from starts members i zero j h = absurd (none-below j h)
+parts-from starts members i (suc k) zero h = ap (partAt starts members) (at-zero i)
+  where
+    at-zero : (i : ℕ) → i ≡ i + 0
+    at-zero i = omega arith
+parts-from starts members i (suc k) (suc j) h = parts-from starts members (i + 1) k j (less-before j k h) ∙ ap (partAt starts members) (shift i j)
+  where
+    shift : (i j : ℕ) → i + 1 + j ≡ i + suc j
+    shift i j = omega arith
+
+pub parts-at : (starts members : List ℕ) (m j : ℕ) → j < m → getD (partsFrom starts members 0 m) j [] ≡ partAt starts members j
+parts-at starts members m j h = parts-from starts members 0 m j h ∙ ap (partAt starts members) (none j)
+  where
+    none : (j : ℕ) → 0 + j ≡ j
+    none j = omega arith
+
+pub part-length : (n : ℕ) (starts members : List ℕ) (j : ℕ) → Part n starts members j → length (partAt starts members j) ≡ degreeAt starts j
+part-length n starts members j p =
+    length-take-le (degreeAt starts j) (drop (getD starts j 0) members) (subst (λ k. degreeAt starts j ≤ k) (sym (length-drop (getD starts j 0) members)) (omega (arith, p .end)))
+
+pub held-ordered : (n m : ℕ) (starts members : List ℕ) → Held n m starts members → Ordered m starts
+held-ordered n m starts members h j k = h j k .start
+
+-- ---- from the table to the slices: what is past the starts and the members does not matter
+starts-most : (s : ℕ) (cs : List (List ℕ)) (j : ℕ) → j ≤ length cs → getD (startsOf s cs) j 0 ≤ s + length (edges cs)
+unfolding startsOf
+starts-most s [] zero h = self s
+  where
+    self : (s : ℕ) → s ≤ s + 0
+    self s = omega arith
+starts-most s [] (suc j) h = absurd (over-none j h)
+  where
+    over-none : (j : ℕ) → suc j ≤ 0 → ⊥
+    over-none j h = omega arith
+starts-most s (ms ∷ cs) zero h = more s (length (ms ++ edges cs))
+  where
+    more : (s k : ℕ) → s ≤ s + k
+    more s k = omega arith
+starts-most s (ms ∷ cs) (suc j) h = regroup s (length ms) (length (edges cs)) (length (ms ++ edges cs)) (getD (startsOf (s + length ms) cs) j 0) (length-append ms (edges cs)) (starts-most (s + length ms) cs j (before j (length cs) h))
+  where
+    regroup : (s a b c x : ℕ) → c ≡ a + b → x ≤ s + a + b → x ≤ s + c
+    regroup s a b c x e h = omega arith
+
+    before : (j k : ℕ) → suc j ≤ suc k → j ≤ k
+    before j k h = omega arith
+
+below-at : (n : ℕ) (cs : List (List ℕ)) (j : ℕ) → j < length cs → AllBelow n cs → Below n (getD cs j [])
+below-at n [] j h b = absurd (none-below j h)
+below-at n (ms ∷ cs) zero h b = b .0
+below-at n (ms ∷ cs) (suc j) h b = below-at n cs j (less-before j (length cs) h) (b .1)
+
+degree-at : (cs : List (List ℕ)) (j : ℕ) → j < length cs → Degrees cs → length (getD cs j []) ≤ maxDegree
+degree-at [] j h d = absurd (none-below j h)
+degree-at (ms ∷ cs) zero h d = d .0 .1
+degree-at (ms ∷ cs) (suc j) h d = degree-at cs j (less-before j (length cs) h) (d .1)
+
+module _ (t : Table) (more₁ more₂ : List ℕ) where
+  abbrev cs : List (List ℕ)
+  cs = t .checks
+
+  abbrev starts : List ℕ
+  starts = startsOf 0 cs ++ more₁
+
+  abbrev members : List ℕ
+  members = edges cs ++ more₂
+
+  start-is : (j : ℕ) → j ≤ checksOf t → getD starts j 0 ≡ getD (startsOf 0 cs) j 0
+  start-is j h = List·getD-append (startsOf 0 cs) more₁ 0 j (omega (arith, starts-length 0 cs))
+
+  next-is : (j : ℕ) → j < checksOf t → getD starts (j + 1) 0 ≡ getD starts j 0 + length (getD cs j [])
+  next-is j h =
+      let here = start-is j (omega arith) in
+      let there = start-is (j + 1) (omega arith) in
+      omega (arith, here, there, ap (λ k. getD (startsOf 0 cs) k 0) (add-one j), starts-next 0 cs j h)
+
+  end-is : (j : ℕ) → j < checksOf t → getD starts (j + 1) 0 ≤ length (edges cs)
+  end-is j h = omega (arith, start-is (j + 1) (omega arith), starts-most 0 cs (j + 1) (omega arith))
+
+  part-is : (j : ℕ) → j < checksOf t → partAt starts members j ≡ getD cs j []
+  part-is j h =
+      let a = getD (startsOf 0 cs) j 0 in
+      let e = getD (startsOf 0 cs) (suc j) 0 in
+      let last : getD starts (j + 1) 0 ≤ length (edges cs) = end-is j h in
+      let first : getD starts j 0 ≡ a = start-is j (omega arith) in
+      let next : getD starts (j + 1) 0 ≡ e = start-is (j + 1) (omega arith) ∙ ap (λ k. getD (startsOf 0 cs) k 0) (add-one j) in
+      let inside : a ≤ length (edges cs) = omega (arith, next-is j h) in
+      ap₂ (λ x y. take (y - x) (drop x (edges cs ++ more₂))) first next
+      ∙ ap (take (e - a)) (drop-append-le a (edges cs) more₂ inside)
+      ∙ take-append-le (e - a) (drop a (edges cs)) more₂ (subst (λ k. e - a ≤ k) (sym (length-drop a (edges cs))) (omega arith))
+      ∙ check-part cs j h
+
+  parts-are : (k j : ℕ) → j + k ≡ checksOf t → partsFrom starts members j k ≡ drop j cs
+  unfolding partsFrom
+  parts-are zero j e = sym (drop-of-length-le cs (all j (checksOf t) e))
+    where
+      all : (j k : ℕ) → j + 0 ≡ k → k ≤ j
+      all j k e = omega arith
+  parts-are (suc k) j e =
+      let h = inside j k (checksOf t) e in
+      ap₂ _∷_ (part-is j h) (parts-are k (j + 1) (shift j k (checksOf t) e) ∙ ap (λ i. drop i cs) (add-one j)) ∙ sym (drop-cons cs j [] h)
+    where
+      inside : (j k m : ℕ) → j + suc k ≡ m → j < m
+      inside j k m e = omega arith
+
+      shift : (j k m : ℕ) → j + suc k ≡ m → j + 1 + k ≡ m
+      shift j k m e = omega arith
+
+  table-held : Sound t → Held (t .bits) (checksOf t) starts members × (tableIn (t .bits) (checksOf t) starts members ≡ t)
+  table-held s = (
+    λ j h. record {
+      start = record {
+        room = omega (arith, starts-length 0 cs, length-append (startsOf 0 cs) more₁);
+        order = omega (arith, next-is j h);
+        degree = omega (arith, next-is j h, degree-at cs j h (s .degrees));
+      };
+      end = omega (arith, end-is j h, length-append (edges cs) more₂);
+      inside = subst (Below (t .bits)) (sym (part-is j h)) (below-at (t .bits) cs j h (s .below));
+    },
+    ap (λ x. record { bits = t .bits; checks = x }) (parts-are (checksOf t) 0 (omega arith)),
+  )
+
+-- ---- a load into slices with room for every table
+pub record Opened (file : List ℕ) (n m : ℕ) (starts members : List ℕ) : Type 0 where
+  pub isFile : codeFile file ≡ gives (tableAt file n m)
+  pub held : Held n m starts members
+  pub same : tableIn n m starts members ≡ tableAt file n m
+  pub few : n ≤ maxBits
+
+laid-reply : (a : Answer Table) (s ms : List ℕ) → laid a s ms .reply ≡ replyOf tableValues a
+unfolding laid
+laid-reply (refused k) s ms = refl
+laid-reply (gives t) s ms = refl
+
+module _ (file s₀ ms₀ : List ℕ) (r : Reply) (s ms : List ℕ) (hs : maxChecks < length s₀) (hm : maxEdges ≤ length ms₀)
+    (e : record { reply = r; starts = s; members = ms } ≡ loaded file s₀ ms₀) where
+  load-says : r ≡ codeFileReply file
+  unfolding codeFileReply
+  load-says = ap (λ x. x .reply) (e ∙ loaded-room file s₀ ms₀ hs hm) ∙ laid-reply (codeFile file) s₀ ms₀
+
+  pub load-refused : (k : ℕ) → r ≡ record { number = k; values = [] } → codeFile file ≡ refused k
+  load-refused k h = refused-is file k (sym h ∙ load-says)
+
+  load-held : (t : Table) → codeFile file ≡ gives t → Held (t .bits) (checksOf t) s ms × (tableIn (t .bits) (checksOf t) s ms ≡ t)
+  unfolding laid
+  load-held t h =
+      let slices : record { reply = r; starts = s; members = ms } ≡ laid (gives t) s₀ ms₀ = e ∙ loaded-room file s₀ ms₀ hs hm ∙ ap (λ a. laid a s₀ ms₀) h in
+      subst (λ x. Held (t .bits) (checksOf t) (x .starts) (x .members) × (tableIn (t .bits) (checksOf t) (x .starts) (x .members) ≡ t)) (sym slices)
+      (table-held t (drop (length (startsOf 0 (t .checks))) s₀) (drop (length (edges (t .checks))) ms₀) (file-sound file t h))
+
+  pub load-table : (n m k : ℕ) → r ≡ record { number = 0; values = pos n ∷ pos m ∷ pos k ∷ [] } → Opened file n m s ms
+  load-table n m k h =
+      let t = tableAt file n m in
+      let isFile : codeFile file ≡ gives t = readable file n m k (sym h ∙ load-says) .table in
+      let held = subst (λ j. Held n j s ms × (tableIn n j s ms ≡ t)) (bodies-length file (contentsEnd m) m) (load-held t isFile) in
+      record { isFile = isFile; held = held .0; same = held .1; few = file-sound file t isFile .bits .1 }

@@ -1,0 +1,95 @@
+-- Signed 64-bit numbers as the code works them out: negated, multiplied by a size, added up. Assumes nothing.
+use mathlib.Core.Path.{_≡_, refl, sym, _∙_, ap, ap₂, subst}
+use Prim.Native.Nat.{ℕ, _+_, _*_, _^_, _≤_, _<_}
+use native.Mathlib.Omega.{arith}
+use native.Mathlib.Numerals.{add-one}
+use lib.IntN.{ℤ, pos, negℤ, _+ℤ_, _-ℤ_, _*ℤ_}
+use mir.Syntax.{w64}
+use mir.Val.{SFits, toZ, ofZ}
+use mir.Facts.{toZ-ofZ, toZ-pos}
+use Rattle.integers.specs.Linear.{lin, arithZ, Within}
+use Rattle.integers.specs.Product.{abs, natAbs-≤, within}
+use Rattle.integers.specs.Machine.{op-fits, prod-fits}
+use Rattle.integers.specs.Sum.{sumTo}
+
+-- ---- an answer and its size
+pub sized : {n : ℕ} {r s : ℤ} → r ≡ s → Within n s → (r ≡ s) × Within n r
+sized {n} e h = (e, subst (Within n) (sym e) h)
+
+pub abs-within : (n : ℕ) (x : ℤ) → Within n x → Within n (abs x)
+abs-within n x h = within n (abs x) (natAbs-≤ x n h)
+
+pub wider : (m n : ℕ) (x : ℤ) → m ≤ n → Within m x → Within n x
+wider m n x h w = record { hi = omega arith; lo = omega arith }
+
+pub pos-within : (n k : ℕ) → k ≤ n → Within n (pos k)
+pos-within n k h = record { hi = h; lo = omega arith }
+
+-- ---- negated
+zero-less : (x : ℤ) → pos 0 -ℤ x ≡ negℤ x
+zero-less x = simp lin (omega arithZ)
+
+opposite-fits : (n : ℕ) (x : ℤ) → n < 2 ^ 63 → Within n x → SFits w64 (pos 0 -ℤ x)
+opposite-fits n x = simp lin (omega arithZ)
+
+-- y is what the machine reads back from the bits of x
+module _ (x y : ℤ) (e : y ≡ x) where
+  pub neg-fits : (n : ℕ) → Within n x → n < 2 ^ 63 → SFits w64 (pos 0 -ℤ y)
+  neg-fits n w h = subst (λ z. SFits w64 (pos 0 -ℤ z)) (sym e) (opposite-fits n x h w)
+
+  pub neg-reads : SFits w64 (pos 0 -ℤ y) → toZ w64 (ofZ w64 (pos 0 -ℤ y)) ≡ negℤ x
+  neg-reads g = toZ-ofZ g ∙ ap (λ z. pos 0 -ℤ z) e ∙ zero-less x
+
+-- ---- a size times a number
+module _ (m n k : ℕ) (x : ℤ) (f : SFits w64 x) (hk : k ≤ m) (small : m < 2 ^ 63) where
+  pub product-fits : m * n < 2 ^ 63 → Within n x → SFits w64 (toZ w64 k *ℤ toZ w64 (ofZ w64 x))
+  product-fits room w = op-fits w64 _*ℤ_ (toZ-pos w64 (omega arith)) (toZ-ofZ f) (prod-fits w64 m n (pos k) x room (pos-within m k hk) w)
+
+  pub product-reads : SFits w64 (toZ w64 k *ℤ toZ w64 (ofZ w64 x)) → toZ w64 (ofZ w64 (toZ w64 k *ℤ toZ w64 (ofZ w64 x))) ≡ pos k *ℤ x
+  product-reads g = toZ-ofZ g ∙ ap₂ _*ℤ_ (toZ-pos w64 (omega arith)) (toZ-ofZ f)
+
+-- ---- two numbers
+module _ (m n : ℕ) (x y : ℤ) (f : SFits w64 x) (g : SFits w64 y) (room : m + n < 2 ^ 63) (hx : Within m x) (hy : Within n y) where
+  plus-plain : (x y : ℤ) → Within m x → Within n y → SFits w64 (x +ℤ y) × SFits w64 (x -ℤ y)
+  plus-plain x y = simp lin (omega arithZ)
+
+  pub plus-fits : SFits w64 (toZ w64 (ofZ w64 x) +ℤ toZ w64 (ofZ w64 y))
+  plus-fits = op-fits w64 _+ℤ_ (toZ-ofZ f) (toZ-ofZ g) (plus-plain x y hx hy .0)
+
+  pub plus-reads : toZ w64 (ofZ w64 (toZ w64 (ofZ w64 x) +ℤ toZ w64 (ofZ w64 y))) ≡ x +ℤ y
+  plus-reads = toZ-ofZ plus-fits ∙ ap₂ _+ℤ_ (toZ-ofZ f) (toZ-ofZ g)
+
+  pub less-fits : SFits w64 (toZ w64 (ofZ w64 x) -ℤ toZ w64 (ofZ w64 y))
+  less-fits = op-fits w64 _-ℤ_ (toZ-ofZ f) (toZ-ofZ g) (plus-plain x y hx hy .1)
+
+  pub less-reads : toZ w64 (ofZ w64 (toZ w64 (ofZ w64 x) -ℤ toZ w64 (ofZ w64 y))) ≡ x -ℤ y
+  less-reads = toZ-ofZ less-fits ∙ ap₂ _-ℤ_ (toZ-ofZ f) (toZ-ofZ g)
+
+pub plus-within : (m n : ℕ) (x y : ℤ) → Within m x → Within n y → Within (m + n) (x +ℤ y)
+plus-within m n x y = simp lin (omega arithZ)
+
+-- ---- a sum of k numbers, each between −b and b, in the bits t
+abbrev pub Summed : ℕ → ℕ → ℕ → ℤ → Type 0
+Summed b k t s = (toZ w64 t ≡ s) × Within (b * k) (toZ w64 t)
+
+add-fits : (b k : ℕ) (t x : ℤ) → b * (k + 1) < 2 ^ 63 → Within (b * k) t → Within b x → SFits w64 (t +ℤ x)
+add-fits b k t x = simp lin (omega arithZ)
+
+add-within : (b k : ℕ) (t x : ℤ) → Within (b * k) t → Within b x → Within (b * (k + 1)) (t +ℤ x)
+add-within b k t x = simp lin (omega arithZ)
+
+module _ (b k t : ℕ) (x s : ℤ) (f : SFits w64 x) (room : b * (k + 1) < 2 ^ 63) (h : Summed b k t s) (w : Within b x) where
+  pub summed-fits : SFits w64 (toZ w64 t +ℤ toZ w64 (ofZ w64 x))
+  summed-fits = subst (λ z. SFits w64 (toZ w64 t +ℤ z)) (sym (toZ-ofZ f)) (add-fits b k (toZ w64 t) x room (h .1) w)
+
+  reads : toZ w64 (ofZ w64 (toZ w64 t +ℤ toZ w64 (ofZ w64 x))) ≡ toZ w64 t +ℤ x
+  reads = toZ-ofZ summed-fits ∙ ap (λ z. toZ w64 t +ℤ z) (toZ-ofZ f)
+
+  pub summed-more : (s′ : ℤ) → s′ ≡ s +ℤ x → Summed b (k + 1) (ofZ w64 (toZ w64 t +ℤ toZ w64 (ofZ w64 x))) s′
+  summed-more s′ e = (reads ∙ ap (λ z. z +ℤ x) (h .0) ∙ sym e, subst (Within (b * (k + 1))) (sym reads) (add-within b k (toZ w64 t) x (h .1) w))
+
+pub summed-none : (b : ℕ) → Summed b 0 0 (pos 0)
+summed-none b = (refl, record { hi = omega arith; lo = omega arith })
+
+pub sum-next : (f : ℕ → ℤ) (k : ℕ) → sumTo (k + 1) f ≡ sumTo k f +ℤ f k
+sum-next f k = ap (λ n. sumTo n f) (add-one k)

@@ -1,0 +1,42 @@
+-- `agreement` meets its contract: a refused file, or its n. Assumes nothing.
+use mathlib.Core.Path.{sym, _∙_, ap}
+use borrow.Author.Needs.{needs}
+use Rattle.rules.proofs.Tables.{file-sound}
+use Rattle.table.specs.Reply.{numbered}
+use Rattle.table.proofs.AcceptedLaws.{Readable, readable, refused-is}
+use Rattle.judge.proofs.StageLaws.{agreement-none, agreement-table}
+use Rattle.judge.proofs.agreement.Statement.{statement}
+use Rattle.judge.proofs.agreement.Tie as tie
+
+check-requires : tie.Need-check-requires
+check-requires c κs = search needs
+
+enum-known-answer : tie.Need-enum-known-answer
+enum-known-answer c = search needs
+
+enum-known-answer-2 : tie.Need-enum-known-answer-2
+enum-known-answer-2 c = search needs
+
+-- the file was accepted
+accepted : (c : tie.After-known-told2) → Readable (c .before .before .before .before .before .before .args .code .now) (c .before .answer2 .given .0 .0) (c .before .answer2 .given .0 .1 .0) (c .before .answer2 .given .0 .1 .1 .0)
+accepted c = readable _ _ _ _ (ap numbered (sym (c .before .answer2 .given .1)) ∙ c .before .before .before .check .ensures)
+
+agreement-table-requires : tie.Need-agreement-table-requires
+agreement-table-requires c κs = file-sound (c .before .before .before .before .before .before .args .code .now) _ (accepted c .table) .bits .1
+
+returns : tie.Need-returns
+returns c = agreement-none (c .before .before .before .before .before .before .args .code .now) _ (refused-is _ _ (ap numbered (sym (c .before .answer .given .1)) ∙ c .before .before .before .check .ensures)) (c .before .before .before .before .before .before .args .frame .now) (c .before .before .before .before .before .before .args .word .now)
+
+returns-2 : tie.Need-returns-2
+returns-2 c = c .agreement-table .ensures ∙ agreement-table (c .before .before .before .before .before .before .before .args .code .now) _ (accepted (c .before) .table) (c .before .before .before .before .before .before .before .args .frame .now) (c .before .before .before .before .before .before .before .args .word .now)
+
+pub agreement-spec : {M : Type 1} → statement M
+agreement-spec =
+    tie.close
+    (tie.spec
+    check-requires
+    enum-known-answer
+    enum-known-answer-2
+    agreement-table-requires
+    returns
+    returns-2)

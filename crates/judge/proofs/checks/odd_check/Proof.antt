@@ -1,0 +1,72 @@
+-- `odd_check` meets its contract: the sum so far and the members from k on decide. Assumes nothing.
+use mathlib.Core.Path.{_≡_, refl}
+use Prim.Native.Nat.{_-_, _≤_}
+use native.Mathlib.Omega.{arith}
+use lib.ListN.{length, drop}
+use borrow.Author.Needs.{needs}
+use Rattle.rules.specs.Table.{bitsAt}
+use Rattle.rules.specs.Parity.{_⊕_, odd}
+use Rattle.rules.specs.Input.{bitsOf}
+use Rattle.judge.proofs.CheckLaws.{member-below, odd-more, odd-end}
+use Rattle.judge.proofs.checks.odd_check.Statement.{statement}
+use Rattle.judge.proofs.checks.odd_check.Tie as tie
+
+abbrev Inv-loop : tie.InvT-loop
+Inv-loop word members sum₀ k₀ sum k = (k ≤ length members) × (sum ⊕ odd (bitsAt (bitsOf word) (drop k members)) ≡ odd (bitsAt (bitsOf word) members))
+
+abbrev μ-loop : tie.MeasureT-loop
+μ-loop word members sum₀ k₀ sum k = length members - k
+
+loop-holds : tie.Need-loop-holds Inv-loop μ-loop
+loop-holds c = (omega arith, refl)
+
+mul-i : tie.Need-mul-i Inv-loop μ-loop
+mul-i c = search needs
+
+shared-slice-read-i : tie.Need-shared-slice-read-i Inv-loop μ-loop
+shared-slice-read-i c = search needs
+
+cast-i : tie.Need-cast-i Inv-loop μ-loop
+cast-i c = omega (arith, c .shared-slice-known3 .given (c .before .before .loop .k))
+
+shared-slice-read-flipped : tie.Need-shared-slice-read-flipped Inv-loop μ-loop
+shared-slice-read-flipped c =
+    let start = c .before .before .before .before .before .before in
+    member-below (length (start .args .word .now)) (start .args .members .now) (c .before .before .before .loop .k) (start .pre) (c .before .before .loop-test .taken)
+
+flipped-requires : tie.Need-flipped-requires Inv-loop μ-loop
+flipped-requires c κs = tt
+
+add-k : tie.Need-add-k Inv-loop μ-loop
+add-k c = omega arith
+
+loop-less : tie.Need-loop-less Inv-loop μ-loop
+loop-less c = omega arith
+
+loop-again : tie.Need-loop-again Inv-loop μ-loop
+loop-again c =
+    let args = c .before .before .before .before .before .before .before .args in
+    let loop = c .before .before .before .before .loop in
+    (omega arith, odd-more (args .word .now) (args .members .now) (loop .k) (loop .sum) (c .flipped .result) (c .before .before .before .loop-test .taken) (c .flipped .ensures) (loop .inv .1))
+
+returns : tie.Need-returns Inv-loop μ-loop
+returns c =
+    let args = c .before .before .before .before .args in
+    odd-end (args .word .now) (args .members .now) (c .before .loop .k) (c .before .loop .sum) (c .loop-test .left) (c .before .loop .inv .1)
+
+pub odd-check-spec : {M : Type 1} → statement M
+odd-check-spec =
+    tie.close
+    (tie.spec
+    Inv-loop
+    μ-loop
+    loop-holds
+    mul-i
+    shared-slice-read-i
+    cast-i
+    shared-slice-read-flipped
+    flipped-requires
+    add-k
+    loop-less
+    loop-again
+    returns)

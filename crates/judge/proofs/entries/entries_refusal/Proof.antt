@@ -1,0 +1,67 @@
+-- `entries_refusal` meets its contract: the entries from k on decide. Assumes nothing.
+use mathlib.Core.Path.{_≡_, sym, _∙_, ap}
+use Prim.Native.Nat.{_-_, _≤_, _+_}
+use native.Mathlib.Omega.{arith}
+use Rattle.rules.specs.Certificate.{itemsAt}
+use Rattle.judge.specs.Held.{degreeAt}
+use Rattle.judge.specs.Refusals.{beforeAt, orElse, itemsRefusal}
+use Rattle.judge.proofs.RefusalLaws.{else-refused, else-next, items-more, items-end, items-all}
+use Rattle.judge.proofs.entries.entries_refusal.Statement.{statement}
+use Rattle.judge.proofs.entries.entries_refusal.Tie as tie
+
+abbrev Inv-loop : tie.InvT-loop
+Inv-loop starts m bytes q k₀ k =
+    (k ≤ q)
+    × (itemsRefusal m (degreeAt starts) (beforeAt bytes q 0) (itemsAt bytes q 0 q) ≡ itemsRefusal m (degreeAt starts) (beforeAt bytes q k) (itemsAt bytes q k (q - k)))
+
+abbrev μ-loop : tie.MeasureT-loop
+μ-loop starts m bytes q k₀ k = q - k
+
+loop-holds : tie.Need-loop-holds Inv-loop μ-loop
+loop-holds c = (omega arith, sym (items-all (c .before .before .args .m) (degreeAt (c .before .before .args .starts .now)) (c .before .before .args .bytes .now) (c .before .before .args .q)))
+
+entry-refusal-requires : tie.Need-entry-refusal-requires Inv-loop μ-loop
+entry-refusal-requires c κs = (c .before .before .before .before .pre .0, record { long = c .before .before .before .before .pre .1; inside = c .loop-test .taken })
+
+returns : tie.Need-returns Inv-loop μ-loop
+returns c =
+    let args = c .before .before .before .before .before .before .args in
+    let rest = itemsRefusal (args .m) (degreeAt (args .starts .now)) (beforeAt (args .bytes .now) (args .q) (c .before .before .before .loop .k + 1)) (itemsAt (args .bytes .now) (args .q) (c .before .before .before .loop .k + 1) (args .q - (c .before .before .before .loop .k + 1))) in
+    sym (c .before .before .before .loop .inv .1
+    ∙ items-more (args .m) (degreeAt (args .starts .now)) (args .bytes .now) (args .q) (c .before .before .before .loop .k) (c .before .before .loop-test .taken)
+    ∙ ap (λ r. orElse r rest) (sym (c .before .entry-refusal .ensures))
+    ∙ else-refused (c .before .entry-refusal .result) rest (c .if1 .taken))
+
+add-k : tie.Need-add-k Inv-loop μ-loop
+add-k c = omega arith
+
+loop-less : tie.Need-loop-less Inv-loop μ-loop
+loop-less c = omega arith
+
+loop-again : tie.Need-loop-again Inv-loop μ-loop
+loop-again c =
+    let args = c .before .before .before .before .before .before .args in
+    let rest = itemsRefusal (args .m) (degreeAt (args .starts .now)) (beforeAt (args .bytes .now) (args .q) (c .before .before .before .loop .k + 1)) (itemsAt (args .bytes .now) (args .q) (c .before .before .before .loop .k + 1) (args .q - (c .before .before .before .loop .k + 1))) in (
+      omega arith,
+      c .before .before .before .loop .inv .1
+          ∙ items-more (args .m) (degreeAt (args .starts .now)) (args .bytes .now) (args .q) (c .before .before .before .loop .k) (c .before .before .loop-test .taken)
+          ∙ ap (λ r. orElse r rest) (sym (c .before .entry-refusal .ensures))
+          ∙ else-next (c .before .entry-refusal .result) rest (c .if1 .left),
+    )
+
+returns-2 : tie.Need-returns-2 Inv-loop μ-loop
+returns-2 c = sym (c .before .loop .inv .1 ∙ items-end (c .before .before .before .before .args .m) (degreeAt (c .before .before .before .before .args .starts .now)) (c .before .before .before .before .args .bytes .now) (c .before .before .before .before .args .q) (c .before .loop .k) (c .loop-test .left))
+
+pub entries-refusal-spec : {M : Type 1} → statement M
+entries-refusal-spec =
+    tie.close
+    (tie.spec
+    Inv-loop
+    μ-loop
+    loop-holds
+    entry-refusal-requires
+    returns
+    add-k
+    loop-less
+    loop-again
+    returns-2)

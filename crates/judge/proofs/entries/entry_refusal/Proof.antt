@@ -1,0 +1,91 @@
+-- `entry_refusal` meets its contract: each return has the tests that led there. Assumes nothing.
+use mathlib.Core.Path.{refl, sym, _∙_}
+use native.Mathlib.Omega.{arith}
+use borrow.Author.Tests.{not-true, not-false}
+use borrow.Author.Needs.{needs}
+use Rattle.rules.specs.Certificate.{itemAt}
+use Rattle.judge.specs.Held.{degreeAt}
+use Rattle.judge.specs.Refusals.{beforeAt}
+use Rattle.judge.proofs.RefusalLaws.{entry-check, entry-multiplier, entry-mask, entry-order, entry-right}
+use Rattle.judge.proofs.entries.entry_refusal.Statement.{statement}
+use Rattle.judge.proofs.entries.entry_refusal.Tie as tie
+
+check-at-requires : tie.Need-check-at-requires
+check-at-requires c κs = search needs
+
+returns : tie.Need-returns
+returns c =
+    let args = c .before .before .before .before .args in
+    entry-check (args .m) (degreeAt (args .starts .now)) (beforeAt (args .bytes .now) (args .q) (args .k)) (itemAt (args .bytes .now) (args .q) (args .k)) (c .before .check-at .result) _ (c .before .check-at .ensures .0) refl (c .if1 .taken)
+
+multiplier-at-requires : tie.Need-multiplier-at-requires
+multiplier-at-requires c κs = search needs
+
+cast-in-range : tie.Need-cast-in-range
+cast-in-range c = search needs
+
+in-range-requires : tie.Need-in-range-requires
+in-range-requires c κs = tt
+
+returns-2 : tie.Need-returns-2
+returns-2 c =
+    let args = c .before .before .before .before .before .before .before .args in
+    entry-multiplier (args .m) (degreeAt (args .starts .now)) (beforeAt (args .bytes .now) (args .q) (args .k)) (itemAt (args .bytes .now) (args .q) (args .k))
+    (c .before .before .before .before .check-at .result) (c .before .before .multiplier-at .result) (c .before .before .before .before .check-at .ensures .0) (c .before .before .multiplier-at .ensures) (c .before .before .before .if1 .left)
+    (sym (c .before .in-range .ensures) ∙ not-true _ (c .if2 .taken))
+
+degree-requires : tie.Need-degree-requires
+degree-requires c κs =
+    let start = c .before .before .before .before .before .before .before .pre .0 (c .before .before .before .before .check-at .result) (c .before .before .before .if1 .left) in
+    (start .room, start .order)
+
+mask-at-requires : tie.Need-mask-at-requires
+mask-at-requires c κs = search needs
+
+mask-right-requires : tie.Need-mask-right-requires
+mask-right-requires c κs = omega (arith, c .before .degree .ensures, c .before .before .before .before .before .before .before .before .before .pre .0 (c .before .before .before .before .before .before .check-at .result) (c .before .before .before .before .before .if1 .left) .degree)
+
+returns-3 : tie.Need-returns-3
+returns-3 c =
+    let args = c .before .before .before .before .before .before .before .before .before .before .before .args in
+    entry-mask (args .m) (degreeAt (args .starts .now)) (beforeAt (args .bytes .now) (args .q) (args .k)) (itemAt (args .bytes .now) (args .q) (args .k))
+    (c .before .before .before .before .before .before .before .before .check-at .result) (c .before .before .before .before .before .before .multiplier-at .result) (c .before .before .before .before .before .before .before .before .check-at .ensures .0) (c .before .before .before .before .before .before .multiplier-at .ensures) (c .before .before .before .before .before .before .before .if1 .left)
+    (sym (c .before .before .before .before .before .in-range .ensures) ∙ not-false _ (c .before .before .before .before .if2 .left)) (c .before .before .mask-at .result) (c .before .before .before .degree .result) (c .before .before .mask-at .ensures) (c .before .before .before .degree .ensures)
+    (sym (c .before .mask-right .ensures) ∙ not-true _ (c .if3 .taken))
+
+ordered-requires : tie.Need-ordered-requires
+ordered-requires c κs = search needs
+
+returns-4 : tie.Need-returns-4
+returns-4 c =
+    let args = c .before .before .before .before .before .before .before .before .before .before .before .before .before .args in
+    entry-order (args .m) (degreeAt (args .starts .now)) (beforeAt (args .bytes .now) (args .q) (args .k)) (itemAt (args .bytes .now) (args .q) (args .k))
+    (c .before .before .before .before .before .before .before .before .before .before .check-at .result) (c .before .before .before .before .before .before .before .before .multiplier-at .result) (c .before .before .before .before .before .before .before .before .before .before .check-at .ensures .0) (c .before .before .before .before .before .before .before .before .multiplier-at .ensures) (c .before .before .before .before .before .before .before .before .before .if1 .left)
+    (sym (c .before .before .before .before .before .before .before .in-range .ensures) ∙ not-false _ (c .before .before .before .before .before .before .if2 .left)) (c .before .before .before .before .mask-at .result) (c .before .before .before .before .before .degree .result) (c .before .before .before .before .mask-at .ensures) (c .before .before .before .before .before .degree .ensures)
+    (sym (c .before .before .before .mask-right .ensures) ∙ not-false _ (c .before .before .if3 .left)) (sym (c .before .ordered .ensures) ∙ not-true _ (c .if4 .taken))
+
+returns-5 : tie.Need-returns-5
+returns-5 c =
+    let args = c .before .before .before .before .before .before .before .before .before .before .before .before .before .args in
+    entry-right (args .m) (degreeAt (args .starts .now)) (beforeAt (args .bytes .now) (args .q) (args .k)) (itemAt (args .bytes .now) (args .q) (args .k))
+    (c .before .before .before .before .before .before .before .before .before .before .check-at .result) (c .before .before .before .before .before .before .before .before .multiplier-at .result) (c .before .before .before .before .before .before .before .before .before .before .check-at .ensures .0) (c .before .before .before .before .before .before .before .before .multiplier-at .ensures) (c .before .before .before .before .before .before .before .before .before .if1 .left)
+    (sym (c .before .before .before .before .before .before .before .in-range .ensures) ∙ not-false _ (c .before .before .before .before .before .before .if2 .left)) (c .before .before .before .before .mask-at .result) (c .before .before .before .before .before .degree .result) (c .before .before .before .before .mask-at .ensures) (c .before .before .before .before .before .degree .ensures)
+    (sym (c .before .before .before .mask-right .ensures) ∙ not-false _ (c .before .before .if3 .left)) (sym (c .before .ordered .ensures) ∙ not-false _ (c .if4 .left))
+
+pub entry-refusal-spec : {M : Type 1} → statement M
+entry-refusal-spec =
+    tie.close
+    (tie.spec
+    check-at-requires
+    returns
+    multiplier-at-requires
+    cast-in-range
+    in-range-requires
+    returns-2
+    degree-requires
+    mask-at-requires
+    mask-right-requires
+    returns-3
+    ordered-requires
+    returns-4
+    returns-5)

@@ -1,0 +1,59 @@
+-- `ordered` meets its contract: the first entry follows none, each later one the entry before it. Assumes nothing.
+use borrow.Author.Needs.{needs}
+use Rattle.rules.specs.Certificate.{itemAt}
+use Rattle.judge.proofs.RefusalLaws.{follows-first, follows-check, follows-mask, follows-less}
+use Rattle.judge.proofs.entries.ordered.Statement.{statement}
+use Rattle.judge.proofs.entries.ordered.Tie as tie
+
+returns : tie.Need-returns
+returns c = follows-first (c .before .before .args .bytes .now) (c .before .before .args .q) (c .before .before .args .k) (itemAt (c .before .before .args .bytes .now) (c .before .before .args .q) (c .before .before .args .k)) (c .if1 .taken)
+
+sub-check-at : tie.Need-sub-check-at
+sub-check-at c = search needs
+
+check-at-requires : tie.Need-check-at-requires
+check-at-requires c κs = search needs
+
+check-at-requires-2 : tie.Need-check-at-requires-2
+check-at-requires-2 c κs = search needs
+
+returns-2 : tie.Need-returns-2
+returns-2 c =
+    follows-check (c .before .before .before .before .before .args .bytes .now) (c .before .before .before .before .before .args .q) (c .before .before .before .before .before .args .k) (c .before .before .check-at .result) (c .before .check-at2 .result) (itemAt (c .before .before .before .before .before .args .bytes .now) (c .before .before .before .before .before .args .q) (c .before .before .before .before .before .args .k))
+    (c .before .before .before .if1 .left) (c .before .before .check-at .ensures .0) (c .before .check-at2 .ensures .0) (c .if2 .taken)
+
+sub-mask-at : tie.Need-sub-mask-at
+sub-mask-at c = search needs
+
+mask-at-requires : tie.Need-mask-at-requires
+mask-at-requires c κs = search needs
+
+mask-at-requires-2 : tie.Need-mask-at-requires-2
+mask-at-requires-2 c κs = search needs
+
+returns-3 : tie.Need-returns-3
+returns-3 c =
+    let args = c .before .before .before .before .before .before .before .before .args in
+    follows-mask (args .bytes .now) (args .q) (args .k) (c .before .before .before .before .before .check-at .result) (c .before .before .before .before .check-at2 .result) (itemAt (args .bytes .now) (args .q) (args .k))
+    (c .before .before .before .before .before .before .if1 .left) (c .before .before .before .before .before .check-at .ensures .0) (c .before .before .before .before .check-at2 .ensures .0)
+    (c .before .mask-at .result) (c .mask-at2 .result) (c .before .before .before .if2 .left) (c .before .before .if3 .taken) (c .before .mask-at .ensures) (c .mask-at2 .ensures)
+
+returns-4 : tie.Need-returns-4
+returns-4 c =
+    follows-less (c .before .before .before .before .before .before .args .bytes .now) (c .before .before .before .before .before .before .args .q) (c .before .before .before .before .before .before .args .k) (c .before .before .before .check-at .result) (c .before .before .check-at2 .result) (itemAt (c .before .before .before .before .before .before .args .bytes .now) (c .before .before .before .before .before .before .args .q) (c .before .before .before .before .before .before .args .k))
+    (c .before .before .before .before .if1 .left) (c .before .before .before .check-at .ensures .0) (c .before .before .check-at2 .ensures .0) (c .before .if2 .left) (c .if3 .left)
+
+pub ordered-spec : {M : Type 1} → statement M
+ordered-spec =
+    tie.close
+    (tie.spec
+    returns
+    sub-check-at
+    check-at-requires
+    check-at-requires-2
+    returns-2
+    sub-mask-at
+    mask-at-requires
+    mask-at-requires-2
+    returns-3
+    returns-4)

@@ -1,0 +1,49 @@
+-- `refusal_of` meets its contract: each return has the tests that led there. Assumes nothing.
+use mathlib.Core.Path.{sym, _∙_, ap, ap₂}
+use Rattle.inputs.specs.Refusals.{wordRefusal}
+use Rattle.judge.proofs.RefusalLaws.{else-refused, else-next}
+use Rattle.judge.specs.Held.{degreeAt}
+use Rattle.judge.specs.Refusals.{orElse, certificateRefusal}
+use Rattle.judge.proofs.stages.refusal_of.Statement.{statement}
+use Rattle.judge.proofs.stages.refusal_of.Tie as tie
+
+frame-requires : tie.Need-frame-requires
+frame-requires c κs = tt
+
+returns : tie.Need-returns
+returns c =
+    let args = c .before .before .before .before .before .args in
+    let rest = orElse (wordRefusal (args .n) (args .word .now)) (certificateRefusal (args .m) (degreeAt (args .starts .now)) (args .certificate .now)) in
+    sym (ap (λ k. orElse k rest) (sym (c .before .frame .ensures)) ∙ else-refused (c .before .frame .result) rest (c .if1 .taken))
+
+word-requires : tie.Need-word-requires
+word-requires c κs = tt
+
+returns-2 : tie.Need-returns-2
+returns-2 c =
+    let args = c .before .before .before .before .before .before .before .args in
+    let last = certificateRefusal (args .m) (degreeAt (args .starts .now)) (args .certificate .now) in
+    sym (ap₂ (λ j k. orElse j (orElse k last)) (sym (c .before .before .before .frame .ensures)) (sym (c .before .word .ensures))
+    ∙ else-next (c .before .before .before .frame .result) (orElse (c .before .word .result) last) (c .before .before .if1 .left) ∙ else-refused (c .before .word .result) last (c .if2 .taken))
+
+certificate-refusal-requires : tie.Need-certificate-refusal-requires
+certificate-refusal-requires c κs = c .before .before .before .before .before .before .before .pre
+
+returns-3 : tie.Need-returns-3
+returns-3 c =
+    let args = c .before .before .before .before .before .before .before .before .args in
+    let last = certificateRefusal (args .m) (degreeAt (args .starts .now)) (args .certificate .now) in
+    c .certificate-refusal .ensures
+    ∙ sym (ap₂ (λ j k. orElse j (orElse k last)) (sym (c .before .before .before .before .frame .ensures)) (sym (c .before .before .word .ensures))
+    ∙ else-next (c .before .before .before .before .frame .result) (orElse (c .before .before .word .result) last) (c .before .before .before .if1 .left) ∙ else-next (c .before .before .word .result) last (c .before .if2 .left))
+
+pub refusal-of-spec : {M : Type 1} → statement M
+refusal-of-spec =
+    tie.close
+    (tie.spec
+    frame-requires
+    returns
+    word-requires
+    returns-2
+    certificate-refusal-requires
+    returns-3)

@@ -1,0 +1,5 @@
+pub mod Held
+pub mod Refusals
+pub mod Rows
+pub mod Stages
+pub mod Reply

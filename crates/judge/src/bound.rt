@@ -1,0 +1,194 @@
+// Reduced numbers, bound and gap. Each entry is put on its check's members, so the work is linear in
+// the edges that the certificate names.
+use super::entries::check_at;
+use super::entries::mask_at;
+use super::entries::multiplier_at;
+use super::numbers::u16_at;
+use super::starts::start_at;
+use super::sums::agreement_sum;
+use super::sums::wide;
+use table::limits::MAX_BITS;
+ghost use mathlib.Core.Path.{_≡_};
+ghost use Prim.Native.Nat.{ℕ, _%_, _*_, _≤_, _<_};
+ghost use lib.Dec.{eqb};
+ghost use lib.ListN.{length};
+ghost use lib.IntN.{pos, _*ℤ_, _-ℤ_};
+ghost use Rattle.integers.specs.Linear.{Within};
+ghost use Rattle.integers.specs.Product.{abs};
+ghost use Rattle.integers.specs.Sum.{sumTo};
+ghost use Rattle.rules.specs.Limits.{maxBits, maxDegree, maxScale, maxMultiplier};
+ghost use Rattle.rules.specs.Table.{at};
+ghost use Rattle.rules.specs.Parity.{side};
+ghost use Rattle.rules.specs.Mask.{setOf};
+ghost use Rattle.rules.specs.Input.{bitsOf};
+ghost use Rattle.rules.specs.Bound.{weights, price, bound, gap};
+ghost use Rattle.rules.specs.Certificate.{itemAt, itemsAt, entriesOf, scaleOf, itemsOf};
+ghost use Rattle.rules.proofs.Duality.{Below};
+ghost use Rattle.judge.specs.Refusals.{Listed};
+ghost use Rattle.judge.specs.Rows.{frameSize, scaledLimit, sizeLimit, boundLimit, Scaled, scatter, scatterRow, scatterRows, rowPrice, rowIn, rowsIn, Placed, AllPlaced};
+
+// "S times l."
+pub(crate) fn times(scale: usize, x: i64) -> i64
+    requires { ⌜ (scale ≤ maxScale) × Within (maxBits * frameSize) x ⌝ }
+    ensures { λ r. ⌜ (r ≡ pos scale *ℤ x) × Within (maxScale * (maxBits * frameSize)) r ⌝ }
+{
+    (scale as i64) * x
+}
+
+// The reduced numbers before any entry.
+pub(crate) fn scale_frame(reduced: &mut [i64], frame: &[i16], scale: usize)
+    requires { ⌜ (length (now reduced) ≡ length (now frame)) × (scale ≤ maxScale) ⌝ }
+    ensures { λ _. ⌜ ((i : ℕ) → i < length (now (frame .entry)) → Scaled scale (now (frame .entry)) (now (reduced .exit)) i) ⌝ }
+{
+    let mut i: usize = 0;
+    while i < frame.len() {
+        reduced[i] = times(scale, wide(frame[i]));
+        i += 1;
+    }
+}
+
+// A multiplier, with the sign that the mask's lowest bit gives it.
+pub(crate) fn weight(multiplier: u32, mask: u32) -> i64
+    ensures { λ r. ⌜ r ≡ side (eqb (mask % 2) 1) (pos multiplier) ⌝ }
+{
+    if mask % 2 == 1 {
+        multiplier as i64
+    } else {
+        -(multiplier as i64)
+    }
+}
+
+// One multiplier on its check's members: "plus each multiplier whose mask holds the bit, minus each
+// multiplier whose check holds the bit and whose mask doesn't".
+pub(crate) fn put_on(reduced: &mut [i64], members: &[u16], multiplier: u32, mask: u32)
+    requires { ⌜ Below (length (now reduced)) (now members) × (length (now members) ≤ maxDegree) × (multiplier ≤ maxMultiplier)
+        × ((i : ℕ) → Within sizeLimit (at (now reduced) i)) ⌝ }
+    ensures { λ _. ⌜ now (reduced .exit) ≡ scatter (now (members .entry)) (weights multiplier (setOf (length (now (members .entry))) mask)) (now (reduced .entry)) ⌝ }
+{
+    let mut left = mask;
+    let mut k: usize = 0;
+    while k < members.len() {
+        let i = members[k] as usize;
+        let w = weight(multiplier, left);
+        reduced[i] = reduced[i] + w;
+        left = left / 2;
+        k += 1;
+    }
+}
+
+// "Each multiplier times (d − 2)."
+pub(crate) fn entry_price(multiplier: u32, d: usize) -> i64
+    requires { ⌜ (multiplier ≤ maxMultiplier) × (d ≤ maxDegree) ⌝ }
+    ensures { λ r. ⌜ r ≡ pos multiplier *ℤ (pos d -ℤ pos 2) ⌝ }
+{
+    (multiplier as i64) * (d as i64 - 2)
+}
+
+// Entry k put on its check's members. The answer is its price, the multiplier times (d − 2).
+pub(crate) fn put_entry(
+    reduced: &mut [i64],
+    starts: &[u16],
+    members: &[u16],
+    bytes: &[u8],
+    q: usize,
+    k: usize,
+) -> i64
+    requires { ⌜ Listed (now bytes) q k × Placed (length (now reduced)) (now starts) (now members) (itemAt (now bytes) q k)
+        × ((i : ℕ) → Within sizeLimit (at (now reduced) i)) ⌝ }
+    ensures { λ r. ⌜ (r ≡ rowPrice (rowIn (now (starts .entry)) (now (members .entry)) (itemAt (now (bytes .entry)) q k)))
+        × (now (reduced .exit) ≡ scatterRow (rowIn (now (starts .entry)) (now (members .entry)) (itemAt (now (bytes .entry)) q k)) (now (reduced .entry))) ⌝ }
+{
+    let check = check_at(bytes, q, k);
+    let multiplier = multiplier_at(bytes, q, k);
+    let mask = mask_at(bytes, q, k);
+    let a = start_at(starts, check);
+    let e = start_at(starts, check + 1);
+    put_on(reduced, &members[a..e], multiplier, mask);
+    entry_price(multiplier, e - a)
+}
+
+// All q entries put on. The answer is the sum of their prices.
+pub(crate) fn put_entries(
+    reduced: &mut [i64],
+    starts: &[u16],
+    members: &[u16],
+    bytes: &[u8],
+    q: usize,
+) -> i64
+    requires { ⌜ AllPlaced (length (now reduced)) (now starts) (now members) (now bytes) q × ((i : ℕ) → Within scaledLimit (at (now reduced) i)) ⌝ }
+    ensures { λ r. ⌜ (r ≡ price (rowsIn (now (starts .entry)) (now (members .entry)) (itemsAt (now (bytes .entry)) q 0 q))) × Within sizeLimit r
+        × (now (reduced .exit) ≡ scatterRows (rowsIn (now (starts .entry)) (now (members .entry)) (itemsAt (now (bytes .entry)) q 0 q)) (now (reduced .entry)))
+        × ((i : ℕ) → Within sizeLimit (at (now (reduced .exit)) i)) ⌝ }
+{
+    let mut total: i64 = 0;
+    let mut k: usize = 0;
+    while k < q {
+        total += put_entry(reduced, starts, members, bytes, q, k);
+        k += 1;
+    }
+    total
+}
+
+// "Absolute r."
+pub(crate) fn size(x: i64) -> i64
+    requires { ⌜ Within sizeLimit x ⌝ }
+    ensures { λ r. ⌜ (r ≡ abs x) × Within sizeLimit r ⌝ }
+{
+    if x < 0 { -x } else { x }
+}
+
+// "Sum of absolute r."
+pub(crate) fn sizes(reduced: &[i64]) -> i64
+    requires { ⌜ (length (now reduced) ≤ maxBits) × ((i : ℕ) → Within sizeLimit (at (now reduced) i)) ⌝ }
+    ensures { λ r. ⌜ (r ≡ sumTo (length (now (reduced .entry))) (λ i. abs (at (now (reduced .entry)) i))) × Within (maxBits * sizeLimit) r ⌝ }
+{
+    let mut total: i64 = 0;
+    let mut i: usize = 0;
+    while i < reduced.len() {
+        total += size(reduced[i]);
+        i += 1;
+    }
+    total
+}
+
+// "Bound B: sum of absolute r, plus each multiplier times (d − 2)." The reduced numbers are left in
+// the slice.
+pub(crate) fn bound_of(
+    reduced: &mut [i64],
+    starts: &[u16],
+    members: &[u16],
+    frame: &[i16],
+    bytes: &[u8],
+    q: usize,
+    scale: usize,
+) -> i64
+    requires { ⌜ (length (now reduced) ≡ length (now frame)) × (length (now frame) ≤ maxBits) × (scale ≤ maxScale)
+        × AllPlaced (length (now frame)) (now starts) (now members) (now bytes) q ⌝ }
+    ensures { λ r. ⌜ (r ≡ bound (length (now (frame .entry))) scale (now (frame .entry)) (rowsIn (now (starts .entry)) (now (members .entry)) (itemsAt (now (bytes .entry)) q 0 q)))
+        × Within boundLimit r ⌝ }
+{
+    scale_frame(reduced, frame, scale);
+    let price = put_entries(reduced, starts, members, bytes, q);
+    sizes(reduced) + price
+}
+
+// "Gap: B − S × agreement."
+pub(crate) fn gap_of(
+    starts: &[u16],
+    members: &[u16],
+    frame: &[i16],
+    word: &[u8],
+    bytes: &[u8],
+) -> i64
+    requires { ⌜ (length (now word) ≡ length (now frame)) × (length (now frame) ≤ maxBits) × (scaleOf (now bytes) ≤ maxScale)
+        × AllPlaced (length (now frame)) (now starts) (now members) (now bytes) (entriesOf (now bytes)) ⌝ }
+    ensures { λ r. ⌜ r ≡ gap (length (now (frame .entry))) (scaleOf (now (bytes .entry))) (now (frame .entry))
+        (rowsIn (now (starts .entry)) (now (members .entry)) (itemsOf (now (bytes .entry)))) (bitsOf (now (word .entry))) ⌝ }
+{
+    let q = u16_at(bytes, 0);
+    let scale = u16_at(bytes, 2);
+    let n = frame.len();
+    let mut reduced = [0i64; MAX_BITS];
+    let bound = bound_of(&mut reduced[..n], starts, members, frame, bytes, q, scale);
+    bound - times(scale, agreement_sum(frame, word))
+}

@@ -1,0 +1,93 @@
+// The judge of document 01, "Certificates": a code file, a frame, a word and anybody's certificate,
+// any bytes and numbers, judged; and the judge's two parts, the syndrome and the agreement.
+mod bound;
+mod checks;
+mod entries;
+pub mod limits;
+mod numbers;
+mod stages;
+mod starts;
+mod sums;
+
+use stages::agreement_table;
+use stages::judge_table;
+use stages::syndrome_table;
+use table::Checked;
+use table::limits::MAX_CHECKS;
+use table::limits::MAX_EDGES;
+ghost use mathlib.Core.Path.{_≡_};
+ghost use Rattle.rules.specs.Refusal.{replyOf};
+ghost use Rattle.rules.specs.Judge.{judgeReply, syndrome, syndromeValues, agreementOf};
+ghost use Rattle.judge.specs.Reply.{numbered, parityReply, agreedReply, agreementValues};
+
+// The judge's answer: a refusal's number, the first broken check, certified, or the gap.
+pub enum Verdict {
+    Refused(u8),
+    Broken(usize),
+    Certified,
+    Gap(i64),
+}
+
+// A word's parity checks: a refusal's number, all met, or the first broken one.
+pub enum Parity {
+    Refused(u8),
+    Met,
+    Broken(usize),
+}
+
+// A refusal's number, or the agreement.
+pub enum Agreed {
+    Refused(u8),
+    Is(i64),
+}
+
+const STARTS: usize = MAX_CHECKS + 1;
+
+// Judges a word and a certificate.
+pub fn judge(code: &[u8], frame: &[i16], word: &[u8], certificate: &[u8]) -> Verdict
+    ensures { λ r. ⌜ numbered r ≡ judgeReply (now (code .entry)) (now (frame .entry)) (now (word .entry)) (now (certificate .entry)) ⌝ }
+{
+    let mut starts = [0u16; STARTS];
+    let mut members = [0u16; MAX_EDGES];
+    let answer = table::load(code, &mut starts, &mut members);
+    match answer {
+        Checked::Refused(k) => Verdict::Refused(k),
+        Checked::Accepted {
+            bits,
+            checks,
+            edges: _,
+        } => judge_table(&starts, &members, bits, checks, frame, word, certificate),
+    }
+}
+
+// Whether a word meets all checks.
+pub fn syndrome(code: &[u8], word: &[u8]) -> Parity
+    ensures { λ r. ⌜ parityReply r ≡ replyOf syndromeValues (syndrome (now (code .entry)) (now (word .entry))) ⌝ }
+{
+    let mut starts = [0u16; STARTS];
+    let mut members = [0u16; MAX_EDGES];
+    let answer = table::load(code, &mut starts, &mut members);
+    match answer {
+        Checked::Refused(k) => Parity::Refused(k),
+        Checked::Accepted {
+            bits,
+            checks,
+            edges: _,
+        } => syndrome_table(&starts, &members, bits, checks, word),
+    }
+}
+
+// "The sum of the frame's numbers, added where the bit is 0 and subtracted where it is 1."
+pub fn agreement(code: &[u8], frame: &[i16], word: &[u8]) -> Agreed
+    ensures { λ r. ⌜ agreedReply r ≡ replyOf agreementValues (agreementOf (now (code .entry)) (now (frame .entry)) (now (word .entry))) ⌝ }
+{
+    let answer = table::check(code);
+    match answer {
+        Checked::Refused(k) => Agreed::Refused(k),
+        Checked::Accepted {
+            bits,
+            checks: _,
+            edges: _,
+        } => agreement_table(bits, frame, word),
+    }
+}

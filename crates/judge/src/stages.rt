@@ -1,0 +1,124 @@
+// The judge's answer on a table that was loaded: all refusals, then the first broken check, then the
+// gap.
+use super::Agreed;
+use super::Parity;
+use super::Verdict;
+use super::bound::gap_of;
+use super::checks::Found;
+use super::checks::first_broken;
+use super::entries::certificate_refusal;
+use super::sums::agreement_sum;
+ghost use mathlib.Core.Path.{_≡_};
+ghost use Prim.Native.Nat.{_≤_};
+ghost use Rattle.rules.specs.Limits.{maxBits};
+ghost use Rattle.rules.specs.Refusal.{gives, replyOf};
+ghost use Rattle.rules.specs.Judge.{verdictValues, syndromeValues};
+ghost use Rattle.inputs.specs.Refusals.{frameRefusal, wordRefusal};
+ghost use Rattle.judge.specs.Held.{Held, Ordered, degreeAt, tableIn};
+ghost use Rattle.judge.specs.Refusals.{orElse, certificateRefusal};
+ghost use Rattle.judge.specs.Reply.{numbered, parityReply, agreedReply, agreementValues};
+ghost use Rattle.judge.specs.Stages.{verdictOn, judgeOn, syndromeOn, agreementOn, Unrefused};
+
+// "8, 9, 15, 10, 11, entry by entry 12, 13, 14", or 0.
+pub(crate) fn refusal_of(
+    starts: &[u16],
+    n: usize,
+    m: usize,
+    frame: &[i16],
+    word: &[u8],
+    certificate: &[u8],
+) -> u8
+    requires { ⌜ Ordered m (now starts) ⌝ }
+    ensures { λ r. ⌜ r ≡ orElse (frameRefusal n (now (frame .entry))) (orElse (wordRefusal n (now (word .entry))) (certificateRefusal m (degreeAt (now (starts .entry))) (now (certificate .entry)))) ⌝ }
+{
+    let first = inputs::frame(frame, n);
+    if first != 0 {
+        return first;
+    }
+    let second = inputs::word(word, n);
+    if second != 0 {
+        return second;
+    }
+    certificate_refusal(starts, m, certificate)
+}
+
+// "The checker answers the first broken check; if none, certified for gap 0, else the gap."
+pub(crate) fn verdict_of(
+    starts: &[u16],
+    members: &[u16],
+    n: usize,
+    m: usize,
+    frame: &[i16],
+    word: &[u8],
+    certificate: &[u8],
+) -> Verdict
+    requires { ⌜ Held n m (now starts) (now members) × (n ≤ maxBits) × Unrefused n m (now starts) (now frame) (now word) (now certificate) ⌝ }
+    ensures { λ r. ⌜ numbered r ≡ replyOf verdictValues (gives (verdictOn (tableIn n m (now (starts .entry)) (now (members .entry))) (now (frame .entry)) (now (word .entry)) (now (certificate .entry)))) ⌝ }
+{
+    let found = first_broken(starts, members, m, word);
+    match found {
+        Found::At(j) => Verdict::Broken(j),
+        Found::Nothing => {
+            let gap = gap_of(starts, members, frame, word, certificate);
+            if gap == 0 {
+                return Verdict::Certified;
+            }
+            Verdict::Gap(gap)
+        }
+    }
+}
+
+pub(crate) fn judge_table(
+    starts: &[u16],
+    members: &[u16],
+    n: usize,
+    m: usize,
+    frame: &[i16],
+    word: &[u8],
+    certificate: &[u8],
+) -> Verdict
+    requires { ⌜ Held n m (now starts) (now members) × (n ≤ maxBits) ⌝ }
+    ensures { λ r. ⌜ numbered r ≡ replyOf verdictValues (judgeOn (tableIn n m (now (starts .entry)) (now (members .entry))) (now (frame .entry)) (now (word .entry)) (now (certificate .entry))) ⌝ }
+{
+    let refusal = refusal_of(starts, n, m, frame, word, certificate);
+    if refusal != 0 {
+        return Verdict::Refused(refusal);
+    }
+    verdict_of(starts, members, n, m, frame, word, certificate)
+}
+
+pub(crate) fn syndrome_table(
+    starts: &[u16],
+    members: &[u16],
+    n: usize,
+    m: usize,
+    word: &[u8],
+) -> Parity
+    requires { ⌜ Held n m (now starts) (now members) ⌝ }
+    ensures { λ r. ⌜ parityReply r ≡ replyOf syndromeValues (syndromeOn (tableIn n m (now (starts .entry)) (now (members .entry))) (now (word .entry))) ⌝ }
+{
+    let refusal = inputs::word(word, n);
+    if refusal != 0 {
+        return Parity::Refused(refusal);
+    }
+    let found = first_broken(starts, members, m, word);
+    match found {
+        Found::At(j) => Parity::Broken(j),
+        Found::Nothing => Parity::Met,
+    }
+}
+
+pub(crate) fn agreement_table(n: usize, frame: &[i16], word: &[u8]) -> Agreed
+    requires { ⌜ n ≤ maxBits ⌝ }
+    ensures { λ r. ⌜ agreedReply r ≡ replyOf agreementValues (agreementOn n (now (frame .entry)) (now (word .entry))) ⌝ }
+{
+    let first = inputs::frame(frame, n);
+    if first != 0 {
+        return Agreed::Refused(first);
+    }
+    let second = inputs::word(word, n);
+    if second != 0 {
+        return Agreed::Refused(second);
+    }
+    Agreed::Is(agreement_sum(frame, word))
+}

@@ -1,0 +1,39 @@
+-- `one_record` meets its contract: a part of the buffer is as long as the record says. Assumes nothing.
+use native.Mathlib.Omega.{arith}
+use lib.ListN.{length-take}
+use borrow.Author.Needs.{needs}
+use Rattle.judge_cases.proofs.one_record.Statement.{statement}
+use Rattle.judge_cases.proofs.one_record.Tie as tie
+
+slice-aggregate-read-part : tie.Need-slice-aggregate-read-part
+slice-aggregate-read-part c = search needs
+
+read-part-requires : tie.Need-read-part-requires
+read-part-requires c κs = search needs
+
+returns : tie.Need-returns
+returns c = search needs
+
+array-share-prefix-code : tie.Need-array-share-prefix-code
+array-share-prefix-code c = search needs
+
+slice-aggregate-with-code : tie.Need-slice-aggregate-with-code
+slice-aggregate-with-code c = simp length-take (omega arith)
+
+with-code-requires : tie.Need-with-code-requires
+with-code-requires c κs = search needs
+
+returns-2 : tie.Need-returns-2
+returns-2 c = search needs
+
+pub one-record-spec : {M : Type 1} → statement M
+one-record-spec =
+    tie.close
+    (tie.spec
+    slice-aggregate-read-part
+    read-part-requires
+    returns
+    array-share-prefix-code
+    slice-aggregate-with-code
+    with-code-requires
+    returns-2)

@@ -1,0 +1,39 @@
+-- `with_code` meets its contract: a part of the buffer is as long as the record says. Assumes nothing.
+use native.Mathlib.Omega.{arith}
+use lib.ListN.{length-take}
+use borrow.Author.Needs.{needs}
+use Rattle.judge_cases.proofs.with_code.Statement.{statement}
+use Rattle.judge_cases.proofs.with_code.Tie as tie
+
+slice-aggregate-read-frame : tie.Need-slice-aggregate-read-frame
+slice-aggregate-read-frame c = search needs
+
+read-frame-requires : tie.Need-read-frame-requires
+read-frame-requires c κs = search needs
+
+returns : tie.Need-returns
+returns c = search needs
+
+array-share-prefix-frame : tie.Need-array-share-prefix-frame
+array-share-prefix-frame c = search needs
+
+slice-aggregate-with-frame : tie.Need-slice-aggregate-with-frame
+slice-aggregate-with-frame c = simp length-take (omega arith)
+
+with-frame-requires : tie.Need-with-frame-requires
+with-frame-requires c κs = search needs
+
+returns-2 : tie.Need-returns-2
+returns-2 c = search needs
+
+pub with-code-spec : {M : Type 1} → statement M
+with-code-spec =
+    tie.close
+    (tie.spec
+    slice-aggregate-read-frame
+    read-frame-requires
+    returns
+    array-share-prefix-frame
+    slice-aggregate-with-frame
+    with-frame-requires
+    returns-2)

@@ -1,0 +1,184 @@
+"""Scripts of kind call_cases: the calls as bytes, and the program that plays them.
+
+The program keeps one record and seven buffers of fixed capacity from call to call; a call is
+lent the first so many elements of each.  After a start or a call for rounds one line tells
+the answer, the record and a checksum of all seven whole buffers, so that every element past
+the stated lengths is watched too (document 01: 'Bytes past the stated lengths never change').
+"""
+
+from collections import namedtuple
+from itertools import accumulate
+from operator import mul
+
+from decoder import answer, rounds, start
+from make_tables import code_file
+from packing import block, counted, i32, u8, u32
+from rounds import CERTIFIED, RUNNING, SPENT, Buffers, Record, buffer_lengths
+from table import parse_code_file
+
+CAPACITY = Buffers(spins=2100, copies=8300, offsets=8300, multipliers=2100, masks=2100,
+                   word=2100, certificate=20600)
+STATUSES = (RUNNING, CERTIFIED, SPENT)
+
+
+# --- the checksum ----------------------------------------------------------------------------
+
+FACTOR, FIRST, MODULUS = 1099511628211, 14695981039346656037, 1 << 64
+
+
+def powers_of_factor(count):
+    """FACTOR to the powers 0, 1, ..., count - 1."""
+    powers = [1]
+    for _ in range(count - 1):
+        powers.append(powers[-1] * FACTOR % MODULUS)
+    return powers
+
+
+POWERS = powers_of_factor(1 + max(vars(CAPACITY).values()))
+SUMS_OF_POWERS = [0, *accumulate(POWERS)]
+
+
+def own_sum(values):
+    """Each element times FACTOR to the number of elements after it.  Most buffers end in one
+    number over and over, which is summed at once."""
+    last, length = values[-1], len(values)
+    head = next(k for k in (0, 64, 1024, length) if values[k:] == [last] * (length - k))
+    unsigned = (value & 0xFFFFFFFF for value in values[:head])
+    weighted = sum(map(mul, unsigned, POWERS[length - head:length][::-1]))
+    return weighted + (last & 0xFFFFFFFF) * SUMS_OF_POWERS[length - head]
+
+
+def checksum(buffers):
+    """h = h * FACTOR + v over all elements as unsigned numbers, from h = FIRST."""
+    h = FIRST
+    for values in vars(buffers).values():
+        h = (h * POWERS[len(values)] + own_sum(values)) % MODULUS
+    return h
+
+
+# --- the program -----------------------------------------------------------------------------
+
+class Program:
+    def __init__(self):
+        self.whole = Buffers(*([0] * capacity for capacity in vars(CAPACITY).values()))
+        self.record = Record()
+        self.code_file = b""
+        self.frame = []
+
+    def line(self, call, got):
+        record = self.record
+        return f"{call} {got} {record.rounds_done} {record.status} | {checksum(self.whole)}"
+
+
+def take_back(whole, part):
+    whole[:len(part)] = part
+
+
+class Fill(namedtuple("Fill", "spin copy offset multiplier mask word certificate rounds status",
+                      defaults=(-7, 9999, 123456, 77, 88, 3, 170, 0, RUNNING))):
+    """Sets every element of every buffer, and the record.  The defaults are junk."""
+
+    def pack(self):
+        return (u8(0) + i32(self.spin) + i32(self.copy) + i32(self.offset) + u32(self.multiplier)
+                + u32(self.mask) + u8(self.word) + u8(self.certificate) + u32(self.rounds)
+                + u8(STATUSES.index(self.status)))
+
+    def play(self, program):
+        program.whole = Buffers(*([value] * capacity
+                                  for value, capacity in zip(self, vars(CAPACITY).values())))
+        program.record = Record(self.rounds, self.status)
+
+
+class UseCode(namedtuple("UseCode", "data")):
+    def pack(self):
+        return u8(1) + block(self.data)
+
+    def play(self, program):
+        program.code_file = self.data
+
+
+class UseFrame(namedtuple("UseFrame", "numbers")):
+    def pack(self):
+        return u8(2) + counted(self.numbers, 2)
+
+    def play(self, program):
+        program.frame = self.numbers
+
+
+class StartRun(namedtuple("StartRun", "copies offsets")):
+    """A start that is lent so many copies and offsets."""
+
+    def pack(self):
+        return u8(3) + u32(self.copies) + u32(self.offsets)
+
+    def play(self, program):
+        whole = program.whole
+        copies, offsets = whole.copies[:self.copies], whole.offsets[:self.offsets]
+        got = answer(start, program.code_file, copies, offsets)
+        take_back(whole.copies, copies)
+        take_back(whole.offsets, offsets)
+        if isinstance(got, Record):
+            program.record, got = got, "started"
+        return program.line("start", got)
+
+
+class CallRounds(namedtuple("CallRounds", "wanted lengths")):
+    """A call for rounds; lengths is a Buffers of what is lent of each buffer."""
+
+    def pack(self):
+        return u8(4) + u32(self.wanted) + b"".join(map(u32, vars(self.lengths).values()))
+
+    def play(self, program):
+        lent = Buffers(*(vars(program.whole)[name][:length]
+                         for name, length in vars(self.lengths).items()))
+        got = answer(rounds, program.code_file, program.frame, program.record, self.wanted, lent)
+        for name, part in vars(lent).items():
+            take_back(vars(program.whole)[name], part)
+        return program.line("rounds", got)
+
+
+class PutEdge(namedtuple("PutEdge", "name index value")):
+    """Sets one element of the copies or the offsets."""
+
+    def pack(self):
+        which = {"copies": 1, "offsets": 2}[self.name]
+        return u8(5) + u8(which) + u32(self.index) + i32(self.value)
+
+    def play(self, program):
+        vars(program.whole)[self.name][self.index] = self.value
+
+
+def play(script):
+    """The lines of a whole script."""
+    program = Program()
+    told = [call.play(program) for call in script]
+    return [line for line in told if line is not None]
+
+
+# --- pieces of scripts -----------------------------------------------------------------------
+
+def exact(table):
+    """The shortest lengths that are not refused with 41."""
+    return buffer_lengths(parse_code_file(code_file(table)))
+
+
+def changed(lengths, **others):
+    return Buffers(**{**vars(lengths), **others})
+
+
+def longer(lengths, by):
+    return Buffers(*(length + by for length in vars(lengths).values()))
+
+
+def calls(wants, lengths):
+    return [CallRounds(wanted, lengths) for wanted in wants]
+
+
+def opening(table, frame, fill=Fill()):
+    return [fill, UseCode(code_file(table)), UseFrame(frame)]
+
+
+def fresh(table, frame, fill=Fill()):
+    """A fresh run, lent exactly what it needs."""
+    edges = exact(table).copies
+    return opening(table, frame, fill) + [StartRun(edges, edges)]

@@ -1,0 +1,106 @@
+"""Kind judge_cases: the judge, the syndrome and the agreement on one set of inputs.
+
+Document 01, 'Certificates', and the refusals 1-9, 15, 10-14 in this order.  Each record: u32
+length and code file, u32 count and frame (i16), u32 length and word, u32 length and
+certificate.
+"""
+
+from itertools import permutations
+
+import make_damage as damage
+import make_inputs as inputs
+import make_runs
+import make_tables as tables
+import make_verdicts as verdicts
+from certificate import BrokenCheck, Gap, write_certificate
+from decoder import answer, judge, syndrome, word_agreement
+from make_tables import code_file
+from make_verdicts import NO_ENTRIES, JudgeCase
+from packing import block, counted, lines
+from prng import Prng
+
+
+# --- refusals and other plain inputs ---------------------------------------------------------
+
+def entry_orders():
+    """Four entries in every order: only one of the 24 is ascending."""
+    good = make_runs.good_judge()
+    _, entries = inputs.read_entries(good["certificate"])
+    return [JudgeCase(**{**good, "certificate": write_certificate(list(order))})
+            for order in permutations(entries)]
+
+
+def numbers_at_the_ends():
+    """Frame numbers at and beyond their limit, first and last, before good and bad words."""
+    good = JudgeCase(**make_runs.good_judge())
+    frames = [[number] + [1] * 6 for number in (8191, -8191, 8192, -8192, 32767, -32768)]
+    frames += [[8191] * 7, [-8191] * 7, [0] * 7, [-32768] * 7]
+    return [good._replace(frame=turned, word=word) for frame in frames
+            for turned in (frame, frame[::-1]) for word in ([0] * 7, [1] + [0] * 6, [2] * 7)]
+
+
+def broken_words(rng):
+    """Each check in turn the first broken one, up to the last of 2,048."""
+    cases = []
+    for n, checks in (tables.cycle_table(9), (10, [[k, k + 5] for k in range(5)])):
+        data, frame = code_file((n, checks)), inputs.random_frame(rng, n)
+        cases += [JudgeCase(data, frame, [int(bit == one) for bit in range(n)], NO_ENTRIES)
+                  for one in range(n)]
+    n = 2048
+    return cases + [JudgeCase(code_file(tables.identity(n)), [-5] * n, [0] * (n - 1) + [1],
+                              NO_ENTRIES)]
+
+
+def damaged_files(rng):
+    """1 to 7 with everything else in order, and two faults at once."""
+    good = JudgeCase(**make_runs.good_judge())
+    claims = [damage.damaged(tables.hamming(), {kind: fault})
+              for kind, faults in damage.FAULTS.items() for fault in faults]
+    return [good._replace(code_file=claim.data) for claim in claims + damage.fault_pairs(rng, 1)]
+
+
+def plain_inputs():
+    """Everything empty, and each part empty in turn."""
+    good = JudgeCase(**make_runs.good_judge())
+    return [JudgeCase(b"", [], [], b""), good, good._replace(code_file=b""),
+            good._replace(frame=[]), good._replace(word=[]), good._replace(certificate=b""),
+            good._replace(frame=[], word=[]), good._replace(word=[], certificate=b"")]
+
+
+def claimed_refusals(rng):
+    """The calls of make_runs, each refusal alone and before all later ones."""
+    return [JudgeCase(*claim.arguments) for claim in make_runs.judge_claims(rng)]
+
+
+# --- the kind --------------------------------------------------------------------------------
+
+def judge_records():
+    rng = Prng(20_03)
+    return (verdicts.document_gaps() + verdicts.document_others() + verdicts.altered_runs(rng)
+            + verdicts.altered_thoroughly() + verdicts.strangers(rng, 90)
+            + verdicts.tight_cases(rng, 40) + verdicts.wide_cases() + verdicts.long_cases()
+            + verdicts.heavy_cases() + verdicts.large_cases(rng) + entry_orders()
+            + numbers_at_the_ends() + broken_words(rng) + damaged_files(rng) + plain_inputs()
+            + claimed_refusals(rng))
+
+
+def verdict(found, met):
+    if isinstance(found, BrokenCheck):
+        return f"broken {found.check}"
+    if isinstance(found, Gap):
+        return f"gap {found.gap}"
+    return met if found is None else str(found)
+
+
+def judge_line(case):
+    judged = verdict(answer(judge, *case), None)
+    checked = verdict(answer(syndrome, case.code_file, case.word), "met")
+    agreed = answer(word_agreement, case.code_file, case.frame, case.word)
+    return f"{judged} ; {checked} ; {agreed}"
+
+
+def judge_cases():
+    records = judge_records()
+    stream = b"".join(block(case.code_file) + counted(case.frame, 2) + block(case.word)
+                      + block(case.certificate) for case in records)
+    return stream, lines(map(judge_line, records))

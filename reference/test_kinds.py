@@ -1,0 +1,232 @@
+"""The generated kinds: every answer and every refusal occurs, and IN reads back whole.
+
+The readers here know the layouts from the records' description alone; they share no code
+with the packing.
+"""
+
+import struct
+from unittest import mock
+
+import call_script
+import certificate
+import decoder
+import kind_calls
+import kind_cuts
+import kind_judge
+import kind_reports
+import make_inputs as inputs
+import make_scripts
+import make_tables as tables
+import make_verdicts
+import rounds
+from call_script import CAPACITY, CallRounds, Fill, Program, PutEdge, StartRun, UseCode, UseFrame
+from prng import Prng
+from report import fresh_buffers
+from rounds import Buffers, Record
+from support import expect, expect_equal
+from table import parse_code_file
+
+
+class Reader:
+    """Little-endian fields from the front of a stream."""
+
+    def __init__(self, stream):
+        self.stream, self.place = stream, 0
+
+    def fields(self, layout):
+        values = struct.unpack_from("<" + layout, self.stream, self.place)
+        self.place += struct.calcsize("<" + layout)
+        return values
+
+    def field(self, layout):
+        value, = self.fields(layout)
+        return value
+
+    def numbers(self, letter):
+        return list(self.fields(f"{self.field('I')}{letter}"))
+
+    def block(self):
+        return bytes(self.numbers("B"))
+
+    def records(self, read_record):
+        found = []
+        while self.place < len(self.stream):
+            found.append(read_record(self))
+        return found
+
+
+def expect_covered(account, kind, said, announced):
+    """Every announced text is said, and nothing else."""
+    account.announce(*(f"{kind}: {text}" for text in announced))
+    for text in said:
+        account.add(f"{kind}: {text}")
+
+
+def refusals(*numbers):
+    return [f"refused {number}" for number in numbers]
+
+
+def kind_of(text):
+    """`refused K` whole, otherwise the first word; a plain number counts as `number`."""
+    if text.startswith("refused"):
+        return text
+    return "number" if text.lstrip("-").isdigit() else text.split()[0]
+
+
+# --- cut_cases and judge_cases ---------------------------------------------------------------
+
+def cut_cases_cover_all(account):
+    account.announce("cut_cases: mask with bit 31")
+    stream, text = kind_cuts.cut_cases()
+    expect(len(stream) < 1_000_000, "size of IN")
+    records = Reader(stream).records(lambda r: (r.block(), r.numbers("i"), r.field("I")))
+    said = text.splitlines()
+    expect_equal([kind_cuts.cut_line(kind_cuts.CutCase(*one)) for one in records], said, "cuts")
+    expect_covered(account, "cut_cases", map(kind_of, said),
+                   ["mask", "none", *refusals(*range(1, 8), 16, 17)])
+    account.add("cut_cases: mask with bit 31",
+                sum(line.startswith("mask") and int(line[5:]) >> 31 for line in said))
+
+
+def judge_cases_cover_all(account):
+    stream, text = kind_judge.judge_cases()
+    expect(len(stream) < 1_500_000, "size of IN")
+    records = Reader(stream).records(
+        lambda r: (r.block(), r.numbers("h"), list(r.block()), r.block()))
+    said = text.splitlines()
+    expect_equal([kind_judge.judge_line(kind_judge.JudgeCase(*one)) for one in records], said,
+                 "verdicts")
+    judged, checked, agreed = zip(*(map(kind_of, line.split(" ; ")) for line in said))
+    expect_covered(account, "judge_cases", judged,
+                   ["broken", "certified", "gap", *refusals(*range(1, 16))])
+    expect_covered(account, "syndromes", checked, ["broken", "met", *refusals(*range(1, 8), 15)])
+    expect_covered(account, "agreements", agreed, ["number", *refusals(*range(1, 10), 15)])
+
+
+def tight_certificates_have_gap_0(account):
+    """The strangers' certificates that are made to pass do pass, none of their frame spare."""
+    account.announce("tight certificates", "reduced numbers at 0")
+    rng = Prng(81)
+    for table in tables.small_tables(rng, 30):
+        word, scale = rng.choice(inputs.codewords(table)), rng.choice([1, 5, 1023])
+        case = make_verdicts.tight_case(rng, table, word, 2, scale)
+        expect_equal(decoder.judge(*case), "certified", f"{case}")
+        account.add("tight certificates")
+        code, (_, entries) = parse_code_file(case.code_file), inputs.read_entries(case.certificate)
+        reduced = certificate.reduced_numbers(code, case.frame, scale, entries)
+        account.add("reduced numbers at 0", reduced.count(0))
+
+
+# --- call_cases ------------------------------------------------------------------------------
+
+def read_call(reader):
+    """One record of call_cases, by its first byte."""
+    op = reader.field("B")
+    if op == 0:
+        *values, status = reader.fields("iiiIIBBIB")
+        return Fill(*values, ("running", "certified", "spent")[status])
+    if op == 1:
+        return UseCode(reader.block())
+    if op == 2:
+        return UseFrame(reader.numbers("h"))
+    if op == 3:
+        return StartRun(*reader.fields("II"))
+    if op == 4:
+        wanted, *lengths = reader.fields("8I")
+        return CallRounds(wanted, Buffers(*lengths))
+    expect_equal(op, 5, "op")
+    which, index, value = reader.fields("BIi")
+    return PutEdge({1: "copies", 2: "offsets"}[which], index, value)
+
+
+def call_cases_cover_all(account):
+    stream, text = kind_calls.call_cases()
+    expect(len(stream) < 1_000_000, "size of IN")
+    script = kind_calls.call_script()
+    expect_equal(Reader(stream).records(read_call), script, "script read back")
+    expect_within_capacity(script)
+    told = {"start": [], "rounds": []}
+    for line in text.splitlines():
+        call, rest = line.split(" ", 1)
+        told[call].append(kind_of(" ".join(rest.split()[:2 if "refused" in rest else 1])))
+    expect_covered(account, "starts", told["start"], ["started", *refusals(*range(1, 8), 41)])
+    expect_covered(account, "calls for rounds", told["rounds"],
+                   ["running", "certified", "spent", *refusals(*range(1, 10), 17, 41, 42, 43)])
+
+
+def expect_within_capacity(script):
+    """The program's buffers hold whatever the script asks for."""
+    for call in script:
+        if isinstance(call, CallRounds):
+            lent = zip(vars(call.lengths).values(), vars(CAPACITY).values())
+            expect(all(0 <= length <= capacity for length, capacity in lent), f"{call}")
+        elif isinstance(call, StartRun):
+            expect(0 <= min(call) and max(call) <= CAPACITY.copies, f"{call}")
+        elif isinstance(call, (UseCode, UseFrame)):
+            expect(len(call[0]) <= (30000 if isinstance(call, UseCode) else 2100), "length")
+
+
+def plain_checksum(buffers):
+    h = 14695981039346656037
+    for values in vars(buffers).values():
+        for value in values:
+            h = (h * 1099511628211 + value % 2**32) % 2**64
+    return h
+
+
+def checksums_by_definition(account):
+    """The quick checksum is the plain one, whatever the buffers end in."""
+    account.announce("checksums compared")
+    program = Program()
+    full_tables = make_scripts.limit_tables(Prng(83))[:7]
+    for call in make_scripts.swaps() + make_scripts.document_runs()[:20] + full_tables:
+        line = call.play(program)
+        if line is not None:
+            expect_equal(int(line.split(" | ")[1]), plain_checksum(program.whole), "checksum")
+            account.add("checksums compared")
+
+
+def late_runs_end_late(account):
+    """The stored frames end in the rounds that are claimed for them."""
+    account.announce("runs certified in round 1,024", "runs one round too late")
+    for ending, table, frame in make_scripts.LATE_RUNS:
+        data = tables.code_file(table)
+        lent = fresh_buffers(parse_code_file(data))
+        record = decoder.start(data, lent.copies, lent.offsets)
+        with mock.patch.object(rounds, "ROUNDS_LIMIT", 1100):
+            decoder.rounds(data, frame, record, 1100, lent)
+        expect_equal(record, Record(ending, "certified"), f"{frame}")
+        account.add("runs certified in round 1,024", ending == 1024)
+        account.add("runs one round too late", ending == 1025)
+
+
+def list_pairs_pair_up(account):
+    """Demand 3 in the lines: all but the checksum is the same on the negated frame."""
+    account.announce("paired lines")
+    for pair in make_scripts.list_pairs(Prng(82), 14):
+        first, second = ([line.split(" | ")[0] for line in call_script.play(script)]
+                         for script in pair)
+        expect_equal(second, first, "lines of a negated list")
+        account.add("paired lines", len(first))
+
+
+# --- report and report_long ------------------------------------------------------------------
+
+def report_inputs(account):
+    """Document 01's example, and the head of the long one: frames 2 and 3 get one line."""
+    account.announce("long report lines")
+    stream, text = kind_reports.report()
+    expect_equal(stream.hex(" "), "03 00 01 00 00 00 03 00 00 00 01 00 02 00 a0 0f a0 0f 30 f8 "
+                 "0a 00 0a 00 0a 00 00 00 00 00 00 00", "the example's bytes")
+    expect_equal(len(text.splitlines()), 4, "the example's lines")
+    data, first_frame = kind_reports.long_input(), 4 + 4 * 1024 + 2 * 6144
+    expect_equal((len(data) - first_frame) % 4096, 4095, "a last frame one byte short")
+    told = decoder.frame_report(data[:first_frame + 5 * 4096]).splitlines()
+    expect_equal([line.split()[2] for line in told[1:]], ["certified"] * 4 + ["refused"], "endings")
+    expect_equal(told[4].split()[2:], told[3].split()[2:], "the frame negated under a codeword")
+    account.add("long report lines", len(told))
+
+
+TESTS = [cut_cases_cover_all, judge_cases_cover_all, tight_certificates_have_gap_0,
+         call_cases_cover_all, checksums_by_definition, late_runs_end_late, list_pairs_pair_up,
+         report_inputs]
