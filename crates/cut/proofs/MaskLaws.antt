@@ -66,7 +66,7 @@ mask-change (suc k) (false ∷ ts) h =
     ∙ double (maskOf (changeSide k ts))
 
 -- ---- the cut is read back from its mask: 0 is none, and any other mask is the set's
-odd-some : (ts : List Bool) → odd ts ≡ true → maskOf ts ≡ 0 → ⊥
+pub odd-some : (ts : List Bool) → odd ts ≡ true → maskOf ts ≡ 0 → ⊥
 odd-some [] o e = false≢true o
 odd-some (true ∷ ts) o e = omega arith
 odd-some (false ∷ ts) o e = odd-some ts o (half (maskOf ts) e)

@@ -12,20 +12,16 @@ use Rattle.rules.specs.Table.{edges}
 use Rattle.rules.specs.Buffers.{over}
 use Rattle.rules.proofs.Duality.{Below}
 use Rattle.rules.proofs.Optimal.{AllBelow}
+use Rattle.rules.proofs.Judged.{members-below}
 use Rattle.rules.proofs.Tables.{Degrees}
 use Rattle.table.specs.Starts.{startsOf}
 use Rattle.table.proofs.StartsLaws.{starts-length, starts-next, check-part}
 use Rattle.cut.specs.Search.{partAt, PartFits}
 
-degree-at : (cs : List (List ℕ)) (j : ℕ) → j < length cs → Degrees cs → (minDegree ≤ length (getD cs j [])) × (length (getD cs j []) ≤ maxDegree)
+pub degree-at : (cs : List (List ℕ)) (j : ℕ) → j < length cs → Degrees cs → (minDegree ≤ length (getD cs j [])) × (length (getD cs j []) ≤ maxDegree)
 degree-at [] j h d = absurd (omega arith)
 degree-at (ms ∷ cs) zero h d = d .0
 degree-at (ms ∷ cs) (suc j) h d = degree-at cs j (le-of-suc-le-suc h) (d .1)
-
-members-at : (n : ℕ) (cs : List (List ℕ)) (j : ℕ) → j < length cs → AllBelow n cs → Below n (getD cs j [])
-members-at n [] j h b = absurd (omega arith)
-members-at n (ms ∷ cs) zero h b = b .0
-members-at n (ms ∷ cs) (suc j) h b = members-at n cs j (le-of-suc-le-suc h) (b .1)
 
 -- the checks cs, and what stood in the two slices
 module _ (cs : List (List ℕ)) (s₀ ms₀ : List ℕ) (d : Degrees cs) (j : ℕ) (h : j < length cs) where
@@ -67,5 +63,5 @@ module _ (cs : List (List ℕ)) (s₀ ms₀ : List ℕ) (d : Degrees cs) (j : �
         ordered = omega (arith, next-start);
         held = omega (arith, end-in, length-append (edges cs) (drop (length (edges cs)) ms₀));
         narrow = subst (λ l. length l ≤ maxDegree) (sym loaded-part) (degree-at cs j h d .1);
-        below = subst (Below n) (sym loaded-part) (members-at n cs j h b);
+        below = subst (Below n) (sym loaded-part) (members-below n cs j h b);
       }

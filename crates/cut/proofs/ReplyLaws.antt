@@ -9,7 +9,6 @@ use lib.Dec.{leb, eqb, ltb}
 use lib.ListN.{length}
 use lib.IntN.{ℤ, pos, natAbs}
 use borrow.Author.Tests.{eqb-true, leb-true, ltb-true, eq-eqb, ne-eqb, lt-ltb, le-ltb}
-use Rattle.integers.specs.Linear.{Within}
 use Rattle.integers.specs.Product.{within}
 use Rattle.integers.specs.Sum.{AllWithin}
 use Rattle.integers.specs.Clip.{clip-mid}
@@ -20,6 +19,7 @@ use Rattle.rules.specs.Input.{eachWithin}
 use Rattle.rules.specs.Cut.{cut, cutValues}
 use Rattle.rules.specs.Step.{clips}
 use Rattle.rules.proofs.Basics.{and-both}
+use Rattle.rules.proofs.Optimal.{within-at}
 use Rattle.inputs.specs.Refusals.{pointRefusal, turnedDown}
 use Rattle.cut.specs.CutMask.{cutMask}
 use Rattle.cut.specs.Search.{partAt, firstOf, searchRefusal, tableSearch, maskReply}
@@ -42,15 +42,9 @@ point-right n s e = go (eqb (length s) n && eachWithin unit s) refl e
         (eqb-true (length s) n (r .0), each-all unit s (r .1))
     go false p q = absurd (omega arith)
 
-within-at : (u : ℕ) (s : List ℤ) (k : ℕ) → AllWithin u s → Within u (at s k)
-within-at u [] zero w = record { hi = omega arith; lo = omega arith }
-within-at u [] (suc k) w = record { hi = omega arith; lo = omega arith }
-within-at u (x ∷ s) zero w = w .0
-within-at u (x ∷ s) (suc k) w = within-at u s k (w .1)
-
 pub values-within : (u : ℕ) (s : List ℤ) (ms : List ℕ) → AllWithin u s → AllWithin u (valuesAt (at s) ms)
 values-within u s [] w = tt
-values-within u s (m ∷ ms) w = (within-at u s m w, values-within u s ms w)
+values-within u s (m ∷ ms) w = (within-at u s w m, values-within u s ms w)
 
 clips-same : (u : ℕ) (vs : List ℤ) → AllWithin u vs → clips u vs ≡ vs
 clips-same u [] w = refl

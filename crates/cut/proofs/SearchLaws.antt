@@ -61,7 +61,7 @@ module _ (file : List ℕ) (s : List ℤ) (j : ℕ) where
       ∙ reply-is (gives t) e
 
 -- ---- from what the load left back to the file
-laid-reply : (a : Answer Table) (s ms : List ℕ) → laid a s ms .reply ≡ replyOf tableValues a
+pub laid-reply : (a : Answer Table) (s ms : List ℕ) → laid a s ms .reply ≡ replyOf tableValues a
 unfolding laid
 laid-reply (refused k) s ms = refl
 laid-reply (gives t) s ms = refl

@@ -31,6 +31,9 @@ add-first x a b c = simp lin (omega arithZ)
 zero-first : (a : ℤ) → a ≡ pos 0 +ℤ a
 zero-first a = simp lin (omega arithZ)
 
+pub add-zero : (a : ℤ) → a ≡ a +ℤ pos 0
+add-zero a = simp lin (omega arithZ)
+
 pub sum-++ : (xs ys : List ℤ) → sumZ (xs ++ ys) ≡ sumZ xs +ℤ sumZ ys
 sum-++ [] ys = zero-first (sumZ ys)
 sum-++ (x ∷ xs) ys = add-first x (sumZ (xs ++ ys)) (sumZ xs) (sumZ ys) (sum-++ xs ys)
@@ -60,6 +63,17 @@ add-swap a b c d = simp lin (omega arithZ)
 pub sumTo-add : (n : ℕ) (f g : ℕ → ℤ) → sumTo n (λ j. f j +ℤ g j) ≡ sumTo n f +ℤ sumTo n g
 sumTo-add zero f g = refl
 sumTo-add (suc n) f g = ap (λ s. s +ℤ (f n +ℤ g n)) (sumTo-add n f g) ∙ add-swap (sumTo n f) (sumTo n g) (f n) (g n)
+
+-- the same numbers below n
+before-last : (i n : ℕ) → i < n → i < suc n
+before-last i n h = omega arith
+
+last-below : (n : ℕ) → n < suc n
+last-below n = omega arith
+
+pub sumTo-same : (n : ℕ) (f g : ℕ → ℤ) → ((i : ℕ) → i < n → f i ≡ g i) → sumTo n f ≡ sumTo n g
+sumTo-same zero f g e = refl
+sumTo-same (suc n) f g e = ap₂ _+ℤ_ (sumTo-same n f g (λ i h. e i (before-last i n h))) (e n (last-below n))
 
 pub sumTo-zero : (n : ℕ) → sumTo n (λ j. pos 0) ≡ pos 0
 sumTo-zero zero = refl

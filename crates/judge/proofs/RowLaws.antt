@@ -13,73 +13,29 @@ use lib.IntN.{ℤ, pos, negℤ, _+ℤ_, _-ℤ_, _*ℤ_}
 use borrow.Author.Tests.{eq-eqb, ne-eqb}
 use Rattle.integers.specs.Linear.{lin, arithZ, Within}
 use Rattle.integers.specs.Product.{abs, within-*}
-use Rattle.integers.specs.Sum.{sumTo, pick}
+use Rattle.integers.specs.Sum.{sumTo, sumTo-same, add-zero}
 use Rattle.rules.specs.Limits.{maxDegree, maxMultiplier}
 use Rattle.rules.specs.Table.{at}
 use Rattle.rules.specs.Parity.{side}
 use Rattle.rules.specs.Mask.{setOf}
 use Rattle.rules.specs.Bound.{Row, gather, weights, pull, price, reduced, bound}
+use Rattle.rules.specs.Scatter.{scatter, scatterRow, scatterRows}
 use Rattle.rules.specs.Certificate.{Item, itemAt, itemsAt}
+use Rattle.rules.proofs.ScatterLaws.{scatter-length, rows-pull}
 use Rattle.table.proofs.ContentsLaws.{left-more, left-none}
 use Rattle.judge.specs.Held.{partAt}
-use Rattle.judge.specs.Rows.{scaledLimit, rowLimit, Scaled, rowIn, rowsIn, scatter, scatterRow, scatterRows, rowPrice}
+use Rattle.judge.specs.Rows.{scaledLimit, rowLimit, Scaled, rowIn, rowsIn, rowPrice}
 use Rattle.judge.proofs.SignedLaws.{wider, pos-within}
 
 -- ---- the numbers
-add-pick : (a w g : ℤ) → (a +ℤ w) +ℤ g ≡ a +ℤ (w +ℤ g)
-add-pick a w g = simp lin (omega arithZ)
-
-add-none : (a g : ℤ) → a +ℤ g ≡ a +ℤ (pos 0 +ℤ g)
-add-none a g = simp lin (omega arithZ)
-
-add-zero : (a : ℤ) → a ≡ a +ℤ pos 0
-add-zero a = simp lin (omega arithZ)
-
-scatter-gather : (ms : List ℕ) (ws ls : List ℤ) (i : ℕ) → i < length ls → at (scatter ms ws ls) i ≡ at ls i +ℤ gather i ms ws
-scatter-gather ms [] ls i h = add-zero (at ls i)
-scatter-gather [] (w ∷ ws) ls i h = add-zero (at ls i)
-scatter-gather (m ∷ ms) (w ∷ ws) ls i h =
-    scatter-gather ms ws (set ls m (at ls m +ℤ w)) i (subst (λ n. i < n) (sym (length-set ls m (at ls m +ℤ w))) h) ∙ go (ℕ-discrete m i)
-  where
-    go : Dec (m ≡ i) → at (set ls m (at ls m +ℤ w)) i +ℤ gather i ms ws ≡ at ls i +ℤ (pick (eqb m i) w +ℤ gather i ms ws)
-    go (yes e) =
-        ap (λ z. z +ℤ gather i ms ws)
-        (ap (at (set ls m (at ls m +ℤ w))) (sym e) ∙ getD-set-same ls m (at ls m +ℤ w) (pos 0) (subst (λ z. z < length ls) (sym e) h) ∙ ap (λ z. at ls z +ℤ w) e)
-        ∙ add-pick (at ls i) w (gather i ms ws) ∙ ap (λ b. at ls i +ℤ (pick b w +ℤ gather i ms ws)) (sym (eq-eqb m i e))
-    go (no f) =
-        ap (λ z. z +ℤ gather i ms ws) (getD-set-other ls m i (at ls m +ℤ w) (pos 0) (λ e. f (sym e)))
-        ∙ add-none (at ls i) (gather i ms ws) ∙ ap (λ b. at ls i +ℤ (pick b w +ℤ gather i ms ws)) (sym (ne-eqb m i f))
-
-scatter-length : (ms : List ℕ) (ws ls : List ℤ) → length (scatter ms ws ls) ≡ length ls
-scatter-length ms [] ls = refl
-scatter-length [] (w ∷ ws) ls = refl
-scatter-length (m ∷ ms) (w ∷ ws) ls = scatter-length ms ws (set ls m (at ls m +ℤ w)) ∙ length-set ls m (at ls m +ℤ w)
-
-scatter-pull : (rs : List Row) (ls : List ℤ) (i : ℕ) → i < length ls → at (scatterRows rs ls) i ≡ at ls i +ℤ pull i rs
-scatter-pull [] ls i h = add-zero (at ls i)
-scatter-pull (r ∷ rs) ls i h =
-    let ws = weights (r .multiplier) (r .set) in
-    scatter-pull rs (scatterRow r ls) i (subst (λ n. i < n) (sym (scatter-length (r .members) ws ls)) h)
-    ∙ ap (λ z. z +ℤ pull i rs) (scatter-gather (r .members) ws ls i h) ∙ add-pick (at ls i) (gather i (r .members) ws) (pull i rs)
-
-sum-same : (n : ℕ) (f g : ℕ → ℤ) → ((i : ℕ) → i < n → f i ≡ g i) → sumTo n f ≡ sumTo n g
-sum-same zero f g e = refl
-sum-same (suc n) f g e = ap₂ _+ℤ_ (sum-same n f g (λ i h. e i (before i n h))) (e n (last n))
-  where
-    before : (i n : ℕ) → i < n → i < suc n
-    before i n h = omega arith
-
-    last : (n : ℕ) → n < suc n
-    last n = omega arith
-
 -- the sum of sizes and the sum of prices make the bound
 pub bound-is : (s : ℕ) (l r₀ r : List ℤ) (rs : List Row) (a b : ℤ) → length r₀ ≡ length l → ((i : ℕ) → i < length l → Scaled s l r₀ i) → r ≡ scatterRows rs r₀
     → a ≡ sumTo (length l) (λ i. abs (at r i)) → b ≡ price rs → a +ℤ b ≡ bound (length l) s l rs
 unfolding bound reduced
 bound-is s l r₀ r rs a b len h e ha hb =
     ap₂ _+ℤ_
-    (ha ∙ sum-same (length l) (λ i. abs (at r i)) (λ i. abs (pos s *ℤ at l i +ℤ pull i rs))
-    (λ i k. ap abs (ap (λ x. at x i) e ∙ scatter-pull rs r₀ i (subst (λ n. i < n) (sym len) k) ∙ ap (λ x. x +ℤ pull i rs) (h i k .value))))
+    (ha ∙ sumTo-same (length l) (λ i. abs (at r i)) (λ i. abs (pos s *ℤ at l i +ℤ pull i rs))
+    (λ i k. ap abs (ap (λ x. at x i) e ∙ rows-pull rs r₀ i (subst (λ n. i < n) (sym len) k) ∙ ap (λ x. x +ℤ pull i rs) (h i k .value))))
     hb
 
 -- ---- their limits

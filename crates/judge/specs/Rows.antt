@@ -3,13 +3,13 @@
 use mathlib.Core.Path.{_≡_}
 use mathlib.Core.List.{List, [], _∷_}
 use Prim.Native.Nat.{ℕ, _+_, _*_, _≤_, _<_}
-use lib.ListN.{length, set}
-use lib.IntN.{ℤ, pos, _+ℤ_, _-ℤ_, _*ℤ_}
+use lib.ListN.{length}
+use lib.IntN.{ℤ, pos, _-ℤ_, _*ℤ_}
 use Rattle.integers.specs.Linear.{Within}
 use Rattle.rules.specs.Limits.{maxBits, maxDegree, maxEntries, maxScale, maxMultiplier}
 use Rattle.rules.specs.Table.{at}
 use Rattle.rules.specs.Mask.{setOf}
-use Rattle.rules.specs.Bound.{Row, weights}
+use Rattle.rules.specs.Bound.{Row}
 use Rattle.rules.specs.Certificate.{Item, itemAt}
 use Rattle.judge.specs.Held.{partAt, Part}
 use Rattle.judge.specs.Refusals.{Long}
@@ -46,19 +46,6 @@ rowIn starts members i = record {
 abbrev pub rowsIn : List ℕ → List ℕ → List Item → List Row
 rowsIn starts members [] = []
 rowsIn starts members (i ∷ is) = rowIn starts members i ∷ rowsIn starts members is
-
--- weights added one after the other, each at its member
-abbrev pub scatter : List ℕ → List ℤ → List ℤ → List ℤ
-scatter ms [] ls = ls
-scatter [] (w ∷ ws) ls = ls
-scatter (m ∷ ms) (w ∷ ws) ls = scatter ms ws (set ls m (at ls m +ℤ w))
-
-abbrev pub scatterRow : Row → List ℤ → List ℤ
-scatterRow r ls = scatter (r .members) (weights (r .multiplier) (r .set)) ls
-
-abbrev pub scatterRows : List Row → List ℤ → List ℤ
-scatterRows [] ls = ls
-scatterRows (r ∷ rs) ls = scatterRows rs (scatterRow r ls)
 
 -- "each multiplier times (d − 2)", of one
 abbrev pub rowPrice : Row → ℤ

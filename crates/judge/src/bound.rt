@@ -25,7 +25,8 @@ ghost use Rattle.rules.specs.Bound.{weights, price, bound, gap};
 ghost use Rattle.rules.specs.Certificate.{itemAt, itemsAt, entriesOf, scaleOf, itemsOf};
 ghost use Rattle.rules.proofs.Duality.{Below};
 ghost use Rattle.judge.specs.Refusals.{Listed};
-ghost use Rattle.judge.specs.Rows.{frameSize, scaledLimit, sizeLimit, boundLimit, Scaled, scatter, scatterRow, scatterRows, rowPrice, rowIn, rowsIn, Placed, AllPlaced};
+ghost use Rattle.rules.specs.Scatter.{scatter, scatterRow, scatterRows};
+ghost use Rattle.judge.specs.Rows.{frameSize, scaledLimit, sizeLimit, boundLimit, Scaled, rowPrice, rowIn, rowsIn, Placed, AllPlaced};
 
 // "S times l."
 pub(crate) fn times(scale: usize, x: i64) -> i64

@@ -121,10 +121,10 @@ items-placed t p (i ∷ is) a b e =
     let r = items-placed t (some i) is a b (q .1) in
     ((q .0, r .0), r .1)
 
-below-at : (n : ℕ) (cs : List (List ℕ)) (j : ℕ) → j < length cs → AllBelow n cs → Below n (getD cs j [])
-below-at n [] j h b = absurd (omega arith)
-below-at n (ms ∷ cs) zero h b = b .0
-below-at n (ms ∷ cs) (suc j) h b = below-at n cs j (omega arith) (b .1)
+pub members-below : (n : ℕ) (cs : List (List ℕ)) (j : ℕ) → j < length cs → AllBelow n cs → Below n (getD cs j [])
+members-below n [] j h b = absurd (omega arith)
+members-below n (ms ∷ cs) zero h b = b .0
+members-below n (ms ∷ cs) (suc j) h b = members-below n cs j (omega arith) (b .1)
 
 keeps-at : (d : ℕ) (f : ℕ → ℤ) (cs : List (List ℕ)) (j : ℕ) → j < length cs → Keeps d f cs → (vs : List Bool) → odd vs ≡ true → Alike vs (getD cs j [])
     → pos (2 * d) ⩽ left d vs (valuesAt f (getD cs j []))
@@ -134,7 +134,7 @@ keeps-at d f (ms ∷ cs) (suc j) h k = keeps-at d f cs j (omega arith) (k .1)
 
 item-kept : (t : Table) (d : ℕ) (f : ℕ → ℤ) (i : Item) → AllBelow (t .bits) (t .checks) → Keeps d f (t .checks) → Placed t i → Kept (t .bits) d f (rowAt t i)
 item-kept t d f i b k p = record {
-  inside = below-at (t .bits) (t .checks) (i .check) (p .inside) b;
+  inside = members-below (t .bits) (t .checks) (i .check) (p .inside) b;
   long = long;
   keeps = keeps-at d f (t .checks) (i .check) (p .inside) k (setOf (length (membersAt t (i .check))) (i .mask)) (p .odds) long;
 }

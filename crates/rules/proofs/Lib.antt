@@ -26,3 +26,4 @@ pub mod Lists
 pub mod Fresh
 pub mod Counted
 pub mod Demand3
+pub mod ScatterLaws

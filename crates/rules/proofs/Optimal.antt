@@ -33,11 +33,11 @@ AllBelow n (ms ∷ cs) = Below n ms × AllBelow n cs
 abbrev pub Implied : Table → List Row → Type 0
 Implied t rs = (d : ℕ) (f : ℕ → ℤ) → Keeps d f (t .checks) → AllKept (t .bits) d f rs
 
-box-at : (d : ℕ) (p : List ℤ) → AllWithin d p → (i : ℕ) → Within d (at p i)
-box-at d [] h zero = record { hi = omega arith; lo = omega arith }
-box-at d [] h (suc i) = record { hi = omega arith; lo = omega arith }
-box-at d (x ∷ p) h zero = h .0
-box-at d (x ∷ p) h (suc i) = box-at d p (h .1) i
+pub within-at : (d : ℕ) (p : List ℤ) → AllWithin d p → (i : ℕ) → Within d (at p i)
+within-at d [] h zero = record { hi = omega arith; lo = omega arith }
+within-at d [] h (suc i) = record { hi = omega arith; lo = omega arith }
+within-at d (x ∷ p) h zero = h .0
+within-at d (x ∷ p) h (suc i) = within-at d p (h .1) i
 
 one-times : (x y : ℤ) → x ⩽ pos 1 *ℤ y → x ⩽ y
 one-times x y = simp ring (omega arithZ)
@@ -49,7 +49,7 @@ module _ (t : Table) (s : ℕ) (l : List ℤ) (rs : List Row) (implied : Implied
   -- "scale times the point's agreement is at most D times the bound"
   pub bound-points : (d : ℕ) (p : List ℤ) → Point t d p → pos s *ℤ pointAgreement (t .bits) l p ⩽ pos d *ℤ bound (t .bits) s l rs
   unfolding pointAgreement
-  bound-points d p k = weak-duality (t .bits) d s l (at p) rs (box-at d p (k .box)) (implied d (at p) (k .keeps))
+  bound-points d p k = weak-duality (t .bits) d s l (at p) rs (within-at d p (k .box)) (implied d (at p) (k .keeps))
 
   -- and so of any word that meets all checks
   pub bound-words : (w : List Bool) → meets w (t .checks) ≡ true → pos s *ℤ agreement (t .bits) l w ⩽ bound (t .bits) s l rs
@@ -66,7 +66,7 @@ module _ (t : Table) (s : ℕ) (l : List ℤ) (rs : List Row) (implied : Implied
     isCodeword = e;
     overCodewords = λ c k. subst (λ x. x ⩽ agreement (t .bits) l w) (agreement-is (t .bits) l c) (one-times (sumTo (t .bits) (λ i. at l i *ℤ spinsOf c i)) (agreement (t .bits) l w)
         (optimal (t .bits) 1 s l (spinsOf c) rs w h (spins-within c) (implied 1 (spinsOf c) (codeword-keeps c (t .checks) (meets-even c (t .checks) (k .even)))) g));
-    overPoints = λ d p k. optimal (t .bits) d s l (at p) rs w h (box-at d p (k .box)) (implied d (at p) (k .keeps)) g;
+    overPoints = λ d p k. optimal (t .bits) d s l (at p) rs w h (within-at d p (k .box)) (implied d (at p) (k .keeps)) g;
   }
 
 -- ---- the rows of a round

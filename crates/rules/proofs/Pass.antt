@@ -91,11 +91,11 @@ rows-good u (ms ∷ cs) (s ∷ ss) h = go (s .entry) (h .0 .proper) (rows-good u
     go (active b ts) p g = (p .0, p .1, g)
 
 -- ---- limits
-append-within : (m : ℕ) (xs ys : List ℤ) → AllWithin m xs → AllWithin m ys → AllWithin m (xs ++ ys)
+pub append-within : (m : ℕ) (xs ys : List ℤ) → AllWithin m xs → AllWithin m ys → AllWithin m (xs ++ ys)
 append-within m [] ys h k = k
 append-within m (x ∷ xs) ys h k = (h .0, append-within m xs ys (h .1) k)
 
-drop-within : (m k : ℕ) (ys : List ℤ) → AllWithin m ys → AllWithin m (drop k ys)
+pub drop-within : (m k : ℕ) (ys : List ℤ) → AllWithin m ys → AllWithin m (drop k ys)
 drop-within m zero ys h = h
 drop-within m (suc k) [] h = tt
 drop-within m (suc k) (y ∷ ys) h = drop-within m k ys (h .1)
@@ -112,7 +112,7 @@ add-within a b x y = simp lin (omega arithZ)
 wider : (a b : ℕ) (x : ℤ) → Within a x → Within (a + b) x
 wider a b x = simp lin (omega arithZ)
 
-values-within : (u m : ℕ) (f : ℕ → ℤ) (ms : List ℕ) (ys : List ℤ) → ((i : ℕ) → Within u (f i)) → AllWithin m ys → AllWithin (u + m) (values f ms ys)
+pub values-within : (u m : ℕ) (f : ℕ → ℤ) (ms : List ℕ) (ys : List ℤ) → ((i : ℕ) → Within u (f i)) → AllWithin m ys → AllWithin (u + m) (values f ms ys)
 values-within u m f [] ys w h = tt
 values-within u m f (i ∷ ms) [] w h = (wider u m (f i) (w i), values-within u m f ms [] w h)
 values-within u m f (i ∷ ms) (y ∷ ys) w h = (add-within u m (f i) y (w i) (h .0), values-within u m f ms ys w (h .1))

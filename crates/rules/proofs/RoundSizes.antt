@@ -25,7 +25,7 @@ use Rattle.rules.proofs.WrittenPasses.{bytes-length}
 use Rattle.rules.proofs.BufferLaws.{Past, past-refl, past-over, take-over, over-take, Part, buffers-eq, AllPast}
 
 -- ---- lengths
-first-length : (n : ℕ) (f : ℕ → ℤ) → length (firstOf n f) ≡ n
+pub first-length : (n : ℕ) (f : ℕ → ℤ) → length (firstOf n f) ≡ n
 first-length zero f = refl
 first-length (suc n) f = ap suc (first-length n (λ i. f (suc i)))
 
@@ -42,11 +42,11 @@ certify-is : (t : Table) (l : List ℤ) (rs : List Row) (o : Option (List Bool))
 certify-is t l rs none w e = absurd (none≢some e)
 certify-is t l rs (some v) w e = ap some (keep-is (meets v (t .checks) && isZero (gap (t .bits) 1 l rs v)) v w e .1)
 
-multipliers-length : (es : List Entry) → length (multipliersOf es) ≡ length es
+pub multipliers-length : (es : List Entry) → length (multipliersOf es) ≡ length es
 multipliers-length [] = refl
 multipliers-length (e ∷ es) = ap suc (multipliers-length es)
 
-masks-length : (es : List Entry) → length (masksOf es) ≡ length es
+pub masks-length : (es : List Entry) → length (masksOf es) ≡ length es
 masks-length [] = refl
 masks-length (e ∷ es) = ap suc (masks-length es)
 

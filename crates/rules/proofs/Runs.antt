@@ -111,7 +111,7 @@ pub record Safe (t : Table) (r : Run) : Type 0 where
   pub offsets : AllWithin (offsetPerRound * r .progress .rounds) (stateIn t (r .buffers) .offsets)
   pub early : r .progress .status ≡ running → r .progress .rounds < roundLimit
 
-spin-within : (u : ℕ) (es : List ℕ) (l : List ℤ) (s : State) (i : ℕ) → Within u (spin u es l s i)
+pub spin-within : (u : ℕ) (es : List ℕ) (l : List ℤ) (s : State) (i : ℕ) → Within u (spin u es l s i)
 unfolding spin
 spin-within u es l s i = clip-within u _
 

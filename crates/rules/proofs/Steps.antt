@@ -67,7 +67,7 @@ minus-alike (v ∷ vs) (z ∷ zs) h = minus-alike vs zs h
 sub-within : (a b : ℕ) (x y : ℤ) → Within a x → Within b y → Within (a + b) (x -ℤ y)
 sub-within a b x y = simp lin (omega arithZ)
 
-minus-within : (a b : ℕ) (vs zs : List ℤ) → AllWithin a vs → AllWithin b zs → AllWithin (a + b) (minus vs zs)
+pub minus-within : (a b : ℕ) (vs zs : List ℤ) → AllWithin a vs → AllWithin b zs → AllWithin (a + b) (minus vs zs)
 minus-within a b [] zs h k = tt
 minus-within a b (v ∷ vs) [] h k = tt
 minus-within a b (v ∷ vs) (z ∷ zs) h k = (sub-within a b v z (h .0) (k .0), minus-within a b vs zs (h .1) (k .1))

@@ -9,6 +9,7 @@ pub mod Input
 pub mod Cut
 pub mod Step
 pub mod Bound
+pub mod Scatter
 pub mod Round
 pub mod Certificate
 pub mod Judge

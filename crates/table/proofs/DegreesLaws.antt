@@ -21,7 +21,7 @@ one-more : (b : Bool) (x y : ℕ) → x ≤ y → cond b 1 0 + x ≤ suc y
 one-more true x y h = omega arith
 one-more false x y h = omega arith
 
-degree-length : (i : ℕ) (ms : List ℕ) → degreeOf i ms ≤ length ms
+pub degree-length : (i : ℕ) (ms : List ℕ) → degreeOf i ms ≤ length ms
 degree-length i [] = zero-le
 degree-length i (m ∷ ms) = one-more (eqb m i) (degreeOf i ms) (length ms) (degree-length i ms)
 

@@ -51,15 +51,16 @@ module _ (file s ms : List ℕ) (hs : maxChecks < length s) (hm : maxEdges ≤ l
   loaded-room = room-enough (codeFile file) refl
 
 -- ---- the same in the code's numbers
-module _ (file s ms : List ℕ) (n m e : ℕ) (r : Readable file n m e) where
+module _ (file : List ℕ) (n m e : ℕ) (r : Readable file n m e) where
   checks-are : checksOf (tableAt file n m) ≡ m
   checks-are = bodies-length file (contentsEnd m) m
 
-  edges-are : edgesOf (tableAt file n m) ≡ e
+  pub edges-are : edgesOf (tableAt file n m) ≡ e
   edges-are = edges-length file (contentsEnd m) (contents file 0 m) ∙ sym (r .sum)
 
+module _ (file s ms : List ℕ) (n m e : ℕ) (r : Readable file n m e) where
   room-is : ltb (checksOf (tableAt file n m)) (length s) && leb (edgesOf (tableAt file n m)) (length ms) ≡ (ltb m (length s) && leb e (length ms))
-  room-is = ap₂ (λ x y. ltb x (length s) && leb y (length ms)) checks-are edges-are
+  room-is = ap₂ (λ x y. ltb x (length s) && leb y (length ms)) (checks-are file n m e r) (edges-are file n m e r)
 
   pub loaded-few-starts : length s ≤ m → record { reply = record { number = bufferShort; values = [] }; starts = s; members = ms } ≡ loaded file s ms
   loaded-few-starts h = loaded-short file s ms (tableAt file n m) (r .table) (room-is ∙ and-fails (ltb m (length s)) (leb e (length ms)) (le-ltb m (length s) h))
@@ -75,9 +76,9 @@ module _ (file s ms : List ℕ) (n m e : ℕ) (r : Readable file n m e) where
   unfolding laid
   loaded-table a s′ ms′ ha g h p q =
       let t = tableAt file n m in
-      let front : m + 1 ≡ length (startsOf 0 (t .checks)) = omega (arith, starts-length 0 (t .checks), checks-are) in
+      let front : m + 1 ≡ length (startsOf 0 (t .checks)) = omega (arith, starts-length 0 (t .checks), checks-are file n m e r) in
       let members : numbersAt file a e ≡ edges (t .checks) = ap₂ (numbersAt file) ha (r .sum) ∙ sym (edges-bodies file (contentsEnd m) (contents file 0 m)) in
       ap₂ (λ x y. record { reply = record { number = 0; values = pos n ∷ pos m ∷ pos e ∷ [] }; starts = x; members = y })
-      (p ∙ ap (λ k. startsOf 0 (t .checks) ++ drop k s) front) (q ∙ ap₂ (λ l k. l ++ drop k ms) members (sym edges-are))
+      (p ∙ ap (λ k. startsOf 0 (t .checks) ++ drop k s) front) (q ∙ ap₂ (λ l k. l ++ drop k ms) members (sym (edges-are file n m e r)))
       ∙ ap (λ x. record { reply = x; starts = over (startsOf 0 (t .checks)) s; members = over (edges (t .checks)) ms }) (table-reply file n m e (r .sum))
       ∙ loaded-gives file s ms t (r .table) (room-is ∙ and-holds (ltb m (length s)) (leb e (length ms)) (lt-ltb m (length s) g) ∙ le-leb e (length ms) h)

@@ -14,7 +14,8 @@ use Rattle.rules.specs.Table.{at}
 use Rattle.rules.specs.Bound.{price}
 use Rattle.rules.specs.Certificate.{itemAt, itemsAt}
 use Rattle.rules.proofs.Masks.{set-length}
-use Rattle.judge.specs.Rows.{scaledLimit, rowLimit, sizeLimit, rowIn, rowsIn, scatterRow, scatterRows, Placed}
+use Rattle.rules.specs.Scatter.{scatterRow, scatterRows}
+use Rattle.judge.specs.Rows.{scaledLimit, rowLimit, sizeLimit, rowIn, rowsIn, Placed}
 use Rattle.judge.proofs.SignedLaws.{sized, wider, summed-fits, summed-more}
 use Rattle.judge.proofs.HeldLaws.{part-length}
 use Rattle.judge.proofs.RowLaws.{row-within, price-within, rows-more, rows-end, rows-all, rows-put, rows-price, row-length, price-none, price-end}

@@ -13,7 +13,8 @@ use Rattle.rules.specs.Limits.{maxMultiplier}
 use Rattle.rules.specs.Table.{at}
 use Rattle.rules.specs.Mask.{setOf}
 use Rattle.rules.specs.Bound.{weights}
-use Rattle.judge.specs.Rows.{sizeLimit, scatter}
+use Rattle.rules.specs.Scatter.{scatter}
+use Rattle.judge.specs.Rows.{sizeLimit}
 use Rattle.judge.proofs.SignedLaws.{sized, wider, plus-fits, plus-reads}
 use Rattle.judge.proofs.CheckLaws.{member-below}
 use Rattle.judge.proofs.RowLaws.{side-within, put-within, scatter-more, scatter-end, scatter-all}

@@ -1,0 +1,139 @@
+-- `rounds` meets its contract: a part that is lent is as long as the head says. Assumes nothing.
+use native.Mathlib.Omega.{arith}
+use lib.ListN.{length-take}
+use borrow.Author.Needs.{needs}
+use Rattle.call_cases.proofs.calls.rounds.Statement.{statement}
+use Rattle.call_cases.proofs.calls.rounds.Tie as tie
+
+u32-at-requires : tie.Need-u32-at-requires
+u32-at-requires c κs = search needs
+
+lent-requires : tie.Need-lent-requires
+lent-requires c κs = search needs
+
+lent-requires-2 : tie.Need-lent-requires-2
+lent-requires-2 c κs = search needs
+
+lent-requires-3 : tie.Need-lent-requires-3
+lent-requires-3 c κs = search needs
+
+lent-requires-4 : tie.Need-lent-requires-4
+lent-requires-4 c κs = search needs
+
+lent-requires-5 : tie.Need-lent-requires-5
+lent-requires-5 c κs = search needs
+
+lent-requires-6 : tie.Need-lent-requires-6
+lent-requires-6 c κs = search needs
+
+lent-requires-7 : tie.Need-lent-requires-7
+lent-requires-7 c κs = search needs
+
+slice-relend-prefix-rounds : tie.Need-slice-relend-prefix-rounds
+slice-relend-prefix-rounds c = search needs
+
+slice-aggregate-rounds : tie.Need-slice-aggregate-rounds
+slice-aggregate-rounds c = simp length-take (omega arith)
+
+slice-relend-prefix-rounds-2 : tie.Need-slice-relend-prefix-rounds-2
+slice-relend-prefix-rounds-2 c = search needs
+
+slice-aggregate-rounds-2 : tie.Need-slice-aggregate-rounds-2
+slice-aggregate-rounds-2 c = simp length-take (omega arith)
+
+slice-relend-prefix-rounds-3 : tie.Need-slice-relend-prefix-rounds-3
+slice-relend-prefix-rounds-3 c = search needs
+
+slice-aggregate-rounds-3 : tie.Need-slice-aggregate-rounds-3
+slice-aggregate-rounds-3 c = simp length-take (omega arith)
+
+slice-relend-prefix-rounds-4 : tie.Need-slice-relend-prefix-rounds-4
+slice-relend-prefix-rounds-4 c = search needs
+
+slice-aggregate-rounds-4 : tie.Need-slice-aggregate-rounds-4
+slice-aggregate-rounds-4 c = simp length-take (omega arith)
+
+slice-relend-prefix-rounds-5 : tie.Need-slice-relend-prefix-rounds-5
+slice-relend-prefix-rounds-5 c = search needs
+
+slice-aggregate-rounds-5 : tie.Need-slice-aggregate-rounds-5
+slice-aggregate-rounds-5 c = simp length-take (omega arith)
+
+slice-relend-prefix-rounds-6 : tie.Need-slice-relend-prefix-rounds-6
+slice-relend-prefix-rounds-6 c = search needs
+
+slice-aggregate-rounds-6 : tie.Need-slice-aggregate-rounds-6
+slice-aggregate-rounds-6 c = simp length-take (omega arith)
+
+slice-relend-prefix-rounds-7 : tie.Need-slice-relend-prefix-rounds-7
+slice-relend-prefix-rounds-7 c = search needs
+
+slice-aggregate-rounds-7 : tie.Need-slice-aggregate-rounds-7
+slice-aggregate-rounds-7 c = simp length-take (omega arith)
+
+rounds-requires : tie.Need-rounds-requires
+rounds-requires c κs = search needs
+
+print-outcome-requires : tie.Need-print-outcome-requires
+print-outcome-requires c κs = search needs
+
+same-length : tie.Need-same-length
+same-length c = search needs
+
+same-length-2 : tie.Need-same-length-2
+same-length-2 c = search needs
+
+same-length-3 : tie.Need-same-length-3
+same-length-3 c = search needs
+
+same-length-4 : tie.Need-same-length-4
+same-length-4 c = search needs
+
+same-length-5 : tie.Need-same-length-5
+same-length-5 c = search needs
+
+same-length-6 : tie.Need-same-length-6
+same-length-6 c = search needs
+
+same-length-7 : tie.Need-same-length-7
+same-length-7 c = search needs
+
+returns : tie.Need-returns
+returns c = search needs
+
+pub rounds-spec : {M : Type 1} → statement M
+rounds-spec =
+    tie.close
+    (tie.spec
+    u32-at-requires
+    lent-requires
+    lent-requires-2
+    lent-requires-3
+    lent-requires-4
+    lent-requires-5
+    lent-requires-6
+    lent-requires-7
+    slice-relend-prefix-rounds
+    slice-aggregate-rounds
+    slice-relend-prefix-rounds-2
+    slice-aggregate-rounds-2
+    slice-relend-prefix-rounds-3
+    slice-aggregate-rounds-3
+    slice-relend-prefix-rounds-4
+    slice-aggregate-rounds-4
+    slice-relend-prefix-rounds-5
+    slice-aggregate-rounds-5
+    slice-relend-prefix-rounds-6
+    slice-aggregate-rounds-6
+    slice-relend-prefix-rounds-7
+    slice-aggregate-rounds-7
+    rounds-requires
+    print-outcome-requires
+    same-length
+    same-length-2
+    same-length-3
+    same-length-4
+    same-length-5
+    same-length-6
+    same-length-7
+    returns)

@@ -1,0 +1,64 @@
+// A record's operation and its fields, little-endian.
+use libc::STDIN_FILENO;
+use stream::u16_of;
+ghost use Prim.Native.Nat.{_+_, _≤_};
+ghost use lib.ListN.{length};
+
+// The operation, and the longest fields: those of a call for rounds.
+pub(crate) const HEAD_LIMIT: usize = 33;
+
+fn fields_size(operation: u8) -> usize
+    ensures { λ r. ⌜ r ≤ 32 ⌝ }
+{
+    match operation {
+        0 => 27,
+        1 | 2 => 4,
+        3 => 8,
+        4 => 32,
+        5 => 9,
+        _ => 0,
+    }
+}
+
+// False where the record is not whole.
+pub(crate) fn read_head(head: &mut [u8]) -> bool
+    requires { ⌜ 33 ≤ length (now head) ⌝ }
+{
+    if io::read_full(STDIN_FILENO, &mut head[..1]) < 1 {
+        return false;
+    }
+    let size = fields_size(head[0]);
+    let end = 1 + size;
+    io::read_full(STDIN_FILENO, &mut head[1..end]) == size
+}
+
+pub(crate) fn u32_at(head: &[u8], at: usize) -> u32
+    requires { ⌜ at + 4 ≤ length (now head) ⌝ }
+{
+    let low = u16_of(head[at], head[at + 1]);
+    let high = u16_of(head[at + 2], head[at + 3]);
+    (low + 65536 * high) as u32
+}
+
+// The number as a signed one: its upper half is negative.
+fn signed(n: u32) -> i32 {
+    if n < 2147483648 {
+        return n as i32;
+    }
+    !((4294967295 - n) as i32)
+}
+
+pub(crate) fn i32_at(head: &[u8], at: usize) -> i32
+    requires { ⌜ at + 4 ≤ length (now head) ⌝ }
+{
+    signed(u32_at(head, at))
+}
+
+// How many elements are lent: never more than there are.
+pub(crate) fn lent(head: &[u8], at: usize, capacity: usize) -> usize
+    requires { ⌜ at + 4 ≤ length (now head) ⌝ }
+    ensures { λ r. ⌜ r ≤ capacity ⌝ }
+{
+    let n = u32_at(head, at) as usize;
+    if capacity < n { capacity } else { n }
+}

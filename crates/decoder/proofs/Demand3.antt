@@ -1,0 +1,164 @@
+-- Demand 3 of document 00 for the code: about every list of calls of `start` and `rounds` of which their contracts, as they are proved, hold.
+-- Assumes nothing.
+use mathlib.Core.Path.{_≡_, refl, sym, _∙_, ap, ap₂, subst}
+use mathlib.Core.Bool.{Bool, _&&_}
+use mathlib.Core.List.{List, [], _∷_}
+use Prim.Native.Nat.{ℕ, _≤_}
+use lib.Dec.{leb}
+use lib.ListN.{length}
+use lib.IntN.{ℤ}
+use contract.Lifetimes.{Lfts}
+use denote.Ref.{now}
+use denote.Triple.Clauses as Clauses
+use borrow.Fn.World.{ArgsD, ResD}
+use borrow.Fn.Kinds.{endedOf}
+use Rattle.rules.specs.Refusal.{Answer, refused, gives, then, must, bufferShort}
+use Rattle.rules.specs.Table.{Table, edgesOf}
+use Rattle.rules.specs.Parity.{plus, turns, Codeword}
+use Rattle.rules.specs.CodeFile.{codeFile}
+use Rattle.rules.specs.Buffers.{Buffers}
+use Rattle.rules.specs.Run.{Progress, Run, Called, call, Started, startBy, start, fresh}
+use Rattle.rules.specs.Calls.{Call, lend, giveBack, lentCall, callList, wantedIn}
+use Rattle.rules.specs.Demand3.{Best, FreshStart, AllLent, listFrom, CertifiesOn, SamePlaces, Demand3}
+use Rattle.rules.proofs.AnswerLaws.{refused≢gives, gives-inj}
+use Rattle.rules.proofs.Demand3.{demand3}
+use Rattle.decoder.specs.Reply.{progressOf, startedOf, outcomeOf}
+use Rattle.decoder.proofs.start as st
+use Rattle.decoder.proofs.start.Kinds as st-kinds
+use Rattle.decoder.proofs.start.Reads as st-reads
+use Rattle.decoder.proofs.start.Statement.{statement as st-statement}
+use Rattle.decoder.proofs.start.Met.{met as start-met}
+use Rattle.decoder.proofs.rounds as rd
+use Rattle.decoder.proofs.rounds.Kinds as rd-kinds
+use Rattle.decoder.proofs.rounds.Reads as rd-reads
+use Rattle.decoder.proofs.rounds.Statement.{statement as rd-statement}
+use Rattle.decoder.proofs.rounds.Met.{met as rounds-met}
+
+-- ---- one call of each, of which its contract holds
+pub record StartCall : Type 0 where
+  pub lives : Lfts 3
+  pub args : ArgsD st.signature lives
+  pub result : ResD st.signature lives
+  pub exit : Clauses.AtExit (endedOf 3 st-kinds.ps st-kinds.r) lives
+  pub holds : st-reads.Post lives args result exit
+
+abbrev pub startsFile : StartCall → List ℕ
+startsFile x = now (x .args .0)
+
+abbrev pub startsCopies : StartCall → List ℤ
+startsCopies x = now (x .args .1 .0)
+
+abbrev pub startsOffsets : StartCall → List ℤ
+startsOffsets x = now (x .args .1 .1 .0)
+
+abbrev pub startGave : StartCall → Started
+startGave x = record { answer = startedOf (x .result); copies = now (x .exit .1 .0); offsets = now (x .exit .1 .1 .0) }
+
+pub record RoundsCall : Type 0 where
+  pub lives : Lfts 9
+  pub args : ArgsD rd.signature lives
+  pub result : ResD rd.signature lives
+  pub exit : Clauses.AtExit (endedOf 9 rd-kinds.ps rd-kinds.r) lives
+  pub holds : rd-reads.Post lives args result exit
+
+abbrev pub roundsFile : RoundsCall → List ℕ
+roundsFile x = now (x .args .0)
+
+abbrev pub roundsFrame : RoundsCall → List ℤ
+roundsFrame x = now (x .args .1 .0)
+
+abbrev pub roundsWanted : RoundsCall → ℕ
+roundsWanted x = x .args .1 .1 .1 .0
+
+abbrev pub roundsRun : RoundsCall → Run
+roundsRun x = record { progress = progressOf (x .args .1 .1 .0); buffers = record { spins = now (x .args .1 .1 .1 .1 .0); copies = now (x .args .1 .1 .1 .1 .1 .0); offsets = now (x .args .1 .1 .1 .1 .1 .1 .0); multipliers = now (x .args .1 .1 .1 .1 .1 .1 .1 .0); masks = now (x .args .1 .1 .1 .1 .1 .1 .1 .1 .0); word = now (x .args .1 .1 .1 .1 .1 .1 .1 .1 .1 .0); certificate = now (x .args .1 .1 .1 .1 .1 .1 .1 .1 .1 .1 .0) } }
+
+abbrev pub roundsGave : RoundsCall → Called
+roundsGave x = record { answer = outcomeOf (x .result .outcome); run = record { progress = progressOf (x .result .run); buffers = record { spins = now (x .exit .1 .1 .1 .1 .0); copies = now (x .exit .1 .1 .1 .1 .1 .0); offsets = now (x .exit .1 .1 .1 .1 .1 .1 .0); multipliers = now (x .exit .1 .1 .1 .1 .1 .1 .1 .0); masks = now (x .exit .1 .1 .1 .1 .1 .1 .1 .1 .0); word = now (x .exit .1 .1 .1 .1 .1 .1 .1 .1 .1 .0); certificate = now (x .exit .1 .1 .1 .1 .1 .1 .1 .1 .1 .1 .0) } } }
+
+-- what the contracts say, by document 01's definitions
+pub start-says : (x : StartCall) → startGave x ≡ start (startsFile x) (startsCopies x) (startsOffsets x)
+start-says x = x .holds
+
+pub rounds-says : (x : RoundsCall) → roundsGave x ≡ call (roundsFile x) (roundsFrame x) (roundsWanted x) (roundsRun x)
+rounds-says x = x .holds
+
+-- ---- a list of calls in one run
+-- each call is lent parts of the buffers; record and buffers are handed on as it left them
+pub data Chain (file : List ℕ) (l : List ℤ) : List Call → Run → List Called → Type 0 where
+  none : {r : Run} → Chain file l [] r []
+  more : {calls : List Call} {r : Run} {ds : List Called} (x : Call) (o : RoundsCall)
+      → roundsFile o ≡ file → roundsFrame o ≡ l → roundsWanted o ≡ x .wanted → roundsRun o ≡ lend (x .lent) r
+      → Chain file l calls (giveBack (roundsGave o) r .run) ds → Chain file l (x ∷ calls) r (giveBack (roundsGave o) r ∷ ds)
+
+pub chain-is : {file : List ℕ} {l : List ℤ} {calls : List Call} {r : Run} {ds : List Called} → Chain file l calls r ds → ds ≡ callList file l calls r
+unfolding lentCall
+chain-is none = refl
+chain-is {file} {l} (more {calls} {r} {ds} x o ef el ew er h) =
+    ap₂ _∷_ one (chain-is h ∙ ap (λ d. callList file l calls (d .run)) one)
+  where
+    one : giveBack (roundsGave o) r ≡ lentCall file l x r
+    one = ap (λ d. giveBack d r) (rounds-says o ∙ ap (λ g. call g (roundsFrame o) (roundsWanted o) (roundsRun o)) ef ∙ ap (λ g. call file g (roundsWanted o) (roundsRun o)) el
+        ∙ ap₂ (λ v q. call file l v q) ew er)
+
+-- the buffers with these copies and offsets
+abbrev pub startedWith : Buffers → List ℤ → List ℤ → Buffers
+startedWith b z y = record { spins = b .spins; copies = z; offsets = y; multipliers = b .multipliers; masks = b .masks; word = b .word; certificate = b .certificate }
+
+-- a start on these buffers that is not refused, and calls from what it left; `ds` is what each call comes to
+pub record CodeRun (file : List ℕ) (l : List ℤ) (calls : List Call) (b : Buffers) (ds : List Called) : Type 0 where
+  pub first : StartCall
+  pub sameFile : startsFile first ≡ file
+  pub sameCopies : startsCopies first ≡ b .copies
+  pub sameOffsets : startsOffsets first ≡ b .offsets
+  pub progress : Progress
+  pub begun : startGave first .answer ≡ gives progress
+  pub chain : Chain file l calls (record { progress = progress; buffers = startedWith b (startGave first .copies) (startGave first .offsets) }) ds
+  pub lent : AllLent b calls
+
+started-is : {file : List ℕ} {l : List ℤ} {calls : List Call} {b : Buffers} {ds : List Called} (h : CodeRun file l calls b ds) → startGave (h .first) ≡ start file (b .copies) (b .offsets)
+started-is {file} {b = b} h = start-says (h .first) ∙ ap (λ g. start g (startsCopies (h .first)) (startsOffsets (h .first))) (h .sameFile) ∙ ap₂ (start file) (h .sameCopies) (h .sameOffsets)
+
+only-fresh : (z y : List ℤ) (a : Answer Table) (p : Progress) → startBy z y a .answer ≡ gives p → p ≡ fresh
+only-fresh z y (refused k) p e = absurd (refused≢gives e)
+only-fresh z y (gives t) p e = sym (gives-inj _ _ e)
+
+begins-fresh : {file : List ℕ} {l : List ℤ} {calls : List Call} {b : Buffers} {ds : List Called} (h : CodeRun file l calls b ds) → h .progress ≡ fresh
+unfolding start
+begins-fresh {file} {b = b} h = only-fresh (b .copies) (b .offsets)
+    (then (codeFile file) (λ t. must (leb (edgesOf t) (length (b .copies)) && leb (edgesOf t) (length (b .offsets))) bufferShort (gives t))) (h .progress)
+    (ap (λ d. d .answer) (sym (started-is h)) ∙ h .begun)
+
+fresh-start : {file : List ℕ} {l : List ℤ} {calls : List Call} {b : Buffers} {ds : List Called} (t : Table) → codeFile file ≡ gives t → CodeRun file l calls b ds → FreshStart file t b
+fresh-start t e h = record { isTable = e; started = ap (λ d. d .answer) (sym (started-is h)) ∙ h .begun ∙ ap gives (begins-fresh h) }
+
+run-is : {file : List ℕ} {l : List ℤ} {calls : List Call} {b : Buffers} {ds : List Called} → CodeRun file l calls b ds → ds ≡ listFrom file l calls b
+run-is {file} {l} {calls} {b} h = chain-is (h .chain)
+    ∙ ap₂ (λ p d. callList file l calls (record { progress = p; buffers = startedWith b (d .copies) (d .offsets) })) (begins-fresh h) (started-is h)
+
+-- ---- demand 3: the list on the frame comes to `da`, the same list on the negated frame to `db`
+pub record CodeDemand3 (file : List ℕ) (t : Table) (l : List ℤ) (c : List Bool) (da db : List Called) : Type 0 where
+  pub best : (w : List Bool) (k : ℕ) (bs : List ℕ) → CertifiesOn t w k bs da → Best t l w
+  pub twin : SamePlaces t c da db
+  pub others : (w : List Bool) (k : ℕ) (bs : List ℕ) → CertifiesOn t w k bs da
+      → (calls : List Call) (d : Buffers) (ds : List Called) → CodeRun file (turns c l) calls d ds
+      → k ≤ wantedIn calls ds → CertifiesOn t (plus c w) k bs ds
+
+pub code-demand3 : (file : List ℕ) (t : Table) (l : List ℤ) (c : List Bool) (calls : List Call) (a b : Buffers) (da db : List Called)
+    → codeFile file ≡ gives t → Codeword t c → CodeRun file l calls a da → CodeRun file (turns c l) calls b db → CodeDemand3 file t l c da db
+code-demand3 file t l c calls a b da db e cw ha hb = record {
+  best = λ w k bs h. whole .best w k bs (subst (CertifiesOn t w k bs) (run-is ha) h);
+  twin = subst (λ x. SamePlaces t c x db) (sym (run-is ha)) (subst (SamePlaces t c (listFrom file l calls a)) (sym (run-is hb)) (whole .twin));
+  others = λ w k bs h xs d ds hd g.
+      subst (CertifiesOn t (plus c w) k bs) (sym (run-is hd))
+      (whole .others w k bs (subst (CertifiesOn t w k bs) (run-is ha) h) d (fresh-start t e hd) xs (hd .lent) (subst (λ x. k ≤ wantedIn xs x) (run-is hd) g));
+}
+  where
+    whole : Demand3 file t l c calls a b
+    whole = demand3 file t l c calls a b (fresh-start t e ha) (fresh-start t e hb) cw (ha .lent) (hb .lent)
+
+-- beside the proofs of the two functions: demand 3 and they cannot come apart
+pub proved : {M : Type 1} → st-statement M × (rd-statement M
+    × ((file : List ℕ) (t : Table) (l : List ℤ) (c : List Bool) (calls : List Call) (a b : Buffers) (da db : List Called)
+    → codeFile file ≡ gives t → Codeword t c → CodeRun file l calls a da → CodeRun file (turns c l) calls b db → CodeDemand3 file t l c da db))
+proved = (start-met, (rounds-met, code-demand3))

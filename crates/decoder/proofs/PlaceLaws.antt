@@ -1,0 +1,57 @@
+-- Lists within limits, members below n, and what stands at a place of a difference and of the first n numbers of a function. Assumes nothing.
+use mathlib.Core.Path.{_≡_, refl, ap, ap₂}
+use mathlib.Core.List.{List, [], _∷_}
+use Prim.Native.Nat.{ℕ, zero, suc, _≤_, _<_}
+use native.Mathlib.Nat.{le-of-suc-le-suc, suc-inj}
+use native.Mathlib.Omega.{arith}
+use lib.ListN.{length, take, replicate}
+use lib.IntN.{ℤ, pos, _-ℤ_}
+use Rattle.integers.specs.Linear.{lin, arithZ, Within}
+use Rattle.integers.specs.Sum.{AllWithin}
+use Rattle.rules.specs.Table.{at}
+use Rattle.rules.specs.Step.{minus}
+use Rattle.rules.specs.Round.{firstOf}
+use Rattle.rules.proofs.Duality.{Below}
+
+-- ---- every element between -b and b
+pub zero-within : (b : ℕ) → Within b (pos 0)
+zero-within b = simp lin (omega arithZ)
+
+pub zeros-within : (b n : ℕ) → AllWithin b (replicate n (pos 0))
+zeros-within b zero = tt
+zeros-within b (suc n) = (zero-within b, zeros-within b n)
+
+pub take-within : (b n : ℕ) (xs : List ℤ) → AllWithin b xs → AllWithin b (take n xs)
+take-within b zero xs h = tt
+take-within b (suc n) [] h = tt
+take-within b (suc n) (x ∷ xs) h = (h .0, take-within b n xs (h .1))
+
+-- ---- members below n
+pub below-more : (n k : ℕ) (ms : List ℕ) → n ≤ k → Below n ms → Below k ms
+below-more n k [] h b = tt
+below-more n k (m ∷ ms) h b = (wider m n k (b .0) h, below-more n k ms h (b .1))
+  where
+    wider : (m n k : ℕ) → m < n → n ≤ k → m < k
+    wider m n k p q = omega arith
+
+-- ---- differences
+pub minus-length : (vs zs : List ℤ) → length vs ≡ length zs → length (minus vs zs) ≡ length vs
+minus-length [] zs h = refl
+minus-length (v ∷ vs) [] h = absurd (omega arith)
+minus-length (v ∷ vs) (z ∷ zs) h = ap suc (minus-length vs zs (suc-inj h))
+
+pub minus-at : (vs zs : List ℤ) (k : ℕ) → k < length vs → k < length zs → at (minus vs zs) k ≡ at vs k -ℤ at zs k
+minus-at [] zs k h l = absurd (omega arith)
+minus-at (v ∷ vs) [] k h l = absurd (omega arith)
+minus-at (v ∷ vs) (z ∷ zs) zero h l = refl
+minus-at (v ∷ vs) (z ∷ zs) (suc k) h l = minus-at vs zs k (le-of-suc-le-suc h) (le-of-suc-le-suc l)
+
+-- ---- the first n numbers of f
+pub first-at : (n : ℕ) (f : ℕ → ℤ) (i : ℕ) → i < n → at (firstOf n f) i ≡ f i
+first-at zero f i h = absurd (omega arith)
+first-at (suc n) f zero h = refl
+first-at (suc n) f (suc i) h = first-at n (λ i. f (suc i)) i (le-of-suc-le-suc h)
+
+pub first-same : (n : ℕ) (f g : ℕ → ℤ) → ((i : ℕ) → i < n → f i ≡ g i) → firstOf n f ≡ firstOf n g
+first-same zero f g h = refl
+first-same (suc n) f g h = ap₂ _∷_ (h 0 (omega arith)) (first-same n (λ i. f (suc i)) (λ i. g (suc i)) (λ i k. h (suc i) (omega arith)))

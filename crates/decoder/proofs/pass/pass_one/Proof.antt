@@ -1,0 +1,135 @@
+-- `pass_one` meets its contract: the check's step on its parts, put back. Assumes nothing.
+use mathlib.Core.Path.{ap}
+use Prim.Native.Nat.{_+_}
+use lib.ListN.{getD}
+use borrow.Author.Needs.{needs}
+use Rattle.decoder.specs.Stepped.{Stepped}
+use Rattle.decoder.specs.Parts.{part, splice, placed, onePassed}
+use Rattle.decoder.proofs.pass.pass_one.Statement.{statement}
+use Rattle.decoder.proofs.pass.pass_one.Tie as tie
+
+mul-a : tie.Need-mul-a
+mul-a c = search needs
+
+shared-slice-read-a : tie.Need-shared-slice-read-a
+shared-slice-read-a c = search needs
+
+cast-a : tie.Need-cast-a
+cast-a c = search needs
+
+add-e : tie.Need-add-e
+add-e c = search needs
+
+mul-e : tie.Need-mul-e
+mul-e c = search needs
+
+shared-slice-read-e : tie.Need-shared-slice-read-e
+shared-slice-read-e c = search needs
+
+cast-e : tie.Need-cast-e
+cast-e c = search needs
+
+mul-step : tie.Need-mul-step
+mul-step c = search needs
+
+sub-step : tie.Need-sub-step
+sub-step c = search needs
+
+part-step-start : tie.Need-part-step-start
+part-step-start c = search needs
+
+part-step-end : tie.Need-part-step-end
+part-step-end c = search needs
+
+mul-step-2 : tie.Need-mul-step-2
+mul-step-2 c = search needs
+
+sub-step-2 : tie.Need-sub-step-2
+sub-step-2 c = search needs
+
+part-step-start-2 : tie.Need-part-step-start-2
+part-step-start-2 c = search needs
+
+part-step-end-2 : tie.Need-part-step-end-2
+part-step-end-2 c = search needs
+
+mul-step-3 : tie.Need-mul-step-3
+mul-step-3 c = search needs
+
+sub-step-3 : tie.Need-sub-step-3
+sub-step-3 c = search needs
+
+part-step-start-3 : tie.Need-part-step-start-3
+part-step-start-3 c = search needs
+
+part-step-end-3 : tie.Need-part-step-end-3
+part-step-end-3 c = search needs
+
+step-requires : tie.Need-step-requires
+unfolding part
+step-requires c κs = c .before .before .before .before .before .before .before .before .before .pre .1 .step
+
+mul-multipliers : tie.Need-mul-multipliers
+mul-multipliers c = search needs
+
+slice-write-multipliers : tie.Need-slice-write-multipliers
+slice-write-multipliers c = search needs
+
+mul-masks : tie.Need-mul-masks
+mul-masks c = search needs
+
+slice-write-masks : tie.Need-slice-write-masks
+slice-write-masks c = search needs
+
+same-length : tie.Need-same-length
+same-length c = search needs
+
+same-length-2 : tie.Need-same-length-2
+same-length-2 c = search needs
+
+same-length-3 : tie.Need-same-length-3
+same-length-3 c = search needs
+
+same-length-4 : tie.Need-same-length-4
+same-length-4 c = search needs
+
+returns : tie.Need-returns
+unfolding onePassed part splice
+returns c =
+    let a = c .before .before .before .before .before .before .before .before .before .before .before .before .args in
+    ap (λ (t : Stepped). placed (a .j) (getD (a .starts .now) (a .j) 0) (getD (a .starts .now) (a .j + 1) 0) t
+    (record { copies = a .copies .now; offsets = a .offsets .now; multipliers = a .multipliers .now; masks = a .masks .now })) (c .before .before .step .ensures)
+
+pub pass-one-spec : {M : Type 1} → statement M
+pass-one-spec =
+    tie.close
+    (tie.spec
+    mul-a
+    shared-slice-read-a
+    cast-a
+    add-e
+    mul-e
+    shared-slice-read-e
+    cast-e
+    mul-step
+    sub-step
+    part-step-start
+    part-step-end
+    mul-step-2
+    sub-step-2
+    part-step-start-2
+    part-step-end-2
+    mul-step-3
+    sub-step-3
+    part-step-start-3
+    part-step-end-3
+    step-requires
+    mul-multipliers
+    slice-write-multipliers
+    mul-masks
+    slice-write-masks
+    same-length
+    same-length-2
+    same-length-3
+    same-length-4
+    returns)

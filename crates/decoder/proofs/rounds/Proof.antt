@@ -1,0 +1,88 @@
+-- `rounds` meets its contract: a refusal as `admit` gives it, or the rounds that `perform_sized` does on the first parts. Assumes nothing.
+use mathlib.Core.Path.{_∙_}
+use borrow.Author.Needs.{needs}
+use Rattle.decoder.proofs.CallLaws.{told, call-refused, admitted-fit, admitted-call}
+use Rattle.decoder.proofs.rounds.Statement.{statement}
+use Rattle.decoder.proofs.rounds.Tie as tie
+
+slice-aggregate-admit : tie.Need-slice-aggregate-admit
+slice-aggregate-admit c = search needs
+
+slice-aggregate-admit-2 : tie.Need-slice-aggregate-admit-2
+slice-aggregate-admit-2 c = search needs
+
+admit-requires : tie.Need-admit-requires
+admit-requires c κs = search needs
+
+enum-known-answer : tie.Need-enum-known-answer
+enum-known-answer c = search needs
+
+enum-known-answer-2 : tie.Need-enum-known-answer-2
+enum-known-answer-2 c = search needs
+
+slice-aggregate-perform-sized : tie.Need-slice-aggregate-perform-sized
+slice-aggregate-perform-sized c = search needs
+
+slice-aggregate-perform-sized-2 : tie.Need-slice-aggregate-perform-sized-2
+slice-aggregate-perform-sized-2 c = search needs
+
+perform-sized-requires : tie.Need-perform-sized-requires
+perform-sized-requires c κs = admitted-fit _ _ _ _ _ _ _ _ _ _ _ (told _ _ _ _ _ (c .before .before .before .before .before .before .before .before .before .before .answer2 .given .1) (c .before .before .before .before .before .before .before .before .before .before .before .before .before .before .admit .ensures)) (search needs) (search needs)
+
+same-length : tie.Need-same-length
+same-length c = search needs
+
+same-length-2 : tie.Need-same-length-2
+same-length-2 c = search needs
+
+returns : tie.Need-returns
+returns c = call-refused _ _ _ _ _ _ _ _ _ (told _ _ _ _ _ (c .before .answer .given .1) (c .before .before .before .before .before .admit .ensures))
+
+same-length-3 : tie.Need-same-length-3
+same-length-3 c = search needs
+
+same-length-4 : tie.Need-same-length-4
+same-length-4 c = search needs
+
+same-length-5 : tie.Need-same-length-5
+same-length-5 c = search needs
+
+same-length-6 : tie.Need-same-length-6
+same-length-6 c = search needs
+
+same-length-7 : tie.Need-same-length-7
+same-length-7 c = search needs
+
+same-length-8 : tie.Need-same-length-8
+same-length-8 c = search needs
+
+same-length-9 : tie.Need-same-length-9
+same-length-9 c = search needs
+
+returns-2 : tie.Need-returns-2
+returns-2 c = c .before .before .before .before .before .before .before .before .before .before .before .perform-sized .ensures
+    ∙ admitted-call _ _ _ _ _ _ _ _ _ _ _ (told _ _ _ _ _ (c .before .before .before .before .before .before .before .before .before .before .before .before .before .before .before .before .before .before .before .before .before .before .answer2 .given .1) (c .before .before .before .before .before .before .before .before .before .before .before .before .before .before .before .before .before .before .before .before .before .before .before .before .before .before .admit .ensures)) (search needs) (search needs)
+
+pub rounds-spec : {M : Type 1} → statement M
+rounds-spec =
+    tie.close
+    (tie.spec
+    slice-aggregate-admit
+    slice-aggregate-admit-2
+    admit-requires
+    enum-known-answer
+    enum-known-answer-2
+    slice-aggregate-perform-sized
+    slice-aggregate-perform-sized-2
+    perform-sized-requires
+    same-length
+    same-length-2
+    returns
+    same-length-3
+    same-length-4
+    same-length-5
+    same-length-6
+    same-length-7
+    same-length-8
+    same-length-9
+    returns-2)

@@ -1,0 +1,107 @@
+-- `divide_totals` meets its contract: the first i spins are those of their totals. Assumes nothing.
+use mathlib.Core.Path.{_≡_, sym, _∙_, ap}
+use Prim.Native.Nat.{_-_, _≤_, _<_}
+use native.Mathlib.Omega.{arith}
+use lib.ListN.{length, getD}
+use lib.IntN.{pos}
+use mir.Syntax.{w32}
+use mir.Facts.{toZ-ofZ}
+use Rattle.integers.specs.Machine.{fit}
+use Rattle.rules.specs.Table.{at}
+use Rattle.rules.specs.Round.{firstOf}
+use Rattle.rules.proofs.RoundSizes.{first-length}
+use Rattle.decoder.specs.Totals.{spinOf, spinAt}
+use Rattle.decoder.proofs.FillLaws.{fill, fill-none, fill-length, fill-more, fill-all}
+use Rattle.decoder.proofs.PlaceLaws.{first-at}
+use Rattle.decoder.proofs.spins.divide_totals.Statement.{statement}
+use Rattle.decoder.proofs.spins.divide_totals.Tie as tie
+
+abbrev Inv-loop : tie.InvT-loop
+Inv-loop totals degrees spins₀ i₀ spins i = (i ≤ length spins₀) × (spins ≡ fill i (firstOf (length spins₀) (spinAt totals degrees)) spins₀)
+
+abbrev μ-loop : tie.MeasureT-loop
+μ-loop totals degrees spins₀ i₀ spins i = length spins₀ - i
+
+loop-holds : tie.Need-loop-holds Inv-loop μ-loop
+loop-holds c = (omega arith, sym (fill-none _ _))
+
+long : (c : tie.At-loop Inv-loop μ-loop) → length (c .loop .spins) ≡ length (c .before .before .args .spins .now)
+long c =
+    let args = c .before .before .args in
+    ap length (c .loop .inv .1) ∙ fill-length (c .loop .i) (firstOf (length (args .spins .now)) (spinAt (args .totals .now) (args .degrees .now))) (args .spins .now)
+
+inside : (c : tie.In-loop Inv-loop μ-loop) → c .before .loop .i < length (c .before .before .before .args .spins .now)
+inside c = omega (arith, long (c .before))
+
+mul-spin-of : tie.Need-mul-spin-of Inv-loop μ-loop
+mul-spin-of c = omega arith
+
+shared-slice-copy-out-spin-of : tie.Need-shared-slice-copy-out-spin-of Inv-loop μ-loop
+shared-slice-copy-out-spin-of c = omega (arith, inside c, c .before .before .before .pre .totals)
+
+mul-spin-of-2 : tie.Need-mul-spin-of-2 Inv-loop μ-loop
+mul-spin-of-2 c = omega arith
+
+shared-slice-read-spin-of : tie.Need-shared-slice-read-spin-of Inv-loop μ-loop
+shared-slice-read-spin-of c = omega (arith, inside (c .before .before), c .before .before .before .before .before .pre .degrees)
+
+spin-of-requires : tie.Need-spin-of-requires Inv-loop μ-loop
+spin-of-requires c κs = c .before .before .before .before .before .pre .standing (c .before .before .before .loop .i) (inside (c .before .before))
+
+mul-t13 : tie.Need-mul-t13 Inv-loop μ-loop
+mul-t13 c = omega arith
+
+slice-set-from-spins : tie.Need-slice-set-from-spins Inv-loop μ-loop
+slice-set-from-spins c = c .before .before .before .loop-test .taken
+
+add-i : tie.Need-add-i Inv-loop μ-loop
+add-i c = omega arith
+
+loop-less : tie.Need-loop-less Inv-loop μ-loop
+loop-less c = omega (arith, inside (c .before .before .before))
+
+loop-again : tie.Need-loop-again Inv-loop μ-loop
+unfolding spinAt
+loop-again c =
+    let args = c .before .before .before .before .before .before .args in
+    let loop = c .before .before .before .before .loop in
+    let n = length (args .spins .now) in
+    let f = spinAt (args .totals .now) (args .degrees .now) in
+    let here = inside (c .before .before .before) in
+    let read = toZ-ofZ (fit w32 (at (args .totals .now) (loop .i)) (c .before .before .spin-of-arg .given)) in (
+      omega (arith, here),
+      fill-more (loop .i) (firstOf n f) (args .spins .now) (loop .spins) _ (pos 0) (omega (arith, here, first-length n f))
+          (toZ-ofZ (fit w32 (c .spin-of .result) (c .spin-of .ok)) ∙ c .spin-of .ensures ∙ ap (λ t. spinOf t (getD (args .degrees .now) (loop .i) 0)) read ∙ sym (first-at n f (loop .i) here))
+          (loop .inv .1),
+    )
+
+same-length : tie.Need-same-length Inv-loop μ-loop
+same-length c = long (c .before)
+
+returns : tie.Need-returns Inv-loop μ-loop
+returns c =
+    let args = c .before .before .before .args in
+    let loop = c .before .loop in
+    let n = length (args .spins .now) in
+    let f = spinAt (args .totals .now) (args .degrees .now) in
+    loop .inv .1 ∙ fill-all (loop .i) (firstOf n f) (args .spins .now) (first-length n f) (omega (arith, long (c .before)))
+
+pub divide-totals-spec : {M : Type 1} → statement M
+divide-totals-spec =
+    tie.close
+    (tie.spec
+    Inv-loop
+    μ-loop
+    loop-holds
+    mul-spin-of
+    shared-slice-copy-out-spin-of
+    mul-spin-of-2
+    shared-slice-read-spin-of
+    spin-of-requires
+    mul-t13
+    slice-set-from-spins
+    add-i
+    loop-less
+    loop-again
+    same-length
+    returns)

@@ -1,0 +1,72 @@
+-- `find_spins` meets its contract: the frame, then the edges, then the division make the spins. Assumes nothing.
+use mathlib.Core.Path.{sym, _∙_, subst}
+use mathlib.Core.List.{List}
+use lib.ListN.{length}
+use lib.IntN.{ℤ}
+use borrow.Author.Needs.{needs}
+use Rattle.rules.specs.Step.{minus}
+use Rattle.rules.specs.Buffers.{over}
+use Rattle.decoder.specs.Totals.{Gathered, EdgesFit}
+use Rattle.decoder.proofs.TotalsLaws.{zeros, edges-fit, totals-fit, spins-are}
+use Rattle.decoder.proofs.spins.find_spins.Statement.{statement}
+use Rattle.decoder.proofs.spins.find_spins.Tie as tie
+
+slice-aggregate-take-frame : tie.Need-slice-aggregate-take-frame
+slice-aggregate-take-frame c = search needs
+
+take-frame-requires : tie.Need-take-frame-requires
+take-frame-requires c κs = search needs
+
+slice-aggregate-add-edges : tie.Need-slice-aggregate-add-edges
+slice-aggregate-add-edges c = search needs
+
+add-edges-requires : tie.Need-add-edges-requires
+add-edges-requires c κs =
+    let start = c .before .before .before .before .before .before in
+    let args = start .args in
+    subst (λ t. EdgesFit t (args .members .now) (args .copies .now) (args .offsets .now)) (sym (c .before .before .take-frame .ensures))
+    (edges-fit (length (args .spins .now)) (args .frame .now) (args .members .now) (args .degrees .now) (args .copies .now) (args .offsets .now) (start .pre))
+
+slice-aggregate-divide-totals : tie.Need-slice-aggregate-divide-totals
+slice-aggregate-divide-totals c = search needs
+
+-- the totals as the edges leave them
+abbrev totals : tie.After-add-edges → List ℤ
+totals c = c .add-edges .last .1 .1 .1 .0
+
+gathered : (c : tie.After-add-edges)
+    → let args = c .before .before .before .before .before .before .before .args in Gathered (over (args .frame .now) zeros) (totals c) (args .members .now) (minus (args .copies .now) (args .offsets .now))
+gathered c =
+    let args = c .before .before .before .before .before .before .before .args in
+    subst (λ t. Gathered t (totals c) (args .members .now) (minus (args .copies .now) (args .offsets .now))) (c .before .before .before .take-frame .ensures) (c .add-edges .ensures)
+
+divide-totals-requires : tie.Need-divide-totals-requires
+divide-totals-requires c κs =
+    let start = c .before .before .before .before .before .before .before .before .before .before in
+    let args = start .args in
+    let added = c .before .before .before in
+    totals-fit (length (args .spins .now)) (args .frame .now) (args .members .now) (args .degrees .now) (args .copies .now) (args .offsets .now) (start .pre) (totals added) (gathered added)
+
+same-length : tie.Need-same-length
+same-length c = search needs
+
+returns : tie.Need-returns
+returns c =
+    let start = c .before .before .before .before .before .before .before .before .before .before .before .before in
+    let args = start .args in
+    let added = c .before .before .before .before .before in
+    c .before .divide-totals .ensures
+    ∙ spins-are (length (args .spins .now)) (args .frame .now) (args .members .now) (args .degrees .now) (args .copies .now) (args .offsets .now) (start .pre) (totals added) (gathered added)
+
+pub find-spins-spec : {M : Type 1} → statement M
+find-spins-spec =
+    tie.close
+    (tie.spec
+    slice-aggregate-take-frame
+    take-frame-requires
+    slice-aggregate-add-edges
+    add-edges-requires
+    slice-aggregate-divide-totals
+    divide-totals-requires
+    same-length
+    returns)

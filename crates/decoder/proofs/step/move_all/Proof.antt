@@ -1,0 +1,122 @@
+-- `move_all` meets its contract: the first i places are done, and the others still hold the values. Assumes nothing.
+use mathlib.Core.Path.{_≡_, sym, _∙_, ap, ap₂, subst}
+use Prim.Native.Nat.{_-_, _<_}
+use native.Mathlib.Omega.{arith}
+use lib.ListN.{length}
+use lib.IntN.{_-ℤ_}
+use mir.Syntax.{w32}
+use mir.Val.{SFits, toZ, ofZ}
+use mir.Facts.{toZ-ofZ}
+use Rattle.integers.specs.Linear.{Within}
+use Rattle.integers.specs.Clip.{clip-within}
+use Rattle.integers.specs.Machine.{fit}
+use Rattle.rules.specs.Table.{at}
+use Rattle.rules.specs.Step.{move}
+use Rattle.rules.proofs.Optimal.{within-at}
+use Rattle.decoder.proofs.MoveLaws.{offset-fits, Moving, moving-first, moving-long, moving-at, moving-next, moving-last}
+use Rattle.decoder.proofs.step.move_all.Statement.{statement}
+use Rattle.decoder.proofs.step.move_all.Tie as tie
+
+abbrev Inv-loop : tie.InvT-loop
+Inv-loop mask b copies₀ offsets₀ i₀ copies offsets i = Moving b mask copies₀ offsets₀ i copies offsets
+
+abbrev μ-loop : tie.MeasureT-loop
+μ-loop mask b copies₀ offsets₀ i₀ copies offsets i = length offsets₀ - i
+
+loop-holds : tie.Need-loop-holds Inv-loop μ-loop
+loop-holds c = moving-first _ _ _ _
+
+long : (c : tie.At-loop Inv-loop μ-loop) → (length (c .loop .copies) ≡ length (c .before .args .offsets .now)) × (length (c .loop .offsets) ≡ length (c .before .args .offsets .now))
+long c =
+    let a = c .before .args in
+    moving-long (a .b) (a .mask) (a .copies .now) (a .offsets .now) (c .before .pre) (c .loop .i) (c .loop .copies) (c .loop .offsets) (c .loop .inv)
+
+mul-v : tie.Need-mul-v Inv-loop μ-loop
+mul-v c = omega (arith, long (c .before))
+
+slice-copy-out-v : tie.Need-slice-copy-out-v Inv-loop μ-loop
+slice-copy-out-v c = omega arith
+
+holds-requires : tie.Need-holds-requires Inv-loop μ-loop
+holds-requires c κs = omega (arith, long (c .before .before), c .before .before .before .pre .few)
+
+value : (c : tie.After-v Inv-loop μ-loop) → toZ w32 (ofZ w32 (at (c .before .before .loop .offsets) (c .before .before .loop .i))) ≡ at (c .before .before .before .args .offsets .now) (c .before .before .loop .i)
+value c =
+    let start = c .before .before .before in
+    let l = c .before .before .loop in
+    toZ-ofZ (fit w32 (at (l .offsets) (l .i)) (c .v .given))
+    ∙ moving-at (start .args .b) (start .args .mask) (start .args .copies .now) (start .args .offsets .now) (start .pre) (l .i) (l .copies) (l .offsets) (l .inv)
+
+small : (c : tie.At-loop Inv-loop μ-loop) → Within 8384512 (at (c .before .args .offsets .now) (c .loop .i))
+small c = within-at 8384512 (c .before .args .offsets .now) (c .before .pre .small) (c .loop .i)
+
+moved-requires : tie.Need-moved-requires Inv-loop μ-loop
+moved-requires c κs = (subst (Within 8384512) (sym (value (c .before))) (small (c .before .before .before)), c .before .before .before .before .pre .bounded)
+
+mul-z : tie.Need-mul-z Inv-loop μ-loop
+mul-z c = omega (arith, long (c .before .before .before .before))
+
+slice-set-from-z : tie.Need-slice-set-from-z Inv-loop μ-loop
+slice-set-from-z c = omega (arith, long (c .before .before .before .before))
+
+copy : (c : tie.After-moved Inv-loop μ-loop)
+    → toZ w32 (ofZ w32 (c .moved .result)) ≡ move 4096 (c .before .before .before .before .before .args .b) (c .before .holds .result) (at (c .before .before .before .before .before .args .offsets .now) (c .before .before .before .before .loop .i))
+copy c = toZ-ofZ (fit w32 (c .moved .result) (c .moved .ok)) ∙ c .moved .ensures ∙ ap (move 4096 (c .before .before .before .before .before .args .b) (c .before .holds .result)) (value (c .before .before))
+
+sub-offsets : tie.Need-sub-offsets Inv-loop μ-loop
+sub-offsets c = subst (SFits w32) (sym (ap₂ _-ℤ_ (value (c .before .before)) (copy c))) (offset-fits _ _ (small (c .before .before .before .before)) (clip-within 4096 _))
+
+mul-t8 : tie.Need-mul-t8 Inv-loop μ-loop
+mul-t8 c = omega (arith, long (c .before .before .before .before))
+
+slice-set-from-offsets : tie.Need-slice-set-from-offsets Inv-loop μ-loop
+slice-set-from-offsets c = omega arith
+
+add-i : tie.Need-add-i Inv-loop μ-loop
+add-i c = omega (arith, long (c .before .before .before .before))
+
+loop-less : tie.Need-loop-less Inv-loop μ-loop
+loop-less c = omega (arith, long (c .before .before .before .before))
+
+loop-again : tie.Need-loop-again Inv-loop μ-loop
+loop-again c =
+    let start = c .before .before .before .before .before in
+    let l = c .before .before .before .before .loop in
+    let inside : l .i < length (start .args .offsets .now) = omega (arith, long (c .before .before .before .before)) in
+    moving-next (start .args .b) (start .args .mask) (start .args .copies .now) (start .args .offsets .now) (start .pre) (l .i) (l .copies) (l .offsets) (l .inv)
+    (c .before .holds .result) _ _ inside (c .before .holds .ensures) (copy c) (toZ-ofZ (sub-offsets c) ∙ ap (λ v. v -ℤ toZ w32 (ofZ w32 (c .moved .result))) (value (c .before .before)))
+
+same-length : tie.Need-same-length Inv-loop μ-loop
+same-length c = omega (arith, long (c .before), c .before .before .pre .copiesLong)
+
+same-length-2 : tie.Need-same-length-2 Inv-loop μ-loop
+same-length-2 c = long (c .before) .1
+
+returns : tie.Need-returns Inv-loop μ-loop
+returns c =
+    let start = c .before .before in
+    let l = c .before .loop in
+    moving-last (start .args .b) (start .args .mask) (start .args .copies .now) (start .args .offsets .now) (start .pre) (l .i) (l .copies) (l .offsets) (l .inv) (omega (arith, long (c .before)))
+
+pub move-all-spec : {M : Type 1} → statement M
+move-all-spec =
+    tie.close
+    (tie.spec
+    Inv-loop
+    μ-loop
+    loop-holds
+    mul-v
+    slice-copy-out-v
+    holds-requires
+    moved-requires
+    mul-z
+    slice-set-from-z
+    sub-offsets
+    mul-t8
+    slice-set-from-offsets
+    add-i
+    loop-less
+    loop-again
+    same-length
+    same-length-2
+    returns)

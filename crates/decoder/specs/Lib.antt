@@ -1,0 +1,15 @@
+pub mod Layout
+pub mod Spins
+pub mod Passed
+pub mod Closing
+pub mod Reply
+pub mod Admitted
+pub mod Ready
+pub mod Done
+pub mod Totals
+pub mod Lifted
+pub mod Stepped
+pub mod Parts
+pub mod Candidate
+pub mod Room
+pub mod OnParts

@@ -1,0 +1,40 @@
+-- What the pass over all checks asks of its caller, and what it leaves (document 01, "One round", steps 2 and 3). Definitions only. Assumes nothing.
+use mathlib.Core.Path.{_≡_}
+use mathlib.Core.List.{List}
+use Prim.Native.Nat.{ℕ}
+use lib.ListN.{length}
+use lib.IntN.{ℤ}
+use Rattle.integers.specs.Sum.{AllWithin}
+use Rattle.rules.specs.Limits.{unit}
+use Rattle.rules.specs.Step.{Step}
+use Rattle.rules.specs.Round.{pass, copiesIn, offsetsIn, entriesIn}
+use Rattle.rules.specs.Run.{multipliersOf, masksOf}
+use Rattle.decoder.specs.Layout.{checksFrom, Holds}
+
+pub record Passed : Type 0 where
+  pub copies : List ℤ
+  pub offsets : List ℤ
+  pub multipliers : List ℕ
+  pub masks : List ℕ
+
+abbrev pub passedBy : List Step → Passed
+passedBy ss = record {
+  copies = copiesIn ss;
+  offsets = offsetsIn ss;
+  multipliers = multipliersOf (entriesIn ss);
+  masks = masksOf (entriesIn ss);
+}
+
+-- f the spins, cs the checks, ys the offsets
+unfoldable pub passed : (ℕ → ℤ) → List (List ℕ) → List ℤ → Passed
+passed f cs ys = passedBy (pass unit f cs ys)
+
+pub record PassFits (n : ℕ) (ss ms : List ℕ) (s z y : List ℤ) (bs ks : List ℕ) : Type 0 where
+  pub holds : Holds n ss ms
+  pub size : length s ≡ n
+  pub spins : AllWithin 4096 s
+  pub copiesLong : length z ≡ length ms
+  pub offsetsLong : length y ≡ length ms
+  pub offsets : AllWithin 8380416 y
+  pub multipliersLong : length bs ≡ length (checksFrom ss ms)
+  pub masksLong : length ks ≡ length (checksFrom ss ms)

@@ -1,0 +1,92 @@
+// One check in a round: its cut, its multiplier, its new copies and its new offsets.
+use super::mask::holds;
+use super::multiplier::least_multiplier;
+use cut::clip;
+ghost use mathlib.Core.Path.{_≡_};
+ghost use Prim.Native.Nat.{_≤_};
+ghost use lib.ListN.{length};
+ghost use Rattle.integers.specs.Linear.{Within};
+ghost use Rattle.integers.specs.Sum.{AllWithin};
+ghost use Rattle.rules.specs.Limits.{unit};
+ghost use Rattle.rules.specs.Table.{at};
+ghost use Rattle.rules.specs.Mask.{setOf};
+ghost use Rattle.rules.specs.Cut.{cut};
+ghost use Rattle.rules.specs.Step.{clips, move, moves, minus};
+ghost use Rattle.rules.specs.Round.{values};
+ghost use Rattle.rules.proofs.Duality.{Below};
+ghost use Rattle.cut.specs.CutMask.{cutMask};
+ghost use Rattle.decoder.specs.Stepped.{steppedOn, stepped, StepFits, MoveFits};
+
+// What a check adds to the round's multipliers and masks: 0 and 0 without a cut.
+pub struct Entry {
+    pub multiplier: u32,
+    pub mask: u32,
+}
+
+// v = spin + y, in the offsets' place.
+fn add_spins(spins: &[i32], members: &[u16], offsets: &mut [i32])
+    requires { ⌜ (length (now offsets) ≡ length (now members)) × Below (length (now spins)) (now members) × AllWithin 4096 (now spins) × AllWithin 8380416 (now offsets) ⌝ }
+    ensures { λ _. ⌜ now (offsets .exit) ≡ values (at (now (spins .entry))) (now (members .entry)) (now (offsets .entry)) ⌝ }
+{
+    let mut i = 0;
+    while i < members.len() {
+        let m = members[i] as usize;
+        offsets[i] = spins[m] + offsets[i];
+        i += 1;
+    }
+}
+
+// The multiplier of the cut that the mask is, and 0 of none.
+fn multiplier_for(v: &[i32], mask: u32) -> u32
+    requires { ⌜ (length (now v) ≤ 32) × AllWithin 8384512 (now v) × (mask ≡ cutMask (cut unit (clips unit (now v)))) ⌝ }
+    ensures { λ r. ⌜ (r ≡ steppedOn (now (v .entry)) .multiplier) × (r ≤ 8388608) ⌝ }
+{
+    if mask == 0 {
+        return 0;
+    }
+    least_multiplier(v, mask)
+}
+
+// A member's new copy: "clip(v + b) on V, clip(v − b) elsewhere".
+fn moved(v: i32, t: bool, b: u32) -> i32
+    requires { ⌜ (Within 8384512 v) × (b ≤ 8388608) ⌝ }
+    ensures { λ r. ⌜ r ≡ move unit b t v ⌝ }
+{
+    if t {
+        return clip(v + b as i32);
+    }
+    clip(v - b as i32)
+}
+
+// The new copies z, and y = v - z in the place of v.
+fn move_all(mask: u32, b: u32, copies: &mut [i32], offsets: &mut [i32])
+    requires { ⌜ MoveFits b (now copies) (now offsets) ⌝ }
+    ensures { λ _. ⌜ (now (copies .exit) ≡ moves unit b (setOf (length (now (offsets .entry))) mask) (now (offsets .entry)))
+        × (now (offsets .exit) ≡ minus (now (offsets .entry)) (moves unit b (setOf (length (now (offsets .entry))) mask) (now (offsets .entry)))) ⌝ }
+{
+    let mut i = 0;
+    while i < offsets.len() {
+        let v = offsets[i];
+        let z = moved(v, holds(mask, i), b);
+        copies[i] = z;
+        offsets[i] = v - z;
+        i += 1;
+    }
+}
+
+// "On each check, v = spin + y per edge, and the cut search runs on v clipped." Without a cut the
+// multiplier is 0, and the new copies are v clipped.
+pub(crate) fn step(spins: &[i32], members: &[u16], copies: &mut [i32], offsets: &mut [i32]) -> Entry
+    requires { ⌜ StepFits (now spins) (now members) (now copies) (now offsets) ⌝ }
+    ensures { λ r. ⌜ (record { copies = now (copies .exit); offsets = now (offsets .exit); multiplier = r .multiplier; mask = r .mask })
+        ≡ stepped (at (now (spins .entry))) (now (members .entry)) (now (offsets .entry)) ⌝ }
+{
+    add_spins(spins, members, offsets);
+    let mask = cut::of(offsets);
+    let b = multiplier_for(offsets, mask);
+    move_all(mask, b, copies, offsets);
+    Entry {
+        multiplier: b,
+        mask,
+    }
+}

@@ -1,0 +1,4 @@
+// The frame report of standard input.
+fn main() {
+    reporting::report_input();
+}

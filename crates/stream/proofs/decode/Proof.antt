@@ -1,0 +1,81 @@
+-- `decode` meets its contract: a number is two bytes. Assumes nothing.
+use mathlib.Core.Path.{_≡_}
+use Prim.Native.Nat.{_-_, _≤_}
+use native.Mathlib.Omega.{arith}
+use lib.ListN.{length}
+use borrow.Author.Needs.{needs}
+use Rattle.stream.proofs.decode.Statement.{statement}
+use Rattle.stream.proofs.decode.Tie as tie
+
+abbrev Inv-loop : tie.InvT-loop
+Inv-loop bytes numbers₀ count i₀ numbers i = (i ≤ count) × (length numbers ≡ length numbers₀)
+
+abbrev μ-loop : tie.MeasureT-loop
+μ-loop bytes numbers₀ count i₀ numbers i = count - i
+
+loop-holds : tie.Need-loop-holds Inv-loop μ-loop
+loop-holds c = search needs
+
+mul-u16-of : tie.Need-mul-u16-of Inv-loop μ-loop
+mul-u16-of c = search needs
+
+shared-slice-read-u16-of : tie.Need-shared-slice-read-u16-of Inv-loop μ-loop
+shared-slice-read-u16-of c = search needs
+
+mul-u16-of-2 : tie.Need-mul-u16-of-2 Inv-loop μ-loop
+mul-u16-of-2 c = search needs
+
+add-u16-of : tie.Need-add-u16-of Inv-loop μ-loop
+add-u16-of c = search needs
+
+shared-slice-read-u16-of-2 : tie.Need-shared-slice-read-u16-of-2 Inv-loop μ-loop
+shared-slice-read-u16-of-2 c = search needs
+
+u16-of-requires : tie.Need-u16-of-requires Inv-loop μ-loop
+u16-of-requires c κs = search needs
+
+signed-requires : tie.Need-signed-requires Inv-loop μ-loop
+signed-requires c κs = search needs
+
+mul-t15 : tie.Need-mul-t15 Inv-loop μ-loop
+mul-t15 c = search needs
+
+slice-set-from-numbers : tie.Need-slice-set-from-numbers Inv-loop μ-loop
+slice-set-from-numbers c = search needs
+
+add-i : tie.Need-add-i Inv-loop μ-loop
+add-i c = search needs
+
+loop-less : tie.Need-loop-less Inv-loop μ-loop
+loop-less c = search needs
+
+loop-again : tie.Need-loop-again Inv-loop μ-loop
+loop-again c = (omega arith, search needs)
+
+same-length : tie.Need-same-length Inv-loop μ-loop
+same-length c = search needs
+
+returns : tie.Need-returns Inv-loop μ-loop
+returns c = search needs
+
+pub decode-spec : {M : Type 1} → statement M
+decode-spec =
+    tie.close
+    (tie.spec
+    Inv-loop
+    μ-loop
+    loop-holds
+    mul-u16-of
+    shared-slice-read-u16-of
+    mul-u16-of-2
+    add-u16-of
+    shared-slice-read-u16-of-2
+    u16-of-requires
+    signed-requires
+    mul-t15
+    slice-set-from-numbers
+    add-i
+    loop-less
+    loop-again
+    same-length
+    returns)

@@ -1,0 +1,62 @@
+-- `print_signed` meets its contract. Assumes nothing.
+use mathlib.Core.Path.{sym, subst}
+use lib.IntN.{pos}
+use lib.Signed.{_≤ℤ_}
+use mir.Facts.{toZ-ofZ}
+use Rattle.integers.specs.Linear.{lin, arithZ}
+use Rattle.integers.specs.Machine.{known, raw}
+use borrow.Author.Needs.{needs}
+use Rattle.stream.proofs.print_signed.Statement.{statement}
+use Rattle.stream.proofs.print_signed.Tie as tie
+
+slice-aggregate-print-number : tie.Need-slice-aggregate-print-number
+slice-aggregate-print-number c = search needs
+
+add-bare : tie.Need-add-bare
+add-bare c = let x = known (c .before .before .fits .n) in simp lin (omega arithZ)
+
+sub-bare : tie.Need-sub-bare
+sub-bare c = simp (toZ-ofZ, add-bare c) (simp lin (omega (arithZ, known (c .before .before .fits .n))))
+
+nonneg : (c : tie.After-print-number-arg) → pos 0 ≤ℤ raw (sub-bare c)
+nonneg c = simp (toZ-ofZ, add-bare c) (simp lin (omega (arithZ, known (c .before .before .fits .n))))
+
+bare-requires : tie.Need-bare-requires
+bare-requires c κs = subst (λ z. pos 0 ≤ℤ z) (sym (toZ-ofZ (sub-bare c))) (nonneg c)
+
+add-print-number : tie.Need-add-print-number
+add-print-number c = search needs
+
+print-number-requires : tie.Need-print-number-requires
+print-number-requires c κs = search needs
+
+slice-aggregate-print-number-2 : tie.Need-slice-aggregate-print-number-2
+slice-aggregate-print-number-2 c = search needs
+
+bare-requires-2 : tie.Need-bare-requires-2
+bare-requires-2 c κs = simp lin (omega (arithZ, known (c .before .before .fits .n)))
+
+print-number-requires-2 : tie.Need-print-number-requires-2
+print-number-requires-2 c κs = search needs
+
+returns : tie.Need-returns
+returns c = search needs
+
+returns-2 : tie.Need-returns-2
+returns-2 c = search needs
+
+pub print-signed-spec : {M : Type 1} → statement M
+print-signed-spec =
+    tie.close
+    (tie.spec
+    slice-aggregate-print-number
+    add-bare
+    sub-bare
+    bare-requires
+    add-print-number
+    print-number-requires
+    slice-aggregate-print-number-2
+    bare-requires-2
+    print-number-requires-2
+    returns
+    returns-2)

@@ -1,0 +1,104 @@
+// Numbers on standard input and output, for the programs. No contract can say what is read or
+// written.
+use libc::STDIN_FILENO;
+use libc::STDOUT_FILENO;
+ghost use mathlib.Core.Path.{_≡_};
+ghost use Prim.Native.Nat.{_+_, _*_, _≤_, _<_};
+ghost use lib.IntN.{pos};
+ghost use lib.ListN.{length};
+ghost use lib.Signed.{_≤ℤ_};
+
+const NUMBERS_AT_ONCE: usize = 4096;
+
+const BYTES_AT_ONCE: usize = 2 * NUMBERS_AT_ONCE;
+
+// Writes the label, then n.
+pub fn print_number(label: &[u8], n: u64) {
+    io::write_all(STDOUT_FILENO, label);
+    io::print_decimal(STDOUT_FILENO, n);
+}
+
+fn bare(n: i64) -> u64
+    requires { ⌜ pos 0 ≤ℤ n ⌝ }
+    ensures { λ r. ⌜ r < 9223372036854775808 ⌝ }
+{
+    n as u64
+}
+
+// Writes n. The least number has no opposite of its own type.
+pub fn print_signed(n: i64) {
+    if n < 0 {
+        print_number(b"-", bare(-(n + 1)) + 1);
+    } else {
+        print_number(b"", bare(n));
+    }
+}
+
+// Reads little-endian numbers until `numbers` has no room, the input ends or 4,096 are read, and
+// answers how many bytes that took. The half of a number at the end is not stored.
+pub fn read_i16(numbers: &mut [i16]) -> usize
+    ensures { λ r. ⌜ r ≤ 2 * length (now (numbers .entry)) ⌝ }
+{
+    let mut bytes = [0u8; BYTES_AT_ONCE];
+    read_by(&mut bytes, numbers)
+}
+
+fn read_by(bytes: &mut [u8], numbers: &mut [i16]) -> usize
+    requires { ⌜ 8192 ≤ length (now bytes) ⌝ }
+    ensures { λ r. ⌜ r ≤ 2 * length (now (numbers .entry)) ⌝ }
+{
+    let size = bytes_for(numbers.len());
+    let got = read_first(bytes, size);
+    decode(bytes, numbers, got / 2);
+    got
+}
+
+fn read_first(bytes: &mut [u8], size: usize) -> usize
+    requires { ⌜ size ≤ length (now bytes) ⌝ }
+    ensures { λ r. ⌜ r ≤ size ⌝ }
+{
+    io::read_full(STDIN_FILENO, &mut bytes[..size])
+}
+
+fn bytes_for(count: usize) -> usize
+    ensures { λ r. ⌜ (r ≤ 2 * count) × (r ≤ 8192) ⌝ }
+{
+    if count < NUMBERS_AT_ONCE {
+        2 * count
+    } else {
+        BYTES_AT_ONCE
+    }
+}
+
+fn decode(bytes: &[u8], numbers: &mut [i16], count: usize)
+    requires { ⌜ (2 * count ≤ length (now bytes)) × (count ≤ length (now numbers)) ⌝ }
+{
+    let mut i: usize = 0;
+    while i < count {
+        numbers[i] = signed(u16_of(bytes[2 * i], bytes[2 * i + 1]));
+        i += 1;
+    }
+}
+
+// The number as a signed one: its upper half is negative.
+fn signed(n: usize) -> i16
+    requires { ⌜ n < 65536 ⌝ }
+{
+    if n < 32768 {
+        return n as i16;
+    }
+    !((65535 - n) as i16)
+}
+
+fn wide(x: u8) -> usize
+    ensures { λ r. ⌜ (r ≡ x) × (r ≤ 255) ⌝ }
+{
+    x as usize
+}
+
+// The little-endian number of two bytes.
+pub fn u16_of(low: u8, high: u8) -> usize
+    ensures { λ r. ⌜ (r ≡ low + 256 * high) × (r < 65536) ⌝ }
+{
+    wide(low) + 256 * wide(high)
+}
