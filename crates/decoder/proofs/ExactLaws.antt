@@ -17,7 +17,7 @@ use Rattle.rules.proofs.RoundSizes.{Sized}
 pub over-exact : {A : Type 0} (new old : List A) → length new ≡ length old → over new old ≡ new
 over-exact new old e = ap (λ n. new ++ drop n old) e ∙ ap (λ l. new ++ l) (drop-length old) ∙ append-nil new
 
-take-exact : {A : Type 0} (n : ℕ) (l : List A) → length l ≡ n → take n l ≡ l
+pub take-exact : {A : Type 0} (n : ℕ) (l : List A) → length l ≡ n → take n l ≡ l
 take-exact n l e = take-all n l (omega arith)
 
 -- the state is the copies and the offsets

@@ -6,6 +6,7 @@ use mathlib.Core.List.{List, [], _∷_}
 use Prim.Native.Nat.{ℕ, zero, suc, _+_, _*_, _-_, _/_, _%_, _≤_, _<_, min}
 use native.Mathlib.Omega.{arith}
 use native.Mathlib.Decide.{decLe}
+use native.Mathlib.Numerals.{add-one}
 use native.Mathlib.Nat.{div-add-mod', mod-lt, div-mul-le-self, mul-le-mul-left, mul-comm, add-mul, lt-of-not-le}
 use lib.IntN.{ℤ, pos, negsuc, negℤ, _+ℤ_}
 use lib.Signed.{_≤ℤ_, _<ℤ_, ltZ}
@@ -13,7 +14,8 @@ use Rattle.integers.specs.Linear.{lin, arithZ, _⩽_, Within, up, dn, lt-out, l
 use Rattle.integers.specs.Clip.{clipZ, clip-low, clip-high, clip-mid, Place, below, above, inside, place, clip-neg}
 use Rattle.rules.specs.Parity.{side, left}
 use Rattle.rules.specs.Step.{move, moves, short}
-use Rattle.decoder.specs.Lifted.{lifted, lifting, tally}
+use Rattle.cut.specs.Heights.{height, heightsOf}
+use Rattle.decoder.specs.Lifted.{lifted, lifting, tally, sumAt, countAt, LeastAt}
 
 -- ---- a member's share of the left side is what is lifted, at most 8192
 share-low : (x : ℤ) → x <ℤ negℤ (pos 4096) → pos 4096 +ℤ negℤ (pos 4096) ≡ pos (min (up (pos 4096 +ℤ x)) 8192)
@@ -45,34 +47,32 @@ share-clip x = go (place 4096 x)
     go (above h) = ap (λ z. pos 4096 +ℤ z) (clip-high 4096 x h) ∙ share-high x h
     go (inside h) = ap (λ z. pos 4096 +ℤ z) (clip-mid 4096 x h) ∙ share-mid x h
 
-join-up : (v : ℤ) (b : ℕ) → pos 4096 +ℤ (v +ℤ pos b) ≡ pos (4096 + b) +ℤ v
+join-up : (v : ℤ) (b : ℕ) → pos 4096 +ℤ (v +ℤ pos b) ≡ (pos 4096 +ℤ v) +ℤ pos b
 join-up v b = simp lin (omega arithZ)
 
-join-down : (v : ℤ) (b : ℕ) → pos 4096 +ℤ negℤ (v +ℤ negℤ (pos b)) ≡ pos (4096 + b) +ℤ negℤ v
+join-down : (v : ℤ) (b : ℕ) → pos 4096 +ℤ negℤ (v +ℤ negℤ (pos b)) ≡ (pos 4096 +ℤ negℤ v) +ℤ pos b
 join-down v b = simp lin (omega arithZ)
 
-share-is : (b : ℕ) (t : Bool) (v : ℤ) → pos 4096 +ℤ side t (move 4096 b t v) ≡ pos (min (lifted b t v) 8192)
+share-is : (b : ℕ) (t : Bool) (v : ℤ) → pos 4096 +ℤ side t (move 4096 b t v) ≡ pos (min (lifted b (height t v)) 8192)
 share-is b true v = share-clip (v +ℤ pos b) ∙ ap (λ z. pos (min (up z) 8192)) (join-up v b)
 share-is b false v = ap (λ z. pos 4096 +ℤ z) (sym (clip-neg 4096 (v +ℤ negℤ (pos b)))) ∙ share-clip (negℤ (v +ℤ negℤ (pos b))) ∙ ap (λ z. pos (min (up z) 8192)) (join-down v b)
 
-left-is : (b : ℕ) (ts : List Bool) (vs : List ℤ) → left 4096 ts (moves 4096 b ts vs) ≡ pos (tally (λ t v. min (lifted b t v) 8192) ts vs)
+left-is : (b : ℕ) (ts : List Bool) (vs : List ℤ) → left 4096 ts (moves 4096 b ts vs) ≡ pos (tally (λ h. min (lifted b h) 8192) (heightsOf ts vs))
 left-is b [] vs = refl
 left-is b (t ∷ ts) [] = refl
 left-is b (t ∷ ts) (v ∷ vs) = ap₂ _+ℤ_ (share-is b t v) (left-is b ts vs)
 
 -- ---- capped or not, the sum reaches 8192 alike
-cap-le : (b : ℕ) (ts : List Bool) (vs : List ℤ) → tally (λ t v. min (lifted b t v) 8192) ts vs ≤ tally (lifted b) ts vs
-cap-le b [] vs = omega arith
-cap-le b (t ∷ ts) [] = omega arith
-cap-le b (t ∷ ts) (v ∷ vs) = step (lifted b t v) (tally (λ t v. min (lifted b t v) 8192) ts vs) (tally (lifted b) ts vs) (cap-le b ts vs)
+cap-le : (b : ℕ) (hs : List ℤ) → tally (λ h. min (lifted b h) 8192) hs ≤ tally (lifted b) hs
+cap-le b [] = omega arith
+cap-le b (h ∷ hs) = step (lifted b h) (tally (λ h. min (lifted b h) 8192) hs) (tally (lifted b) hs) (cap-le b hs)
   where
     step : (a x y : ℕ) → x ≤ y → min a 8192 + x ≤ a + y
     step a x y h = omega arith
 
-cap-reach : (b : ℕ) (ts : List Bool) (vs : List ℤ) → min (tally (lifted b) ts vs) 8192 ≤ tally (λ t v. min (lifted b t v) 8192) ts vs
-cap-reach b [] vs = omega arith
-cap-reach b (t ∷ ts) [] = omega arith
-cap-reach b (t ∷ ts) (v ∷ vs) = step (lifted b t v) (tally (λ t v. min (lifted b t v) 8192) ts vs) (tally (lifted b) ts vs) (cap-reach b ts vs)
+cap-reach : (b : ℕ) (hs : List ℤ) → min (tally (lifted b) hs) 8192 ≤ tally (λ h. min (lifted b h) 8192) hs
+cap-reach b [] = omega arith
+cap-reach b (h ∷ hs) = step (lifted b h) (tally (λ h. min (lifted b h) 8192) hs) (tally (lifted b) hs) (cap-reach b hs)
   where
     step : (a x y : ℕ) → min y 8192 ≤ x → min (a + y) 8192 ≤ min a 8192 + x
     step a x y h = omega arith
@@ -89,30 +89,33 @@ is-met n m h k = le-ltZ (pos n) (pos 8192) (plain n (omega arith))
     plain : (n : ℕ) → 8192 ≤ n → pos 8192 ⩽ pos n
     plain n = simp lin (omega arithZ)
 
-pub short-of : (b : ℕ) (ts : List Bool) (vs : List ℤ) → tally (lifted b) ts vs < 8192 → short 4096 ts vs b ≡ true
-short-of b ts vs h = ap (λ z. ltZ z (pos 8192)) (left-is b ts vs) ∙ is-short (tally (λ t v. min (lifted b t v) 8192) ts vs) (tally (lifted b) ts vs) (cap-le b ts vs) h
+-- the inequality at a step b, and the sum at it
+module _ (b : ℕ) (ts : List Bool) (vs : List ℤ) where
+  abbrev hs : List ℤ
+  hs = heightsOf ts vs
 
-pub met-of : (b : ℕ) (ts : List Bool) (vs : List ℤ) → 8192 ≤ tally (lifted b) ts vs → short 4096 ts vs b ≡ false
-met-of b ts vs h = ap (λ z. ltZ z (pos 8192)) (left-is b ts vs) ∙ is-met (tally (λ t v. min (lifted b t v) 8192) ts vs) (tally (lifted b) ts vs) (cap-reach b ts vs) h
+  abbrev capped : ℕ
+  capped = tally (λ h. min (lifted b h) 8192) hs
 
--- and back
-pub of-short : (b : ℕ) (ts : List Bool) (vs : List ℤ) → short 4096 ts vs b ≡ true → tally (lifted b) ts vs < 8192
-of-short b ts vs e = go (decLe 8192 (tally (lifted b) ts vs))
-  where
-    go : Dec (8192 ≤ tally (lifted b) ts vs) → tally (lifted b) ts vs < 8192
-    go (yes h) = absurd (true≢false (sym e ∙ met-of b ts vs h))
-    go (no f) = lt-of-not-le f
+  pub short-of : sumAt hs b < 8192 → short 4096 ts vs b ≡ true
+  unfolding sumAt
+  short-of h = ap (λ z. ltZ z (pos 8192)) (left-is b ts vs) ∙ is-short capped (tally (lifted b) hs) (cap-le b hs) h
 
-pub of-met : (b : ℕ) (ts : List Bool) (vs : List ℤ) → short 4096 ts vs b ≡ false → 8192 ≤ tally (lifted b) ts vs
-of-met b ts vs e = go (decLe 8192 (tally (lifted b) ts vs))
-  where
-    go : Dec (8192 ≤ tally (lifted b) ts vs) → 8192 ≤ tally (lifted b) ts vs
-    go (yes h) = h
-    go (no f) = absurd (true≢false (sym (short-of b ts vs (lt-of-not-le f)) ∙ e))
+  pub met-of : 8192 ≤ sumAt hs b → short 4096 ts vs b ≡ false
+  unfolding sumAt
+  met-of h = ap (λ z. ltZ z (pos 8192)) (left-is b ts vs) ∙ is-met capped (tally (lifted b) hs) (cap-reach b hs) h
+
+  -- and back
+  pub of-short : short 4096 ts vs b ≡ true → sumAt hs b < 8192
+  of-short e = go (decLe 8192 (sumAt hs b))
+    where
+      go : Dec (8192 ≤ sumAt hs b) → sumAt hs b < 8192
+      go (yes h) = absurd (true≢false (sym e ∙ met-of h))
+      go (no f) = lt-of-not-le f
 
 -- ---- a step down by d takes at most d off each member above 0, and a step by 1 just 1
 
-apart : (b d : ℕ) (x : ℤ) → pos (4096 + (b + d)) +ℤ x ≡ (pos (4096 + b) +ℤ x) +ℤ pos d
+apart : (b d : ℕ) (x : ℤ) → x +ℤ pos (b + d) ≡ (x +ℤ pos b) +ℤ pos d
 apart b d x = simp lin (omega arithZ)
 
 tied : (z w : ℤ) (d : ℕ) → z ≡ w +ℤ pos d → up z + dn w ≡ up w + d + dn z
@@ -139,46 +142,48 @@ up-one (pos m) (negsuc n) e = omega (arith, tied (pos m) (negsuc n) 1 e)
 drop-step : (d a x k p q n : ℕ) → a ≤ x + k * d → p ≤ q + n * d → a + p ≤ x + q + (k + n) * d
 drop-step d a x k p q n h l = omega (arith, add-mul k n d)
 
-tally-drop : (b d : ℕ) (ts : List Bool) (vs : List ℤ) → tally (lifted (b + d)) ts vs ≤ tally (lifted b) ts vs + tally (lifting (b + d)) ts vs * d
-tally-drop b d [] vs = omega arith
-tally-drop b d (t ∷ ts) [] = omega arith
-tally-drop b d (t ∷ ts) (v ∷ vs) = drop-step d (lifted (b + d) t v) (lifted b t v) (lifting (b + d) t v)
-    (tally (lifted (b + d)) ts vs) (tally (lifted b) ts vs) (tally (lifting (b + d)) ts vs)
-    (up-down (pos (4096 + (b + d)) +ℤ side t v) (pos (4096 + b) +ℤ side t v) d (apart b d (side t v))) (tally-drop b d ts vs)
+sum-drop : (b d : ℕ) (hs : List ℤ) → tally (lifted (b + d)) hs ≤ tally (lifted b) hs + tally (lifting (b + d)) hs * d
+sum-drop b d [] = omega arith
+sum-drop b d (h ∷ hs) = drop-step d (lifted (b + d) h) (lifted b h) (lifting (b + d) h)
+    (tally (lifted (b + d)) hs) (tally (lifted b) hs) (tally (lifting (b + d)) hs)
+    (up-down (h +ℤ pos (b + d)) (h +ℤ pos b) d (apart b d h)) (sum-drop b d hs)
 
-tally-one : (b : ℕ) (ts : List Bool) (vs : List ℤ) → tally (lifted (b + 1)) ts vs ≡ tally (lifted b) ts vs + tally (lifting (b + 1)) ts vs
-tally-one b [] vs = refl
-tally-one b (t ∷ ts) [] = refl
-tally-one b (t ∷ ts) (v ∷ vs) = ap₂ _+_ (up-one (pos (4096 + (b + 1)) +ℤ side t v) (pos (4096 + b) +ℤ side t v) (apart b 1 (side t v))) (tally-one b ts vs)
-    ∙ shuffle (lifted b t v) (lifting (b + 1) t v) (tally (lifted b) ts vs) (tally (lifting (b + 1)) ts vs)
+sum-one : (b : ℕ) (hs : List ℤ) → tally (lifted (b + 1)) hs ≡ tally (lifted b) hs + tally (lifting (b + 1)) hs
+sum-one b [] = refl
+sum-one b (h ∷ hs) = ap₂ _+_ (up-one (h +ℤ pos (b + 1)) (h +ℤ pos b) (apart b 1 h)) (sum-one b hs)
+    ∙ shuffle (lifted b h) (lifting (b + 1) h) (tally (lifted b) hs) (tally (lifting (b + 1)) hs)
   where
     shuffle : (a c x y : ℕ) → a + c + (x + y) ≡ a + x + (c + y)
     shuffle a c x y = omega arith
 
-pub lifting-some : (b : ℕ) (ts : List Bool) (vs : List ℤ) → 0 < tally (lifted b) ts vs → 0 < tally (lifting b) ts vs
-lifting-some b [] vs h = absurd (omega arith)
-lifting-some b (t ∷ ts) [] h = absurd (omega arith)
-lifting-some b (t ∷ ts) (v ∷ vs) h = go (decLe 1 (tally (lifted b) ts vs)) (lifting-some b ts vs)
+lifting-some : (b : ℕ) (hs : List ℤ) → 0 < tally (lifted b) hs → 0 < tally (lifting b) hs
+lifting-some b [] h = absurd (omega arith)
+lifting-some b (x ∷ hs) h = go (decLe 1 (tally (lifted b) hs)) (lifting-some b hs)
   where
-    later : (a x y : ℕ) → 0 < y → 0 < a + y
-    later a x y h = omega arith
+    later : (a y : ℕ) → 0 < y → 0 < a + y
+    later a y h = omega arith
 
     here : (a x y : ℕ) → 0 < a + x → ¬ (1 ≤ x) → 0 < min a 1 + y
     here a x y h f = omega arith
 
-    go : Dec (1 ≤ tally (lifted b) ts vs) → (0 < tally (lifted b) ts vs → 0 < tally (lifting b) ts vs) → 0 < lifting b t v + tally (lifting b) ts vs
-    go (yes p) ih = later (lifting b t v) 0 (tally (lifting b) ts vs) (ih p)
-    go (no f) ih = here (lifted b t v) (tally (lifted b) ts vs) (tally (lifting b) ts vs) h f
+    go : Dec (1 ≤ tally (lifted b) hs) → (0 < tally (lifted b) hs → 0 < tally (lifting b) hs) → 0 < lifting b x + tally (lifting b) hs
+    go (yes p) ih = later (lifting b x) (tally (lifting b) hs) (ih p)
+    go (no f) ih = here (lifted b x) (tally (lifted b) hs) (tally (lifting b) hs) h f
+
+pub count-some : (hs : List ℤ) (b : ℕ) → 8192 ≤ sumAt hs b → 0 < countAt hs b
+unfolding sumAt countAt
+count-some hs b h = lifting-some b hs (omega arith)
 
 -- ---- the search: from a b that meets the inequality down to the last one that does
-module _ (ts : List Bool) (vs : List ℤ) where
+module _ (hs : List ℤ) where
   abbrev sum : ℕ → ℕ
-  sum b = tally (lifted b) ts vs
+  sum b = tally (lifted b) hs
 
   abbrev count : ℕ → ℕ
-  count b = tally (lifting b) ts vs
+  count b = tally (lifting b) hs
 
-  pub next-step : (b d : ℕ) → 8192 ≤ sum b → sum 0 < 8192 → d ≡ (sum b - 8192) / count b → (d < b) × (8192 ≤ sum (b - d))
+  pub next-step : (b d : ℕ) → 8192 ≤ sumAt hs b → sumAt hs 0 < 8192 → d ≡ (sumAt hs b - 8192) / countAt hs b → (d < b) × (8192 ≤ sumAt hs (b - d))
+  unfolding sumAt countAt
   next-step b d h z e = (under, after (sum b) (sum (b - d)) (count b * d) h paid down)
     where
       paid : count b * d ≤ sum b - 8192
@@ -188,7 +193,7 @@ module _ (ts : List Bool) (vs : List ℤ) where
       after f g n h k l = omega arith
 
       never : b ≤ d → ⊥
-      never l = past (sum b) (sum 0) (count b * b) (count b * d) h z (subst (λ n. sum n ≤ sum 0 + count n * b) (plain b) (tally-drop 0 b ts vs)) (mul-le-mul-left (count b) l) paid
+      never l = past (sum b) (sum 0) (count b * b) (count b * d) h z (subst (λ n. sum n ≤ sum 0 + count n * b) (plain b) (sum-drop 0 b hs)) (mul-le-mul-left (count b) l) paid
         where
           plain : (n : ℕ) → 0 + n ≡ n
           plain n = omega arith
@@ -207,16 +212,26 @@ module _ (ts : List Bool) (vs : List ℤ) where
           go (no f) = turn f
 
       down : sum b ≤ sum (b - d) + count b * d
-      down = subst (λ n. sum n ≤ sum (b - d) + count n * d) (back under) (tally-drop (b - d) d ts vs)
+      down = subst (λ n. sum n ≤ sum (b - d) + count n * d) (back under) (sum-drop (b - d) d hs)
         where
           back : d < b → b - d + d ≡ b
           back l = omega arith
 
-  pub last-step : (b d : ℕ) → 8192 ≤ sum (b + 1) → d ≡ (sum (b + 1) - 8192) / count (b + 1) → d ≡ 0 → sum b < 8192
-  last-step b d h e z = end (sum (b + 1)) (sum b) (count (b + 1)) h (tally-one b ts vs) (few (sum (b + 1) - 8192) (count (b + 1)) (lifting-some (b + 1) ts vs (omega arith)) (sym e ∙ z))
+  last-step : (b d : ℕ) → 8192 ≤ sum (b + 1) → d ≡ (sum (b + 1) - 8192) / count (b + 1) → d ≡ 0 → sum b < 8192
+  last-step b d h e z = end (sum (b + 1)) (sum b) (count (b + 1)) h (sum-one b hs) (few (sum (b + 1) - 8192) (count (b + 1)) (lifting-some (b + 1) hs (omega arith)) (sym e ∙ z))
     where
       end : (f g n : ℕ) → 8192 ≤ f → f ≡ g + n → f - 8192 < n → g < 8192
       end f g n h e l = omega arith
 
       few : (x n : ℕ) → 0 < n → x / n ≡ 0 → x < n
       few x n h q = subst (λ y. y < n) (ap (λ k. k * n + x % n) (sym q) ∙ div-add-mod' x n) (omega (arith, mod-lt x h))
+
+  pub least-found : (b d : ℕ) → 8192 ≤ sumAt hs b → b ≤ 8388608 → d ≡ (sumAt hs b - 8192) / countAt hs b → d ≡ 0 → LeastAt hs b
+  unfolding sumAt countAt
+  least-found b d h k e q = record { met = h; last = under; bounded = k }
+    where
+      at-next : (a : ℕ) → b ≡ suc a → b ≡ a + 1
+      at-next a p = p ∙ sym (add-one a)
+
+      under : (a : ℕ) → b ≡ suc a → sum a < 8192
+      under a p = last-step a d (subst (λ n. 8192 ≤ sum n) (at-next a p) h) (subst (λ n. d ≡ (sum n - 8192) / count n) (at-next a p) e) q

@@ -1,131 +1,198 @@
--- The search for the multiplier on a check's values v and a mask: its sums, member by member, where it starts, what a turn keeps, and that its end is the
--- multiplier. Assumes nothing.
-use mathlib.Core.Path.{_≡_, refl, sym, _∙_, ap, ap₂, subst}
-use mathlib.Core.Bool.{Bool, true, false}
+-- The search for the multiplier on a cut's heights: its sums, member by member, where it starts, and that its end is the multiplier. Assumes nothing.
+use mathlib.Core.Path.{_≡_, refl, sym, _∙_, ap, subst}
+use mathlib.Core.Bool.{Bool, true, false, cond, false≢true}
 use mathlib.Core.List.{List, [], _∷_}
-use Prim.Native.Nat.{ℕ, zero, suc, _+_, _-_, _/_, _%_, _^_, _≤_, _<_, min}
+use mathlib.Core.Logic.{_⊎_, inl, inr}
+use Prim.Native.Nat.{ℕ, zero, suc, _+_, _≤_, _<_, min}
 use native.Mathlib.Nat.{add-assoc, add-comm}
 use native.Mathlib.Omega.{arith}
 use native.Mathlib.Numerals.{add-one}
-use lib.Dec.{eqb}
 use lib.Seq.{take-all}
 use lib.ListN.{length, take, getD}
 use lib.IntN.{ℤ, pos, negsuc, negℤ, natAbs, _+ℤ_, _-ℤ_}
-use lib.Signed.{_≤ℤ_, _<ℤ_}
+use lib.Signed.{_≤ℤ_, _<ℤ_, ltZ}
 use mir.Syntax.{w32}
-use mir.Val.{SFits, toZ}
-use mir.Facts.{toZ-pos}
+use mir.Val.{SFits}
 use Rattle.integers.specs.Linear.{lin, arithZ, _⩽_, Within, up, le-out, lt-ltZ}
-use Rattle.rules.specs.Parity.{left}
-use Rattle.rules.specs.Mask.{setOf}
-use Rattle.rules.specs.Step.{moves, short, multiplier}
-use Rattle.rules.proofs.Masks.{set-length}
-use Rattle.rules.proofs.Multiplier.{moves-zero, far-met, Least, multiplier-least, multiplier-unique}
-use Rattle.decoder.specs.Lifted.{lifted, lifting, tally, sumAt, countAt, Violated}
-use Rattle.decoder.proofs.MaskLaws.{set-at, set-alike}
-use Rattle.decoder.proofs.LiftedLaws.{short-of, met-of, of-short, of-met, lifting-some, next-step, last-step}
-
--- the set that mask m has on a check of values v
-abbrev setOn : List ℤ → ℕ → List Bool
-setOn v m = setOf (length v) m
+use Rattle.integers.specs.Sum.{AllWithin}
+use Rattle.rules.specs.Parity.{side, left, odd, Alike}
+use Rattle.rules.specs.Step.{clips, moves, short, multiplier}
+use Rattle.rules.proofs.CutRule.{Cuts}
+use Rattle.rules.proofs.Multiplier.{moves-zero, Least, multiplier-least, multiplier-unique}
+use Rattle.cut.specs.Heights.{height, heightsOf, higher, highest}
+use Rattle.decoder.specs.Lifted.{lifted, lifting, tally, sumAt, countAt, Rising, LeastAt}
+use Rattle.decoder.proofs.LiftedLaws.{short-of, met-of, of-short}
 
 -- ---- the first i members
-tally-take : (f : Bool → ℤ → ℕ) (i : ℕ) (ts : List Bool) (vs : List ℤ) → i < length ts → i < length vs
-    → tally f (take (suc i) ts) (take (suc i) vs) ≡ tally f (take i ts) (take i vs) + f (getD ts i false) (getD vs i (pos 0))
-tally-take f i [] vs h k = absurd (omega arith)
-tally-take f i (t ∷ ts) [] h k = absurd (omega arith)
-tally-take f zero (t ∷ ts) (v ∷ vs) h k = add-comm (f t v) 0
-tally-take f (suc i) (t ∷ ts) (v ∷ vs) h k =
-    ap (λ n. f t v + n) (tally-take f i ts vs (omega arith) (omega arith))
-    ∙ sym (add-assoc (f t v) (tally f (take i ts) (take i vs)) (f (getD ts i false) (getD vs i (pos 0))))
+tally-take : (f : ℤ → ℕ) (i : ℕ) (hs : List ℤ) → i < length hs → tally f (take (suc i) hs) ≡ tally f (take i hs) + f (getD hs i (pos 0))
+tally-take f i [] k = absurd (omega arith)
+tally-take f zero (h ∷ hs) k = add-comm (f h) 0
+tally-take f (suc i) (h ∷ hs) k =
+    ap (λ n. f h + n) (tally-take f i hs (omega arith))
+    ∙ sym (add-assoc (f h) (tally f (take i hs)) (f (getD hs i (pos 0))))
 
-unfoldable pub sumFirst : List ℤ → ℕ → ℕ → ℕ → ℕ
-sumFirst v m b i = tally (lifted b) (take i (setOn v m)) (take i v)
+unfoldable pub sumFirst : List ℤ → ℕ → ℕ → ℕ
+sumFirst hs b i = tally (lifted b) (take i hs)
 
-unfoldable pub countFirst : List ℤ → ℕ → ℕ → ℕ → ℕ
-countFirst v m b i = tally (lifting b) (take i (setOn v m)) (take i v)
+unfoldable pub countFirst : List ℤ → ℕ → ℕ → ℕ
+countFirst hs b i = tally (lifting b) (take i hs)
 
-pub first-none : (v : List ℤ) (m b : ℕ) → (0 ≡ sumFirst v m b 0) × (0 ≡ countFirst v m b 0)
+pub first-none : (hs : List ℤ) (b : ℕ) → (0 ≡ sumFirst hs b 0) × (0 ≡ countFirst hs b 0)
 unfolding sumFirst countFirst
-first-none v m b = (refl, refl)
+first-none hs b = (refl, refl)
 
-pub first-next : (v : List ℤ) (m b i : ℕ) (t : Bool) (a : ℕ) → i < length v → t ≡ eqb (m / 2 ^ i % 2) 1 → a ≡ lifted b t (getD v i (pos 0))
-    → (sumFirst v m b i + a ≡ sumFirst v m b (i + 1)) × (countFirst v m b i + min a 1 ≡ countFirst v m b (i + 1))
+pub first-next : (hs : List ℤ) (b i a : ℕ) → i < length hs → a ≡ lifted b (getD hs i (pos 0))
+    → (sumFirst hs b i + a ≡ sumFirst hs b (i + 1)) × (countFirst hs b i + min a 1 ≡ countFirst hs b (i + 1))
 unfolding sumFirst countFirst
-first-next v m b i t a h d e = (more (lifted b) a is, more (lifting b) (min a 1) (ap (λ n. min n 1) is))
+first-next hs b i a k e = (more (lifted b) a e, more (lifting b) (min a 1) (ap (λ n. min n 1) e))
   where
-    in-set : i < length (setOn v m)
-    in-set = subst (λ n. i < n) (sym (set-length (length v) m)) h
+    more : (f : ℤ → ℕ) (x : ℕ) → x ≡ f (getD hs i (pos 0)) → tally f (take i hs) + x ≡ tally f (take (i + 1) hs)
+    more f x p = ap (λ n. tally f (take i hs) + n) p ∙ sym (tally-take f i hs k) ∙ ap (λ n. tally f (take n hs)) (sym (add-one i))
 
-    there : t ≡ getD (setOn v m) i false
-    there = d ∙ sym (set-at (length v) m i h)
-
-    is : a ≡ lifted b (getD (setOn v m) i false) (getD v i (pos 0))
-    is = e ∙ ap (λ x. lifted b x (getD v i (pos 0))) there
-
-    more : (f : Bool → ℤ → ℕ) (x : ℕ) → x ≡ f (getD (setOn v m) i false) (getD v i (pos 0)) → tally f (take i (setOn v m)) (take i v) + x ≡ tally f (take (i + 1) (setOn v m)) (take (i + 1) v)
-    more f x p = ap (λ n. tally f (take i (setOn v m)) (take i v) + n) p ∙ sym (tally-take f i (setOn v m) v in-set h)
-        ∙ ap (λ n. tally f (take n (setOn v m)) (take n v)) (sym (add-one i))
-
-pub first-all : (v : List ℤ) (m b i : ℕ) → length v ≤ i → (sumFirst v m b i ≡ sumAt v m b) × (countFirst v m b i ≡ countAt v m b)
+pub first-all : (hs : List ℤ) (b i : ℕ) → length hs ≤ i → (sumFirst hs b i ≡ sumAt hs b) × (countFirst hs b i ≡ countAt hs b)
 unfolding sumFirst countFirst sumAt countAt
-first-all v m b i h = (all (lifted b), all (lifting b))
-  where
-    all : (f : Bool → ℤ → ℕ) → tally f (take i (setOn v m)) (take i v) ≡ tally f (setOn v m) v
-    all f = ap₂ (tally f) (take-all i (setOn v m) (subst (λ n. n ≤ i) (sym (set-length (length v) m)) h)) (take-all i v h)
+first-all hs b i k = (ap (tally (lifted b)) (take-all i hs k), ap (tally (lifting b)) (take-all i hs k))
 
 top : (z : ℤ) → z ⩽ pos 16777216 → up z ≤ 16777216
 top (pos n) h = omega (arith, le-out h)
 top (negsuc n) h = omega arith
 
-pub lifted-le : (b : ℕ) (t : Bool) (v : ℤ) → Within 8384512 v → b ≤ 8388608 → lifted b t v ≤ 16777216
-lifted-le b true v w h = top (pos (4096 + b) +ℤ v) (sum-in b v w h)
+pub lifted-le : (b : ℕ) (h : ℤ) → Within 8388608 h → b ≤ 8388608 → lifted b h ≤ 16777216
+lifted-le b h w k = top (h +ℤ pos b) (sum-in b h w k)
   where
-    sum-in : (b : ℕ) (v : ℤ) → Within 8384512 v → b ≤ 8388608 → pos (4096 + b) +ℤ v ⩽ pos 16777216
-    sum-in b v = simp lin (omega arithZ)
-lifted-le b false v w h = top (pos (4096 + b) +ℤ negℤ v) (sum-in b v w h)
+    sum-in : (b : ℕ) (h : ℤ) → Within 8388608 h → b ≤ 8388608 → h +ℤ pos b ⩽ pos 16777216
+    sum-in b h = simp lin (omega arithZ)
+
+-- ---- the greatest height is one of them
+abbrev In : ℤ → List ℤ → Type 0
+In x [] = ⊥
+In x (h ∷ hs) = (x ≡ h) ⊎ In x hs
+
+floor-low : (h : ℤ) → Within 8388608 h → ltZ h (negℤ (pos 2147479552)) ≡ false
+floor-low h = simp lin (omega arithZ)
+
+highest-in : (h : ℤ) (hs : List ℤ) → AllWithin 8388608 (h ∷ hs) → In (highest (h ∷ hs)) (h ∷ hs)
+highest-in h [] w = inl (ap (λ b. cond b (negℤ (pos 2147479552)) h) (floor-low h (w .0)))
+highest-in h (k ∷ hs) w = go (ltZ h (highest (k ∷ hs))) (highest-in k hs (w .1))
   where
-    sum-in : (b : ℕ) (v : ℤ) → Within 8384512 v → b ≤ 8388608 → pos (4096 + b) +ℤ negℤ v ⩽ pos 16777216
-    sum-in b v = simp lin (omega arithZ)
+    go : (b : Bool) → In (highest (k ∷ hs)) (k ∷ hs) → In (cond b (highest (k ∷ hs)) h) (h ∷ k ∷ hs)
+    go true i = inr i
+    go false i = inl refl
 
-pub count-some : (v : List ℤ) (m b : ℕ) → 8192 ≤ sumAt v m b → 0 < countAt v m b
-unfolding sumAt countAt
-count-some v m b h = lifting-some b (setOn v m) v (omega arith)
+in-sum : (b : ℕ) (x : ℤ) (hs : List ℤ) → In x hs → lifted b x ≤ tally (lifted b) hs
+in-sum b x [] i = absurd i
+in-sum b x (h ∷ hs) (inl e) = subst (λ z. lifted b x ≤ lifted b z + tally (lifted b) hs) e (first (lifted b x) (tally (lifted b) hs))
+  where
+    first : (a n : ℕ) → a ≤ a + n
+    first a n = omega arith
+in-sum b x (h ∷ hs) (inr i) = later (lifted b h) (lifted b x) (tally (lifted b) hs) (in-sum b x hs i)
+  where
+    later : (c a n : ℕ) → a ≤ n → a ≤ c + n
+    later c a n h = omega arith
 
--- ---- the search
-module _ (v : List ℤ) (m : ℕ) (x : Violated v m) where
-  at-zero : short 4096 (setOn v m) v 0 ≡ true
-  at-zero = lt-ltZ (left 4096 (setOn v m) (moves 4096 0 (setOn v m) v)) (pos 8192)
-      (subst (λ z. left 4096 (setOn v m) z <ℤ pos 8192) (sym (moves-zero 4096 (setOn v m) v (set-alike v m))) (x .under))
+-- ---- the heights of values that are small
+bounds : (t : Bool) (v : ℤ) → Within 8384512 v → (negℤ (pos 8380416) ⩽ height t v) × (height t v ⩽ pos 8388608)
+bounds true v w = (simp lin (omega arithZ), simp lin (omega arithZ))
+bounds false v w = (simp lin (omega arithZ), simp lin (omega arithZ))
 
-  least : Least 4096 8384512 (setOn v m) v
-  least = multiplier-least 4096 8384512 (setOn v m) v (x .isOdd) (set-alike v m) (x .small) (omega arith) (x .under)
+in-low : (x : ℤ) (ts : List Bool) (vs : List ℤ) → AllWithin 8384512 vs → In x (heightsOf ts vs) → negℤ (pos 8380416) ⩽ x
+in-low x [] vs w i = absurd i
+in-low x (t ∷ ts) [] w i = absurd i
+in-low x (t ∷ ts) (v ∷ vs) w (inl e) = subst (λ z. negℤ (pos 8380416) ⩽ z) (sym e) (bounds t v (w .0) .0)
+in-low x (t ∷ ts) (v ∷ vs) w (inr i) = in-low x ts vs (w .1) i
 
-  -- what it starts from
-  pub start-met : 8192 ≤ sumAt v m 8388608
+box : (z : ℤ) → negℤ (pos 8380416) ⩽ z → z ⩽ pos 8388608 → Within 8388608 z
+box z = simp lin (omega arithZ)
+
+pub heights-small : (ts : List Bool) (vs : List ℤ) → AllWithin 8384512 vs → AllWithin 8388608 (heightsOf ts vs)
+heights-small [] vs w = tt
+heights-small (t ∷ ts) [] w = tt
+heights-small (t ∷ ts) (v ∷ vs) w = (box (height t v) (bounds t v (w .0) .0) (bounds t v (w .0) .1), heights-small ts vs (w .1))
+
+pub heights-length : (ts : List Bool) (vs : List ℤ) → Alike ts vs → length (heightsOf ts vs) ≡ length vs
+heights-length [] [] a = refl
+heights-length [] (v ∷ vs) a = absurd a
+heights-length (t ∷ ts) [] a = absurd a
+heights-length (t ∷ ts) (v ∷ vs) a = ap suc (heights-length ts vs a)
+
+pub heights-few : (ts : List Bool) (vs : List ℤ) → length (heightsOf ts vs) ≤ length vs
+heights-few [] vs = omega arith
+heights-few (t ∷ ts) [] = omega arith
+heights-few (t ∷ ts) (v ∷ vs) = next (length (heightsOf ts vs)) (length vs) (heights-few ts vs)
+  where
+    next : (a b : ℕ) → a ≤ b → suc a ≤ suc b
+    next a b h = omega arith
+
+-- ---- a cut's heights rise, and the least step at which they reach 2U is the multiplier
+under-top : (z : ℤ) (n : ℕ) → up (z +ℤ pos 0) ≤ n → n < 8192 → z ⩽ pos 8192
+under-top (pos m) n h k = simp lin (omega arithZ)
+under-top (negsuc m) n h k = simp lin (omega arithZ)
+
+reached : (z : ℤ) → z ⩽ pos 8192 → 8192 ≤ up (z +ℤ pos (natAbs (pos 8192 -ℤ z)))
+reached z h = subst (λ x. 8192 ≤ up x) (sym (back z (pos 8192 -ℤ z) refl (simp lin (omega arithZ)))) (omega arith)
+  where
+    plain : (z : ℤ) (n : ℕ) → pos n ≡ pos 8192 -ℤ z → z +ℤ pos n ≡ pos 8192
+    plain z n = simp lin (omega arithZ)
+
+    back : (z d : ℤ) → d ≡ pos 8192 -ℤ z → pos 0 ⩽ d → z +ℤ pos (natAbs d) ≡ pos 8192
+    back z (pos n) e h = plain z n e
+    back z (negsuc n) e h = absurd (omega arithZ)
+
+module _ (ts : List Bool) (vs : List ℤ) (few : length vs ≤ 32) (small : AllWithin 8384512 vs) (alike : Alike ts vs) (c : Cuts 4096 ts (clips 4096 vs)) where
+  abbrev hs : List ℤ
+  hs = heightsOf ts vs
+
+  at-zero : sumAt hs 0 < 8192
+  at-zero = of-short 0 ts vs (lt-ltZ (left 4096 ts (moves 4096 0 ts vs)) (pos 8192)
+      (subst (λ z. left 4096 ts z <ℤ pos 8192) (sym (moves-zero 4096 ts vs alike)) (c .under)))
+
+  member : In (highest hs) hs
+  member = go ts vs alike (c .isOdd) small
+    where
+      go : (ts : List Bool) (vs : List ℤ) → Alike ts vs → odd ts ≡ true → AllWithin 8384512 vs → In (highest (heightsOf ts vs)) (heightsOf ts vs)
+      go [] vs a o w = absurd (false≢true o)
+      go (t ∷ ts) [] a o w = absurd a
+      go (t ∷ ts) (v ∷ vs) a o w = highest-in (height t v) (heightsOf ts vs) (heights-small (t ∷ ts) (v ∷ vs) w)
+
+  pub rising : Rising hs (highest hs)
   unfolding sumAt
-  start-met = of-met 8388608 (setOn v m) v (far-met 4096 8384512 8388608 (setOn v m) v (x .isOdd) (set-alike v m) (x .small) (omega arith))
+  rising = record {
+    few = subst (λ n. n ≤ 32) (sym (heights-length ts vs alike)) few;
+    small = heights-small ts vs small;
+    short = at-zero;
+    low = in-low (highest hs) ts vs small member;
+    high = most;
+    met = later (in-sum (natAbs (pos 8192 -ℤ highest hs)) (highest hs) hs member) (reached (highest hs) most);
+  }
+    where
+      most : highest hs ⩽ pos 8192
+      most = under-top (highest hs) (tally (lifted 0) hs) (in-sum 0 (highest hs) hs member) at-zero
 
-  -- a turn
-  pub turn-met : (b d : ℕ) → 8192 ≤ sumAt v m b → d ≡ (sumAt v m b - 8192) / countAt v m b → (d < b) × (8192 ≤ sumAt v m (b - d))
-  unfolding sumAt countAt
-  turn-met b d h e = next-step (setOn v m) v b d h (of-short 0 (setOn v m) v at-zero) e
+      later : {a b : ℕ} → a ≤ b → 8192 ≤ a → 8192 ≤ b
+      later h k = omega arith
 
-  -- the end
-  pub end-found : (b d : ℕ) → 8192 ≤ sumAt v m b → d ≡ (sumAt v m b - 8192) / countAt v m b → d ≡ 0 → b ≡ multiplier 4096 (setOn v m) v
-  unfolding sumAt countAt
-  end-found zero d h e q = absurd (omega (arith, of-short 0 (setOn v m) v at-zero))
-  end-found (suc b) d h e q = multiplier-unique 4096 8384512 (setOn v m) v b least
-      (short-of b (setOn v m) v (last-step (setOn v m) v b d (subst (λ n. 8192 ≤ tally (lifted n) (setOn v m) v) (sym (add-one b)) h)
-      (subst (λ n. d ≡ (tally (lifted n) (setOn v m) v - 8192) / tally (lifting n) (setOn v m) v) (sym (add-one b)) e) q))
-      (met-of (suc b) (setOn v m) v h)
+  pub least-is : (b : ℕ) → LeastAt hs b → b ≡ multiplier 4096 ts vs
+  least-is zero l = absurd (none (sumAt hs 0) (l .met) at-zero)
+    where
+      none : (n : ℕ) → 8192 ≤ n → n < 8192 → ⊥
+      none n h k = omega arith
+  least-is (suc b) l = multiplier-unique 4096 8384512 ts vs b
+      (multiplier-least 4096 8384512 ts vs (c .isOdd) alike small (omega arith) (c .under))
+      (short-of b ts vs (l .last b refl)) (met-of (suc b) ts vs (l .met))
 
 -- ---- machine words
-pub height-fits : (v : ℤ) (b : ℕ) → Within 8384512 v → b ≤ 8388608 → SFits w32 (pos (4096 + b) +ℤ v) × SFits w32 (pos (4096 + b) -ℤ v)
-height-fits v b = simp lin (omega arithZ)
+pub lift-fits : (h : ℤ) (b : ℕ) → Within 8388608 h → b ≤ 8388608 → SFits w32 (h +ℤ pos b)
+lift-fits h b = simp lin (omega arithZ)
 
-pub top-is : (b : ℕ) → b ≤ 8388608 → toZ w32 (4096 + b) ≡ pos (4096 + b)
-top-is b h = toZ-pos w32 (omega arith)
+pub start-fits : (x : ℤ) → negℤ (pos 8380416) ≤ℤ x → x ≤ℤ pos 8192 → SFits w32 (pos 8192 -ℤ x) × (pos 0 ≤ℤ (pos 8192 -ℤ x))
+start-fits x h k = (simp lin (omega arithZ), simp lin (omega arithZ))
+
+pub start-most : (x : ℤ) → negℤ (pos 8380416) ≤ℤ x → x ≤ℤ pos 8192 → natAbs (pos 8192 -ℤ x) ≤ 8388608
+start-most x h k = size (pos 8192 -ℤ x) (simp lin (omega arithZ)) (simp lin (omega arithZ))
+  where
+    size : (z : ℤ) → pos 0 ≤ℤ z → z ≤ℤ pos 8388608 → natAbs z ≤ 8388608
+    size (pos n) h k = omega (arith, le-out k)
+    size (negsuc n) h k = absurd (omega arithZ)
 
 pub up-none : (z : ℤ) → z <ℤ pos 0 → 0 ≡ up z
 up-none (pos n) h = absurd (omega arithZ)

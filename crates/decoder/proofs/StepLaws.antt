@@ -1,20 +1,25 @@
 -- One check's step as the code takes it: from the mask of the cut to the multiplier, and to what the step leaves. Assumes nothing.
-use mathlib.Core.Path.{_≡_, sym, _∙_, ap, subst}
-use mathlib.Core.List.{List}
-use mathlib.Core.Option.{some, none}
-use Prim.Native.Nat.{ℕ, _≤_}
+use mathlib.Core.Path.{_≡_, refl, sym, _∙_, ap, ap₂, subst}
+use mathlib.Core.List.{List, _++_}
+use mathlib.Core.Option.{Option, some, none}
+use mathlib.Core.Bool.{Bool}
+use Prim.Native.Nat.{ℕ, _≤_, min}
 use native.Mathlib.Decide.{ℕ-discrete}
-use lib.ListN.{length, take}
+use native.Mathlib.Omega.{arith}
+use lib.ListN.{length, take, drop, drop-of-length-le}
+use Rattle.rules.proofs.Basics.{append-nil}
 use lib.Seq.{take-all}
 use lib.IntN.{ℤ}
 use Rattle.integers.specs.Sum.{AllWithin}
-use Rattle.rules.specs.Limits.{unit}
+use Rattle.rules.specs.Limits.{unit, maxDegree}
 use Rattle.rules.specs.Table.{at}
 use Rattle.rules.specs.Mask.{setOf}
 use Rattle.rules.specs.Cut.{cut}
+use Rattle.rules.specs.Buffers.{over}
 use Rattle.rules.specs.Step.{clips, multiplier, minus, stepBy, step}
 use Rattle.rules.specs.Round.{values}
 use Rattle.rules.specs.Run.{multiplierOf}
+use Rattle.rules.proofs.BufferLaws.{over-length}
 use Rattle.rules.proofs.Signs.{alike-length}
 use Rattle.rules.proofs.CutRule.{Cuts, cut-sound}
 use Rattle.rules.proofs.Multiplier.{moves-zero}
@@ -23,9 +28,12 @@ use Rattle.rules.proofs.Pass.{values-within}
 use Rattle.rules.proofs.Steps.{clips-alike}
 use Rattle.cut.specs.CutMask.{cutMask}
 use Rattle.cut.proofs.MaskLaws.{mask-none, mask-some}
-use Rattle.decoder.specs.Lifted.{Violated}
+use Rattle.cut.specs.Heights.{heightsOf, highest, sideBy, seenOn, seen}
+use Rattle.decoder.specs.Lifted.{Rising, LeastAt, MultiplierOf}
 use Rattle.decoder.specs.Stepped.{Stepped, steppedBy, steppedOn, stepped, StepFits, MoveFits}
 use Rattle.decoder.proofs.MaskLaws.{set-alike}
+use Rattle.decoder.proofs.ExactLaws.{over-exact, take-exact}
+use Rattle.decoder.proofs.MultiplierLaws.{heights-length, heights-few, rising, least-is}
 use Rattle.decoder.proofs.ValueLaws.{values-length}
 use Rattle.decoder.proofs.MoveLaws.{newCopies, newOffsets}
 
@@ -49,12 +57,6 @@ module _ (v : List ℤ) (m : ℕ) (e : m ≡ cutMask (cut unit (clips unit v))) 
   unfolding steppedOn step
   multiplier-some f = sym (ap (λ o. multiplierOf (stepBy unit v o .entry)) (some-cut f))
 
-  pub is-violated : length v ≤ 32 → AllWithin 8384512 v → (m ≡ 0 → ⊥) → Violated v m
-  is-violated h w f = record { few = h; small = w; isOdd = c .isOdd; under = c .under }
-    where
-      c : Cuts unit (setOf (length v) m) (clips unit v)
-      c = cut-sound unit (clips unit v) (setOf (length v) m) (some-cut f)
-
   step-is : (b : ℕ) (z y : List ℤ) → b ≡ steppedOn v .multiplier → z ≡ newCopies b m v → y ≡ newOffsets b m v → (record { copies = z; offsets = y; multiplier = b; mask = m }) ≡ steppedOn v
   unfolding steppedOn step
   step-is b z y eb ez ey = go (ℕ-discrete m 0)
@@ -68,6 +70,52 @@ module _ (v : List ℤ) (m : ℕ) (e : m ≡ cutMask (cut unit (clips unit v))) 
       go (no f) = stepped-eq (ez ∙ ap (λ n. newCopies n m v) (eb ∙ sym (multiplier-some f))) (ey ∙ ap (λ n. newOffsets n m v) (eb ∙ sym (multiplier-some f))) (eb ∙ sym (multiplier-some f)) (e ∙ ap cutMask (some-cut f))
           ∙ sym (ap (λ o. steppedBy (stepBy unit v o)) (some-cut f))
 
+-- ---- the heights hs that the cut search leaves of the values v in the place of z, with the greatest of them
+module _ (v z hs : List ℤ) (m : ℕ) (top : ℤ) (few : length v ≤ 32) (same : length z ≡ length v) (e : (record { mask = m; top = top; heights = hs }) ≡ seen v z) where
+  whole : (record { mask = m; top = top; heights = hs }) ≡ seenOn v z
+  unfolding seen
+  whole = e ∙ ap (λ l. seenOn l z) (take-all (min maxDegree (length z)) v (omega arith))
+
+  pub mask-is : m ≡ cutMask (cut unit (clips unit v))
+  unfolding seenOn
+  mask-is = ap (λ s. s .mask) whole
+
+  heights-long : length hs ≡ length z
+  unfolding seenOn
+  heights-long = ap (λ s. length (s .heights)) whole ∙ over-length (heightsOf (sideBy (cut unit (clips unit v)) v) v) z (subst (λ n. length (heightsOf (sideBy (cut unit (clips unit v)) v) v) ≤ n) (sym same) (heights-few (sideBy (cut unit (clips unit v)) v) v))
+
+  -- a cut's
+  module _ (f : m ≡ 0 → ⊥) where
+    seen-by : sideBy (cut unit (clips unit v)) v ≡ setOf (length v) m
+    seen-by = ap (λ o. sideBy o v) (some-cut v m mask-is f)
+
+    pub heights-are : hs ≡ heightsOf (setOf (length v) m) v
+    unfolding seenOn
+    heights-are = ap (λ s. s .heights) whole ∙ ap (λ b. over (heightsOf b v) z) seen-by ∙ over-exact (heightsOf (setOf (length v) m) v) z (heights-length (setOf (length v) m) v (set-alike v m) ∙ sym same)
+
+    pub top-is : top ≡ highest (heightsOf (setOf (length v) m) v)
+    unfolding seenOn
+    top-is = ap (λ s. s .top) whole ∙ ap (λ b. highest (heightsOf b v)) seen-by
+
+    cuts : Cuts unit (setOf (length v) m) (clips unit v)
+    cuts = cut-sound unit (clips unit v) (setOf (length v) m) (some-cut v m mask-is f)
+
+    pub heights-rise : AllWithin 8384512 v → Rising hs top
+    heights-rise w = subst (λ t. Rising hs t) (sym top-is) (subst (λ l. Rising l (highest (heightsOf (setOf (length v) m) v))) (sym heights-are) (rising (setOf (length v) m) v few w (set-alike v m) cuts))
+
+    pub least-multiplier-is : (b : ℕ) → AllWithin 8384512 v → LeastAt hs b → b ≡ steppedOn v .multiplier
+    least-multiplier-is b w l = least-is (setOf (length v) m) v few w (set-alike v m) cuts b (subst (λ x. LeastAt x b) heights-are l) ∙ multiplier-some v m mask-is f
+
+  pub multiplier-is : (b : ℕ) → AllWithin 8384512 v → MultiplierOf m hs b → (b ≡ steppedOn v .multiplier) × (b ≤ 8388608)
+  multiplier-is b w k = go (ℕ-discrete m 0)
+    where
+      zero-small : b ≡ 0 → b ≤ 8388608
+      zero-small q = omega arith
+
+      go : Dec (m ≡ 0) → (b ≡ steppedOn v .multiplier) × (b ≤ 8388608)
+      go (yes q) = (k .none q ∙ multiplier-none v m mask-is q, zero-small (k .none q))
+      go (no f) = (least-multiplier-is f b w (k .some f), k .some f .bounded)
+
 -- ---- what the calls of a step ask, and what it leaves: l is in the offsets' place
 module _ (s : List ℤ) (ms : List ℕ) (z y l : List ℤ) (fits : StepFits s ms z y) (e : l ≡ values (at s) ms y) where
   long : length l ≡ length ms
@@ -79,16 +127,39 @@ module _ (s : List ℤ) (ms : List ℕ) (z y l : List ℤ) (fits : StepFits s ms
   small : AllWithin 8384512 l
   small = subst (AllWithin 8384512) (sym e) (values-within 4096 8380416 (at s) ms y (within-at 4096 s (fits .spins)) (fits .offsets))
 
-  module _ (m : ℕ) (em : m ≡ cutMask (cut unit (clips unit (take 32 l)))) where
-    whole : m ≡ cutMask (cut unit (clips unit l))
-    whole = em ∙ ap (λ x. cutMask (cut unit (clips unit x))) (take-all 32 l few)
+  same : length z ≡ length l
+  same = fits .copiesLong ∙ sym long
 
-    pub multiplier-asks : (length l ≤ 32) × AllWithin 8384512 l × (m ≡ cutMask (cut unit (clips unit l)))
-    multiplier-asks = (few, small, whole)
+  module _ (hs : List ℤ) (m : ℕ) (top : ℤ) (em : (record { mask = m; top = top; heights = hs }) ≡ seen l z) where
+    pub multiplier-asks : (m ≡ 0 → ⊥) → Rising hs top
+    multiplier-asks f = heights-rise l z hs m top few same em f small
 
-    pub step-left : (b : ℕ) (z' y' : List ℤ) → b ≡ steppedOn l .multiplier → (z' ≡ newCopies b m l) × (y' ≡ newOffsets b m l) → (record { copies = z'; offsets = y'; multiplier = b; mask = m }) ≡ stepped (at s) ms y
-    unfolding stepped
-    step-left b z' y' eb k = step-is l m whole b z' y' eb (k .0) (k .1) ∙ ap steppedOn e
+    module _ (b : ℕ) (k : MultiplierOf m hs b) where
+      pub move-asks : MoveFits b hs l
+      move-asks = record { bounded = multiplier-is l z hs m top few same em b small k .1; few = few; small = small; copiesLong = heights-long l z hs m top few same em ∙ same }
 
-  pub move-asks : (b : ℕ) → b ≤ 8388608 → MoveFits b z l
-  move-asks b h = record { bounded = h; few = few; small = small; copiesLong = fits .copiesLong ∙ sym long }
+      pub step-left : (z' y' : List ℤ) → (z' ≡ newCopies b m l) × (y' ≡ newOffsets b m l) → (record { copies = z'; offsets = y'; multiplier = b; mask = m }) ≡ stepped (at s) ms y
+      unfolding stepped
+      step-left z' y' q = step-is l m (mask-is l z hs m top few same em) b z' y' (multiplier-is l z hs m top few same em b small k .0) (q .0) (q .1) ∙ ap steppedOn e
+
+-- ---- a check of degree n, by its first n places
+module _ (n : ℕ) (s : List ℤ) (ms : List ℕ) (z y : List ℤ) (e : length ms ≡ n) (f : StepFits s ms z y) where
+  all-members : take n ms ≡ ms
+  all-members = take-exact n ms e
+
+  all-copies : take n z ≡ z
+  all-copies = take-exact n z (f .copiesLong ∙ e)
+
+  all-offsets : take n y ≡ y
+  all-offsets = take-exact n y (f .offsetsLong ∙ e)
+
+  pub part-asks : StepFits s (take n ms) (take n z) (take n y)
+  part-asks = subst (λ x. StepFits s x (take n z) (take n y)) (sym all-members)
+      (subst (λ x. StepFits s ms x (take n y)) (sym all-copies) (subst (λ x. StepFits s ms z x) (sym all-offsets) f))
+
+  pub part-left : (z' y' : List ℤ) (b m : ℕ) → (record { copies = z'; offsets = y'; multiplier = b; mask = m }) ≡ stepped (at s) (take n ms) (take n y)
+      → (record { copies = z' ++ drop n z; offsets = y' ++ drop n y; multiplier = b; mask = m }) ≡ stepped (at s) ms y
+  part-left z' y' b m h = stepped-eq (none-after z' z (f .copiesLong)) (none-after y' y (f .offsetsLong)) refl refl ∙ h ∙ ap₂ (stepped (at s)) all-members all-offsets
+    where
+      none-after : (x l : List ℤ) → length l ≡ length ms → x ++ drop n l ≡ x
+      none-after x l k = ap (λ r. x ++ r) (drop-of-length-le l {i = n} (omega arith)) ∙ append-nil x

@@ -1,42 +1,49 @@
--- What the search for the multiplier reads at a step b: each member of V's left side, not clipped from above. The inequality is met exactly if these
+-- What the search for the multiplier reads at a step b: each member's height lifted by b, not clipped from above. The inequality is met exactly if these
 -- reach 2U together (document 01, "One round", step 2). Definitions only. Assumes nothing.
 use mathlib.Core.Path.{_≡_}
-use mathlib.Core.Bool.{Bool, true}
 use mathlib.Core.List.{List, [], _∷_}
-use Prim.Native.Nat.{ℕ, _+_, _*_, _≤_, min}
+use Prim.Native.Nat.{ℕ, suc, _+_, _≤_, _<_, min}
 use lib.ListN.{length}
-use lib.IntN.{ℤ, pos, _+ℤ_}
-use lib.Signed.{_<ℤ_}
+use lib.IntN.{ℤ, pos, negℤ, natAbs, _+ℤ_, _-ℤ_}
+use lib.Signed.{_≤ℤ_}
 use Rattle.integers.specs.Linear.{up}
 use Rattle.integers.specs.Sum.{AllWithin}
-use Rattle.rules.specs.Limits.{unit}
-use Rattle.rules.specs.Parity.{side, odd, left}
-use Rattle.rules.specs.Mask.{setOf}
-use Rattle.rules.specs.Step.{clips}
 
--- U + b + v as V sees v, and 0 for what is negative
-abbrev pub lifted : ℕ → Bool → ℤ → ℕ
-lifted b t v = up (pos (unit + b) +ℤ side t v)
+-- a height and b, and 0 for what is negative
+abbrev pub lifted : ℕ → ℤ → ℕ
+lifted b h = up (h +ℤ pos b)
 
 -- 1 for a member above 0
-abbrev pub lifting : ℕ → Bool → ℤ → ℕ
-lifting b t v = min (lifted b t v) 1
+abbrev pub lifting : ℕ → ℤ → ℕ
+lifting b h = min (lifted b h) 1
 
 -- a sum over the members
-abbrev pub tally : (Bool → ℤ → ℕ) → List Bool → List ℤ → ℕ
-tally f [] vs = 0
-tally f (t ∷ ts) [] = 0
-tally f (t ∷ ts) (v ∷ vs) = f t v + tally f ts vs
+abbrev pub tally : (ℤ → ℕ) → List ℤ → ℕ
+tally f [] = 0
+tally f (h ∷ hs) = f h + tally f hs
 
-unfoldable pub sumAt : List ℤ → ℕ → ℕ → ℕ
-sumAt v mask b = tally (lifted b) (setOf (length v) mask) v
+unfoldable pub sumAt : List ℤ → ℕ → ℕ
+sumAt hs b = tally (lifted b) hs
 
-unfoldable pub countAt : List ℤ → ℕ → ℕ → ℕ
-countAt v mask b = tally (lifting b) (setOf (length v) mask) v
+unfoldable pub countAt : List ℤ → ℕ → ℕ
+countAt hs b = tally (lifting b) hs
 
--- the values of a check, and a mask whose odd set they violate once clipped
-pub record Violated (v : List ℤ) (mask : ℕ) : Type 0 where
-  pub few : length v ≤ 32
-  pub small : AllWithin 8384512 v
-  pub isOdd : odd (setOf (length v) mask) ≡ true
-  pub under : left unit (setOf (length v) mask) (clips unit v) <ℤ pos (2 * unit)
+-- the heights of a cut, and the greatest of them: lifted to 2U alone, that one meets the inequality
+pub record Rising (hs : List ℤ) (top : ℤ) : Type 0 where
+  pub few : length hs ≤ 32
+  pub small : AllWithin 8388608 hs
+  pub short : sumAt hs 0 < 8192
+  pub low : negℤ (pos 8380416) ≤ℤ top
+  pub high : top ≤ℤ pos 8192
+  pub met : 8192 ≤ sumAt hs (natAbs (pos 8192 -ℤ top))
+
+-- b is the least step at which the heights reach 2U
+pub record LeastAt (hs : List ℤ) (b : ℕ) : Type 0 where
+  pub met : 8192 ≤ sumAt hs b
+  pub last : (a : ℕ) → b ≡ suc a → sumAt hs a < 8192
+  pub bounded : b ≤ 8388608
+
+-- the multiplier of a mask, 0 of none
+pub record MultiplierOf (mask : ℕ) (hs : List ℤ) (b : ℕ) : Type 0 where
+  pub none : mask ≡ 0 → b ≡ 0
+  pub some : (mask ≡ 0 → ⊥) → LeastAt hs b

@@ -1,4 +1,5 @@
 // The candidate of a round (document 01, "One round", step 4): whether there is one, and whether it meets all checks.
+use super::common::COMMON_DEGREE;
 ghost use mathlib.Core.Path.{_≡_};
 ghost use lib.ListN.{length};
 ghost use Rattle.rules.specs.Table.{at, bitsAt};
@@ -35,7 +36,7 @@ fn flipped(odd: bool, spin: i32) -> bool
 }
 
 // Whether an odd number of the members have negative spins.
-fn is_odd(members: &[u16], spins: &[i32]) -> bool
+fn is_odd_of(members: &[u16], spins: &[i32]) -> bool
     requires { ⌜ Below (length (now spins)) (now members) ⌝ }
     ensures { λ r. ⌜ r ≡ odd (bitsAt (negatives (now (spins .entry))) (now (members .entry))) ⌝ }
 {
@@ -47,6 +48,17 @@ fn is_odd(members: &[u16], spins: &[i32]) -> bool
         k += 1;
     }
     odd
+}
+
+// The same, with the common degree by itself.
+fn is_odd(members: &[u16], spins: &[i32]) -> bool
+    requires { ⌜ Below (length (now spins)) (now members) ⌝ }
+    ensures { λ r. ⌜ r ≡ odd (bitsAt (negatives (now (spins .entry))) (now (members .entry))) ⌝ }
+{
+    if members.len() == COMMON_DEGREE {
+        return is_odd_of(&members[..COMMON_DEGREE], spins);
+    }
+    is_odd_of(members, spins)
 }
 
 // Whether the number of negative spins is even on every check.

@@ -1,4 +1,5 @@
 // The gap of a round's multipliers, scale 1 (document 01, "Certificates"): reduced numbers, bound and agreement.
+use super::common::COMMON_DEGREE;
 ghost use mathlib.Core.Path.{_≡_};
 ghost use mathlib.Core.List.{[]};
 ghost use Prim.Native.Nat.{_+_, _≤_, _%_};
@@ -32,7 +33,7 @@ fn weighted(x: i32, b: u32, mask: u32) -> i32
 }
 
 // A check's weights, scattered to its members.
-fn add_row(members: &[u16], b: u32, mask: u32, numbers: &mut [i32])
+fn add_row_of(members: &[u16], b: u32, mask: u32, numbers: &mut [i32])
     requires { ⌜ (b ≤ 8388608) × Below (length (now numbers)) (now members) × Room (now members) (now numbers) ⌝ }
     ensures { λ _. ⌜ now (numbers .exit) ≡ scatter (now (members .entry)) (weights b (setOf (length (now (members .entry))) mask)) (now (numbers .entry)) ⌝ }
 {
@@ -44,6 +45,18 @@ fn add_row(members: &[u16], b: u32, mask: u32, numbers: &mut [i32])
         rest = rest / 2;
         k += 1;
     }
+}
+
+// The same, with the common degree by itself.
+fn add_row(members: &[u16], b: u32, mask: u32, numbers: &mut [i32])
+    requires { ⌜ (b ≤ 8388608) × Below (length (now numbers)) (now members) × Room (now members) (now numbers) ⌝ }
+    ensures { λ _. ⌜ now (numbers .exit) ≡ scatter (now (members .entry)) (weights b (setOf (length (now (members .entry))) mask)) (now (numbers .entry)) ⌝ }
+{
+    if members.len() == COMMON_DEGREE {
+        add_row_of(&members[..COMMON_DEGREE], b, mask, numbers);
+        return;
+    }
+    add_row_of(members, b, mask, numbers);
 }
 
 // A check's multiplier times (d - 2).

@@ -4,6 +4,7 @@ mod admit;
 mod bounds;
 mod candidate;
 mod clear;
+mod common;
 mod degrees;
 mod gap;
 mod mask;

@@ -1,4 +1,5 @@
 // One check in a round: its cut, its multiplier, its new copies and its new offsets.
+use super::common::COMMON_DEGREE;
 use super::mask::holds;
 use super::multiplier::least_multiplier;
 use cut::clip;
@@ -10,12 +11,11 @@ ghost use Rattle.integers.specs.Sum.{AllWithin};
 ghost use Rattle.rules.specs.Limits.{unit};
 ghost use Rattle.rules.specs.Table.{at};
 ghost use Rattle.rules.specs.Mask.{setOf};
-ghost use Rattle.rules.specs.Cut.{cut};
-ghost use Rattle.rules.specs.Step.{clips, move, moves, minus};
+ghost use Rattle.rules.specs.Step.{move, moves, minus};
 ghost use Rattle.rules.specs.Round.{values};
 ghost use Rattle.rules.proofs.Duality.{Below};
-ghost use Rattle.cut.specs.CutMask.{cutMask};
-ghost use Rattle.decoder.specs.Stepped.{steppedOn, stepped, StepFits, MoveFits};
+ghost use Rattle.decoder.specs.Lifted.{Rising, MultiplierOf};
+ghost use Rattle.decoder.specs.Stepped.{stepped, StepFits, MoveFits};
 
 // What a check adds to the round's multipliers and masks: 0 and 0 without a cut.
 pub struct Entry {
@@ -36,15 +36,15 @@ fn add_spins(spins: &[i32], members: &[u16], offsets: &mut [i32])
     }
 }
 
-// The multiplier of the cut that the mask is, and 0 of none.
-fn multiplier_for(v: &[i32], mask: u32) -> u32
-    requires { ⌜ (length (now v) ≤ 32) × AllWithin 8384512 (now v) × (mask ≡ cutMask (cut unit (clips unit (now v)))) ⌝ }
-    ensures { λ r. ⌜ (r ≡ steppedOn (now (v .entry)) .multiplier) × (r ≤ 8388608) ⌝ }
+// The multiplier of a cut with these heights, and 0 of none.
+fn multiplier_for(mask: u32, top: i32, heights: &[i32]) -> u32
+    requires { ⌜ ((mask ≡ 0 → ⊥) → Rising (now heights) top) ⌝ }
+    ensures { λ r. ⌜ MultiplierOf mask (now (heights .entry)) r ⌝ }
 {
     if mask == 0 {
         return 0;
     }
-    least_multiplier(v, mask)
+    least_multiplier(heights, top)
 }
 
 // A member's new copy: "clip(v + b) on V, clip(v − b) elsewhere".
@@ -75,18 +75,36 @@ fn move_all(mask: u32, b: u32, copies: &mut [i32], offsets: &mut [i32])
 }
 
 // "On each check, v = spin + y per edge, and the cut search runs on v clipped." Without a cut the
-// multiplier is 0, and the new copies are v clipped.
-pub(crate) fn step(spins: &[i32], members: &[u16], copies: &mut [i32], offsets: &mut [i32]) -> Entry
+// multiplier is 0, and the new copies are v clipped. The heights stand in the copies' place until then.
+fn step_of(spins: &[i32], members: &[u16], copies: &mut [i32], offsets: &mut [i32]) -> Entry
     requires { ⌜ StepFits (now spins) (now members) (now copies) (now offsets) ⌝ }
     ensures { λ r. ⌜ (record { copies = now (copies .exit); offsets = now (offsets .exit); multiplier = r .multiplier; mask = r .mask })
         ≡ stepped (at (now (spins .entry))) (now (members .entry)) (now (offsets .entry)) ⌝ }
 {
     add_spins(spins, members, offsets);
-    let mask = cut::of(offsets);
-    let b = multiplier_for(offsets, mask);
+    let found = cut::see(offsets, copies);
+    let mask = found.mask;
+    let b = multiplier_for(mask, found.top, copies);
     move_all(mask, b, copies, offsets);
     Entry {
         multiplier: b,
         mask,
     }
+}
+
+// The same, with the common degree by itself.
+pub(crate) fn step(spins: &[i32], members: &[u16], copies: &mut [i32], offsets: &mut [i32]) -> Entry
+    requires { ⌜ StepFits (now spins) (now members) (now copies) (now offsets) ⌝ }
+    ensures { λ r. ⌜ (record { copies = now (copies .exit); offsets = now (offsets .exit); multiplier = r .multiplier; mask = r .mask })
+        ≡ stepped (at (now (spins .entry))) (now (members .entry)) (now (offsets .entry)) ⌝ }
+{
+    if members.len() == COMMON_DEGREE {
+        return step_of(
+            spins,
+            &members[..COMMON_DEGREE],
+            &mut copies[..COMMON_DEGREE],
+            &mut offsets[..COMMON_DEGREE],
+        );
+    }
+    step_of(spins, members, copies, offsets)
 }

@@ -1,85 +1,36 @@
--- `is_odd` meets its contract: the parity found and that of the members from k on make the whole. Assumes nothing.
-use mathlib.Core.Path.{_≡_, refl, _∙_, ap}
-use Prim.Native.Nat.{_-_, _≤_}
+-- `is_odd` meets its contract: the first six members of a check of degree 6 are all. Assumes nothing.
+use mathlib.Core.Path.{sym, _∙_, ap, subst}
 use native.Mathlib.Omega.{arith}
-use lib.ListN.{length, getD, drop}
-use mir.Syntax.{w32}
-use mir.Val.{SFits}
-use mir.Facts.{toZ-ofZ}
+use lib.ListN.{length, length-take}
 use borrow.Author.Needs.{needs}
-use Rattle.integers.specs.Machine.{fit}
-use Rattle.rules.specs.Table.{at, bitsAt}
-use Rattle.rules.specs.Parity.{_⊕_, odd}
-use Rattle.rules.specs.Cut.{isNeg, negatives}
-use Rattle.cut.proofs.GatherLaws.{below-at}
-use Rattle.decoder.proofs.CandidateLaws.{odd-next, odd-end}
+use Rattle.rules.specs.Table.{bitsAt}
+use Rattle.rules.specs.Parity.{odd}
+use Rattle.rules.specs.Cut.{negatives}
+use Rattle.rules.proofs.Duality.{Below}
+use Rattle.decoder.proofs.ExactLaws.{take-exact}
 use Rattle.decoder.proofs.candidate.is_odd.Statement.{statement}
 use Rattle.decoder.proofs.candidate.is_odd.Tie as tie
 
-abbrev Inv-loop : tie.InvT-loop
-Inv-loop members spins t₀ k₀ t k =
-    (k ≤ length members) × (t ⊕ odd (bitsAt (negatives spins) (drop k members)) ≡ odd (bitsAt (negatives spins) members))
+slice-aggregate-is-odd-of : tie.Need-slice-aggregate-is-odd-of
+slice-aggregate-is-odd-of c = simp length-take (omega arith)
 
-abbrev μ-loop : tie.MeasureT-loop
-μ-loop members spins odd₀ k₀ odd k = length members - k
+is-odd-of-requires : tie.Need-is-odd-of-requires
+is-odd-of-requires c κs =
+    let start = c .before .before .before in
+    subst (Below (length (start .args .spins .now))) (sym (take-exact 6 (start .args .members .now) (omega arith))) (start .pre)
 
-loop-holds : tie.Need-loop-holds Inv-loop μ-loop
-loop-holds c = (omega arith, refl)
-
-mul-i : tie.Need-mul-i Inv-loop μ-loop
-mul-i c = search needs
-
-shared-slice-read-i : tie.Need-shared-slice-read-i Inv-loop μ-loop
-shared-slice-read-i c = search needs
-
-cast-i : tie.Need-cast-i Inv-loop μ-loop
-cast-i c = omega (arith, c .shared-slice-known2 .given (c .before .before .loop .k))
-
-mul-flipped : tie.Need-mul-flipped Inv-loop μ-loop
-mul-flipped c = omega (arith, c .shared-slice-known2 .given (c .before .before .loop .k))
-
-shared-slice-copy-out-flipped : tie.Need-shared-slice-copy-out-flipped Inv-loop μ-loop
-shared-slice-copy-out-flipped c =
-    let start = c .before .before .before .before in
-    below-at (length (start .args .spins .now)) (start .args .members .now) (c .before .before .loop .k) (c .before .loop-test .taken) (start .pre)
-
-flipped-requires : tie.Need-flipped-requires Inv-loop μ-loop
-flipped-requires c κs = search needs
-
-add-k : tie.Need-add-k Inv-loop μ-loop
-add-k c = search needs
-
-loop-less : tie.Need-loop-less Inv-loop μ-loop
-loop-less c = search needs
-
-loop-again : tie.Need-loop-again Inv-loop μ-loop
-loop-again c =
-    let args = c .before .before .before .before .before .before .args in
-    let loop = c .before .before .before .before .loop in
-    let x = at (args .spins .now) (getD (args .members .now) (loop .k) 0) in
-    let el : SFits w32 x = fit w32 x (c .before .flipped-arg .given) in
-    (omega arith, odd-next (args .spins .now) (args .members .now) (loop .k) (loop .odd) (c .flipped .result) (omega arith) (c .flipped .ensures ∙ ap (λ z. loop .odd ⊕ isNeg z) (toZ-ofZ el)) ∙ loop .inv .1)
-
-returns : tie.Need-returns Inv-loop μ-loop
+returns : tie.Need-returns
 returns c =
-    let args = c .before .before .before .args in
-    let loop = c .before .loop in
-    odd-end (args .spins .now) (args .members .now) (loop .k) (loop .odd) (c .loop-test .left) ∙ loop .inv .1
+    let a = c .before .before .before .before .args in
+    c .is-odd-of .ensures ∙ ap (λ ms. odd (bitsAt (negatives (a .spins .now)) ms)) (take-exact 6 (a .members .now) (omega arith))
+
+is-odd-of-requires-2 : tie.Need-is-odd-of-requires-2
+is-odd-of-requires-2 c κs = search needs
+
+returns-2 : tie.Need-returns-2
+returns-2 c = search needs
 
 pub is-odd-spec : {M : Type 1} → statement M
 is-odd-spec =
     tie.close
-    (tie.spec
-    Inv-loop
-    μ-loop
-    loop-holds
-    mul-i
-    shared-slice-read-i
-    cast-i
-    mul-flipped
-    shared-slice-copy-out-flipped
-    flipped-requires
-    add-k
-    loop-less
-    loop-again
-    returns)
+    (tie.spec slice-aggregate-is-odd-of is-odd-of-requires returns is-odd-of-requires-2 returns-2)

@@ -1,48 +1,72 @@
 -- `least_multiplier` meets its contract: b meets V's inequality all the time, and falls. Assumes nothing.
-use mathlib.Core.Path.{_≡_}
-use Prim.Native.Nat.{_-_, _/_, _≤_, _<_}
+use mathlib.Core.Path.{_≡_, sym, _∙_, ap, subst}
+use Prim.Native.Nat.{_-_, _≤_, _<_}
 use native.Mathlib.Omega.{arith}
+use lib.IntN.{pos, natAbs, _-ℤ_}
+use lib.Signed.{_≤ℤ_}
+use mir.Syntax.{w32}
+use mir.Val.{SFits, toZ, ofZ}
+use mir.Facts.{toZ-ofZ}
+use borrow.Author.Needs.{needs}
+use Rattle.integers.specs.Machine.{to-unsigned}
 use Rattle.decoder.specs.Lifted.{sumAt, countAt}
-use Rattle.decoder.proofs.MultiplierLaws.{start-met, turn-met, end-found}
+use Rattle.decoder.proofs.LiftedLaws.{next-step, least-found}
+use Rattle.decoder.proofs.MultiplierLaws.{start-fits, start-most}
 use Rattle.decoder.proofs.multiplier.least_multiplier.Statement.{statement}
 use Rattle.decoder.proofs.multiplier.least_multiplier.Tie as tie
 
 abbrev Inv-loop : tie.InvT-loop
-Inv-loop v mask b₀ d₀ b d = (b ≤ 8388608) × (8192 ≤ sumAt v mask b) × (d ≡ (sumAt v mask b - 8192) / countAt v mask b)
+Inv-loop heights top b₀ b = (b ≤ 8388608) × (8192 ≤ sumAt heights b)
 
 abbrev μ-loop : tie.MeasureT-loop
-μ-loop v mask b₀ d₀ b d = b
+μ-loop heights top b₀ b = b
 
-fall-requires : tie.Need-fall-requires Inv-loop μ-loop
-fall-requires c κs = (c .pre .few, omega arith, c .pre .small, start-met (c .args .v .now) (c .args .mask) (c .pre))
+mul-b : tie.Need-mul-b Inv-loop μ-loop
+mul-b c = search needs
 
-loop-holds : tie.Need-loop-holds Inv-loop μ-loop
-loop-holds c = (omega arith, start-met (c .before .args .v .now) (c .before .args .mask) (c .before .pre), c .fall .ensures)
+-- where b starts
+first-is : (c : tie.Start Inv-loop μ-loop) → pos 8192 -ℤ toZ w32 (ofZ w32 (c .args .top)) ≡ pos 8192 -ℤ c .args .top
+first-is c = ap (λ z. pos 8192 -ℤ z) (toZ-ofZ (c .fits .top))
 
-turn : (c : tie.In-loop Inv-loop μ-loop)
-    → (c .before .loop .d < c .before .loop .b) × (8192 ≤ sumAt (c .before .before .before .args .v .now) (c .before .before .before .args .mask) (c .before .loop .b - c .before .loop .d))
-turn c =
-    let start = c .before .before .before in
-    let l = c .before .loop in
-    turn-met (start .args .v .now) (start .args .mask) (start .pre) (l .b) (l .d) (l .inv .1) (l .inv .2)
+first-fits : (c : tie.Start Inv-loop μ-loop) → SFits w32 (pos 8192 -ℤ toZ w32 (ofZ w32 (c .args .top)))
+first-fits c = subst (SFits w32) (sym (first-is c)) (start-fits (c .args .top) (c .pre .low) (c .pre .high) .0)
+
+b-is : (c : tie.Start Inv-loop μ-loop) → toZ w32 (ofZ w32 (pos 8192 -ℤ toZ w32 (ofZ w32 (c .args .top)))) ≡ pos 8192 -ℤ c .args .top
+b-is c = toZ-ofZ (first-fits c) ∙ first-is c
 
 sub-b : tie.Need-sub-b Inv-loop μ-loop
-sub-b c = omega (arith, turn c .0)
+sub-b c = first-fits c
 
-fall-requires-2 : tie.Need-fall-requires-2 Inv-loop μ-loop
-fall-requires-2 c κs = (c .before .before .before .pre .few, omega arith, c .before .before .before .pre .small, turn c .1)
+cast-b : tie.Need-cast-b Inv-loop μ-loop
+cast-b c = to-unsigned tt (first-fits c) (subst (λ z. pos 0 ≤ℤ z) (sym (first-is c)) (start-fits (c .args .top) (c .pre .low) (c .pre .high) .1))
 
-loop-less : tie.Need-loop-less Inv-loop μ-loop
-loop-less c = omega (arith, turn (c .before) .0)
+loop-holds : tie.Need-loop-holds Inv-loop μ-loop
+loop-holds c =
+    let e = ap natAbs (sym (b-is c)) in
+    (subst (λ n. n ≤ 8388608) e (start-most (c .args .top) (c .pre .low) (c .pre .high)), subst (λ n. 8192 ≤ sumAt (c .args .heights .now) n) e (c .pre .met))
 
-loop-again : tie.Need-loop-again Inv-loop μ-loop
-loop-again c = (omega arith, turn (c .before) .1, c .fall2 .ensures)
+fall-requires : tie.Need-fall-requires Inv-loop μ-loop
+fall-requires c κs = (c .before .pre .few, c .loop .inv .0, c .before .pre .small, c .loop .inv .1)
 
 returns : tie.Need-returns Inv-loop μ-loop
 returns c =
-    let start = c .before .before .before in
-    let l = c .before .loop in
-    (end-found (start .args .v .now) (start .args .mask) (start .pre) (l .b) (l .d) (l .inv .1) (l .inv .2) (omega arith), l .inv .0)
+    let l = c .before .before .loop in
+    least-found (c .before .before .before .args .heights .now) (l .b) (c .before .fall .result) (l .inv .1) (l .inv .0) (c .before .fall .ensures) (omega arith)
+
+turn : (c : tie.Else1 Inv-loop μ-loop)
+    → (c .before .fall .result < c .before .before .loop .b) × (8192 ≤ sumAt (c .before .before .before .args .heights .now) (c .before .before .loop .b - c .before .fall .result))
+turn c =
+    let l = c .before .before .loop in
+    next-step (c .before .before .before .args .heights .now) (l .b) (c .before .fall .result) (l .inv .1) (c .before .before .before .pre .short) (c .before .fall .ensures)
+
+sub-b-2 : tie.Need-sub-b-2 Inv-loop μ-loop
+sub-b-2 c = omega (arith, turn c .0)
+
+loop-less : tie.Need-loop-less Inv-loop μ-loop
+loop-less c = omega (arith, turn c .0)
+
+loop-again : tie.Need-loop-again Inv-loop μ-loop
+loop-again c = (omega arith, turn c .1)
 
 pub least-multiplier-spec : {M : Type 1} → statement M
 least-multiplier-spec =
@@ -50,10 +74,12 @@ least-multiplier-spec =
     (tie.spec
     Inv-loop
     μ-loop
-    fall-requires
-    loop-holds
+    mul-b
     sub-b
-    fall-requires-2
+    cast-b
+    loop-holds
+    fall-requires
+    returns
+    sub-b-2
     loop-less
-    loop-again
-    returns)
+    loop-again)

@@ -16,13 +16,13 @@ use Rattle.decoder.proofs.multiplier.slope_at.Statement.{statement}
 use Rattle.decoder.proofs.multiplier.slope_at.Tie as tie
 
 abbrev Inv-loop : tie.InvT-loop
-Inv-loop v mask b sum₀ count₀ i₀ sum count i = (i ≤ length v) × (sum ≡ sumFirst v mask b i) × (count ≡ countFirst v mask b i) × (sum ≤ 16777216 * i) × (count ≤ i)
+Inv-loop heights b sum₀ count₀ i₀ sum count i = (i ≤ length heights) × (sum ≡ sumFirst heights b i) × (count ≡ countFirst heights b i) × (sum ≤ 16777216 * i) × (count ≤ i)
 
 abbrev μ-loop : tie.MeasureT-loop
-μ-loop v mask b sum₀ count₀ i₀ sum count i = length v - i
+μ-loop heights b sum₀ count₀ i₀ sum count i = length heights - i
 
 loop-holds : tie.Need-loop-holds Inv-loop μ-loop
-loop-holds c = (omega arith, first-none _ _ _ .0, first-none _ _ _ .1, omega arith, omega arith)
+loop-holds c = (omega arith, first-none _ _ .0, first-none _ _ .1, omega arith, omega arith)
 
 mul-lift : tie.Need-mul-lift Inv-loop μ-loop
 mul-lift c = omega arith
@@ -30,26 +30,23 @@ mul-lift c = omega arith
 shared-slice-copy-out-lift : tie.Need-shared-slice-copy-out-lift Inv-loop μ-loop
 shared-slice-copy-out-lift c = omega arith
 
-holds-requires : tie.Need-holds-requires Inv-loop μ-loop
-holds-requires c κs = omega arith
-
-element : (c : tie.After-lift-arg Inv-loop μ-loop) → SFits w32 (at (c .before .before .before .args .v .now) (c .before .before .loop .i))
-element c = fit w32 (at (c .before .before .before .args .v .now) (c .before .before .loop .i)) (c .lift-arg .given)
+element : (c : tie.After-lift-arg Inv-loop μ-loop) → SFits w32 (at (c .before .before .before .args .heights .now) (c .before .before .loop .i))
+element c = fit w32 (at (c .before .before .before .args .heights .now) (c .before .before .loop .i)) (c .lift-arg .given)
 
 lift-requires : tie.Need-lift-requires Inv-loop μ-loop
 lift-requires c κs =
-    let start = c .before .before .before .before in
-    (subst (Within 8384512) (sym (toZ-ofZ (element (c .before)))) (within-at 8384512 (start .args .v .now) (start .pre .2) (c .before .before .before .loop .i)), start .pre .1)
+    let start = c .before .before .before in
+    (subst (Within 8388608) (sym (toZ-ofZ (element c))) (within-at 8388608 (start .args .heights .now) (start .pre .2) (c .before .before .loop .i)), start .pre .1)
 
 lift-is : (c : tie.After-lift Inv-loop μ-loop)
-    → c .lift .result ≡ lifted (c .before .before .before .before .before .args .b) (c .before .holds .result) (at (c .before .before .before .before .before .args .v .now) (c .before .before .before .before .loop .i))
-lift-is c = c .lift .ensures ∙ ap (lifted (c .before .before .before .before .before .args .b) (c .before .holds .result)) (toZ-ofZ (element (c .before .before)))
+    → c .lift .result ≡ lifted (c .before .before .before .before .args .b) (at (c .before .before .before .before .args .heights .now) (c .before .before .before .loop .i))
+lift-is c = c .lift .ensures ∙ ap (lifted (c .before .before .before .before .args .b)) (toZ-ofZ (element (c .before)))
 
 lift-le : (c : tie.After-lift Inv-loop μ-loop) → c .lift .result ≤ 16777216
 lift-le c =
-    let start = c .before .before .before .before .before in
-    let v = at (start .args .v .now) (c .before .before .before .before .loop .i) in
-    subst (λ n. n ≤ 16777216) (sym (lift-is c)) (lifted-le (start .args .b) (c .before .holds .result) v (within-at 8384512 (start .args .v .now) (start .pre .2) (c .before .before .before .before .loop .i)) (start .pre .1))
+    let start = c .before .before .before .before in
+    let h = at (start .args .heights .now) (c .before .before .before .loop .i) in
+    subst (λ n. n ≤ 16777216) (sym (lift-is c)) (lifted-le (start .args .b) h (within-at 8388608 (start .args .heights .now) (start .pre .2) (c .before .before .before .loop .i)) (start .pre .1))
 
 add-sum : tie.Need-add-sum Inv-loop μ-loop
 add-sum c = omega (arith, lift-le c)
@@ -68,10 +65,10 @@ loop-less c = omega arith
 
 loop-again : tie.Need-loop-again Inv-loop μ-loop
 loop-again c =
-    let a = c .before .before .before .before .before .before .args in
-    let l = c .before .before .before .before .before .loop in
-    let h : l .i < length (a .v .now) = omega arith in
-    let next = first-next (a .v .now) (a .mask) (a .b) (l .i) (c .before .before .holds .result) (c .before .lift .result) h (c .before .before .holds .ensures) (lift-is (c .before)) in (
+    let a = c .before .before .before .before .before .args in
+    let l = c .before .before .before .before .loop in
+    let h : l .i < length (a .heights .now) = omega arith in
+    let next = first-next (a .heights .now) (a .b) (l .i) (c .before .lift .result) h (lift-is (c .before)) in (
       omega arith,
       ap (λ x. x + c .before .lift .result) (l .inv .1) ∙ next .0,
       ap₂ _+_ (l .inv .2) (c .one-if .ensures) ∙ next .1,
@@ -83,8 +80,8 @@ returns : tie.Need-returns Inv-loop μ-loop
 returns c =
     let a = c .before .before .args in
     let l = c .before .loop in
-    let h : length (a .v .now) ≤ l .i = omega arith in
-    let e = first-all (a .v .now) (a .mask) (a .b) (l .i) h in
+    let h : length (a .heights .now) ≤ l .i = omega arith in
+    let e = first-all (a .heights .now) (a .b) (l .i) h in
     (l .inv .1 ∙ e .0, l .inv .2 ∙ e .1)
 
 pub slope-at-spec : {M : Type 1} → statement M
@@ -96,7 +93,6 @@ slope-at-spec =
     loop-holds
     mul-lift
     shared-slice-copy-out-lift
-    holds-requires
     lift-requires
     add-sum
     one-if-requires

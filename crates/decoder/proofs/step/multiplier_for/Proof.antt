@@ -1,24 +1,18 @@
--- `multiplier_for` meets its contract: mask 0 is no cut, and any other mask is the cut's. Assumes nothing.
-use mathlib.Core.Path.{_∙_}
-use native.Mathlib.Omega.{arith}
-use Rattle.decoder.proofs.StepLaws.{multiplier-none, multiplier-some, is-violated}
+-- `multiplier_for` meets its contract. Assumes nothing.
+use mathlib.Core.Path.{_≡_, refl, sym, subst}
+use mir.Facts.{toZ-ofZ}
+use Rattle.decoder.specs.Lifted.{Rising}
 use Rattle.decoder.proofs.step.multiplier_for.Statement.{statement}
 use Rattle.decoder.proofs.step.multiplier_for.Tie as tie
 
 returns : tie.Need-returns
-returns c =
-    let start = c .before in
-    (multiplier-none (start .args .v .now) (start .args .mask) (start .pre .2) (c .if1 .taken), omega arith)
+returns c = record { none = λ e. refl; some = λ f. absurd (f (c .if1 .taken)) }
 
 least-multiplier-requires : tie.Need-least-multiplier-requires
-least-multiplier-requires c κs =
-    let start = c .before in
-    is-violated (start .args .v .now) (start .args .mask) (start .pre .2) (start .pre .0) (start .pre .1) (c .if1 .left)
+least-multiplier-requires c κs = subst (Rising (c .before .args .heights .now)) (sym (toZ-ofZ (c .before .fits .top))) (c .before .pre (c .if1 .left))
 
 returns-2 : tie.Need-returns-2
-returns-2 c =
-    let start = c .before .before in
-    (c .least-multiplier .ensures .0 ∙ multiplier-some (start .args .v .now) (start .args .mask) (start .pre .2) (c .before .if1 .left), c .least-multiplier .ensures .1)
+returns-2 c = record { none = λ e. absurd (c .before .if1 .left e); some = λ f. c .least-multiplier .ensures }
 
 pub multiplier-for-spec : {M : Type 1} → statement M
 multiplier-for-spec = tie.close (tie.spec returns least-multiplier-requires returns-2)

@@ -1,29 +1,31 @@
--- `step` meets its contract: the values, their cut, its multiplier, and what they leave. Assumes nothing.
+-- `step` meets its contract: the first six places of a check of degree 6 are all. Assumes nothing.
+use native.Mathlib.Omega.{arith}
+use lib.ListN.{length-take}
 use borrow.Author.Needs.{needs}
-use Rattle.decoder.proofs.StepLaws.{multiplier-asks, move-asks, step-left}
+use Rattle.decoder.proofs.StepLaws.{part-asks, part-left}
 use Rattle.decoder.proofs.step.step.Statement.{statement}
 use Rattle.decoder.proofs.step.step.Tie as tie
 
-add-spins-requires : tie.Need-add-spins-requires
-add-spins-requires c κs = search needs
+slice-aggregate-step-of : tie.Need-slice-aggregate-step-of
+slice-aggregate-step-of c = simp length-take (omega arith)
 
-of-requires : tie.Need-of-requires
-of-requires c κs = search needs
+slice-relend-prefix-step-of : tie.Need-slice-relend-prefix-step-of
+slice-relend-prefix-step-of c = search needs
 
-multiplier-for-requires : tie.Need-multiplier-for-requires
-multiplier-for-requires c κs =
-    let added = c .before .before .before .before in
-    let start = added .before .before .before in
+slice-aggregate-step-of-2 : tie.Need-slice-aggregate-step-of-2
+slice-aggregate-step-of-2 c = simp length-take (omega arith)
+
+slice-relend-prefix-step-of-2 : tie.Need-slice-relend-prefix-step-of-2
+slice-relend-prefix-step-of-2 c = search needs
+
+slice-aggregate-step-of-3 : tie.Need-slice-aggregate-step-of-3
+slice-aggregate-step-of-3 c = simp length-take (omega arith)
+
+step-of-requires : tie.Need-step-of-requires
+step-of-requires c κs =
+    let start = c .before .before .before .before .before in
     let a = start .args in
-    multiplier-asks (a .spins .now) (a .members .now) (a .copies .now) (a .offsets .now) _ (start .pre) (added .add-spins .ensures) (c .before .of .result) (c .before .of .ensures)
-
-move-all-requires : tie.Need-move-all-requires
-move-all-requires c κs =
-    let found = c .before .before in
-    let added = found .before .before .before .before .before in
-    let start = added .before .before .before in
-    let a = start .args in
-    move-asks (a .spins .now) (a .members .now) (a .copies .now) (a .offsets .now) _ (start .pre) (added .add-spins .ensures) (found .multiplier-for .result) (found .multiplier-for .ensures .1)
+    part-asks 6 (a .spins .now) (a .members .now) (a .copies .now) (a .offsets .now) (omega arith) (start .pre)
 
 same-length : tie.Need-same-length
 same-length c = search needs
@@ -33,23 +35,36 @@ same-length-2 c = search needs
 
 returns : tie.Need-returns
 returns c =
-    let moved = c .before .before in
-    let found = moved .before .before .before in
-    let cut = found .before .before in
-    let added = cut .before .before .before in
-    let start = added .before .before .before in
+    let start = c .before .before .before .before .before .before .before .before in
     let a = start .args in
-    step-left (a .spins .now) (a .members .now) (a .copies .now) (a .offsets .now) _ (start .pre) (added .add-spins .ensures) (cut .of .result) (cut .of .ensures)
-    (found .multiplier-for .result) _ _ (found .multiplier-for .ensures .0) (moved .move-all .ensures)
+    part-left 6 (a .spins .now) (a .members .now) (a .copies .now) (a .offsets .now) (omega arith) (start .pre) _ _ _ _ (c .before .before .step-of .ensures)
+
+step-of-requires-2 : tie.Need-step-of-requires-2
+step-of-requires-2 c κs = search needs
+
+same-length-3 : tie.Need-same-length-3
+same-length-3 c = search needs
+
+same-length-4 : tie.Need-same-length-4
+same-length-4 c = search needs
+
+returns-2 : tie.Need-returns-2
+returns-2 c = search needs
 
 pub step-spec : {M : Type 1} → statement M
 step-spec =
     tie.close
     (tie.spec
-    add-spins-requires
-    of-requires
-    multiplier-for-requires
-    move-all-requires
+    slice-aggregate-step-of
+    slice-relend-prefix-step-of
+    slice-aggregate-step-of-2
+    slice-relend-prefix-step-of-2
+    slice-aggregate-step-of-3
+    step-of-requires
     same-length
     same-length-2
-    returns)
+    returns
+    step-of-requires-2
+    same-length-3
+    same-length-4
+    returns-2)
