@@ -1,0 +1,53 @@
+-- A check's members as a set V sees them: the height of a member is its share of V's left side, not clipped. Definitions only. Assumes nothing.
+use mathlib.Core.Bool.{Bool, cond}
+use mathlib.Core.List.{List, [], _∷_}
+use mathlib.Core.Option.{Option, some, none}
+use Prim.Native.Nat.{ℕ, min}
+use lib.ListN.{length, take}
+use lib.IntN.{ℤ, pos, negℤ, _+ℤ_}
+use lib.Signed.{ltZ}
+use Rattle.rules.specs.Limits.{unit, maxDegree}
+use Rattle.rules.specs.Parity.{side}
+use Rattle.rules.specs.Cut.{negatives, cut}
+use Rattle.rules.specs.Step.{clips}
+use Rattle.rules.specs.Buffers.{over}
+use Rattle.cut.specs.CutMask.{cutMask}
+
+-- U + v on V, U − v elsewhere
+abbrev pub height : Bool → ℤ → ℤ
+height t v = pos unit +ℤ side t v
+
+abbrev pub heightsOf : List Bool → List ℤ → List ℤ
+heightsOf [] vs = []
+heightsOf (t ∷ ts) [] = []
+heightsOf (t ∷ ts) (v ∷ vs) = height t v ∷ heightsOf ts vs
+
+-- the greatest; of none, the least height that a 32-bit value has
+abbrev pub higher : ℤ → ℤ → ℤ
+higher a b = cond (ltZ a b) b a
+
+abbrev pub highest : List ℤ → ℤ
+highest [] = negℤ (pos 2147479552)
+highest (h ∷ hs) = higher h (highest hs)
+
+-- the set that sees: the cut, or the negative values where there is none
+abbrev pub sideBy : Option (List Bool) → List ℤ → List Bool
+sideBy none v = negatives v
+sideBy (some ts) v = ts
+
+pub record Seen : Type 0 where
+  pub mask : ℕ
+  pub top : ℤ
+  pub heights : List ℤ
+
+-- the cut of the values v, and the heights as it sees them, laid over a buffer
+unfoldable pub seenOn : List ℤ → List ℤ → Seen
+seenOn v old = record {
+  mask = cutMask (cut unit (clips unit v));
+  top = highest (heightsOf (sideBy (cut unit (clips unit v)) v) v);
+  heights = over (heightsOf (sideBy (cut unit (clips unit v)) v) v) old;
+}
+
+-- of the first 32 values at most, and of no more than the buffer has room for
+unfoldable pub seen : List ℤ → List ℤ → Seen
+seen v old = seenOn (take (min maxDegree (length old)) v) old
