@@ -8,7 +8,6 @@ use native.Mathlib.Numerals.{add-one}
 use lib.ListN.{length, getD, take, drop, set}
 use lib.Seq.{take-suc, drop-cons, set-at, length-take-le, take-all, take-at}
 use lib.IntN.{ℤ, pos}
-use Rattle.rules.specs.Limits.{maxDegree}
 use Rattle.rules.specs.Table.{valuesAt}
 use Rattle.rules.proofs.Duality.{Below}
 
@@ -45,12 +44,9 @@ pub gather-all : (f : ℕ → ℤ) (ms : List ℕ) (vs : List ℤ) (k : ℕ) →
 gather-all f ms vs k e = ap (gathered f ms vs) e ∙ ap (λ l. valuesAt f l ++ drop (length ms) vs) (take-all (length ms) ms (omega arith))
 
 -- ---- the front of the values is the members' spins
-module _ (f : ℕ → ℤ) (ms : List ℕ) (vs ws : List ℤ) (h : length ms ≤ maxDegree) (e : ws ≡ valuesAt f ms ++ vs) where
-  front-is : take (length ms) ws ≡ valuesAt f ms
+module _ (f : ℕ → ℤ) (ms : List ℕ) (vs ws : List ℤ) (e : ws ≡ valuesAt f ms ++ vs) where
+  pub front-is : take (length ms) ws ≡ valuesAt f ms
   front-is = ap (take (length ms)) e ∙ take-at (valuesAt f ms) vs (length ms) (values-length f ms)
 
   pub front-length : length ms ≡ length (take (length ms) ws)
   front-length = sym (ap length front-is ∙ values-length f ms)
-
-  pub front-all : take maxDegree (take (length ms) ws) ≡ valuesAt f ms
-  front-all = ap (take maxDegree) front-is ∙ take-all maxDegree (valuesAt f ms) (omega (arith, values-length f ms))

@@ -1,8 +1,10 @@
 pub mod ValueLaws
+pub mod HeightLaws
+pub mod ClipLaws
 pub mod ScanLaws
 pub mod SideLaws
 pub mod MaskLaws
-pub mod OfLaws
+pub mod SeeLaws
 pub mod GatherLaws
 pub mod PartLaws
 pub mod ReplyLaws

@@ -1,53 +1,58 @@
 -- The pass over a check's values: none, one value more. Assumes nothing.
-use mathlib.Core.Path.{_≡_, refl, sym, _∙_, ap, subst}
+use mathlib.Core.Path.{_≡_, refl, sym, _∙_, ap, ap₂, subst}
 use mathlib.Core.Bool.{Bool, true, false, cond}
-use mathlib.Core.List.{List, [], _∷_, _++_}
-use Prim.Native.Nat.{ℕ, suc, _+_, _*_, _^_, _≤_, _<_, min}
+use mathlib.Core.List.{List, [], _∷_, _++_, append-assoc}
+use Prim.Native.Nat.{ℕ, suc, _+_, _*_, _^_, _≤_, _<_}
 use native.Mathlib.Omega.{arith}
 use native.Mathlib.Nat.{pow-suc}
 use native.Mathlib.Numerals.{add-one}
-use lib.Dec.{ltb}
-use lib.ListN.{length, take, length-append, List·getD-append}
-use lib.Seq.{take-suc, getD-append-seam, length-take-le}
-use lib.IntN.{ℤ, pos, natAbs}
-use borrow.Author.Tests.{ltb-true, ltb-false, lt-ltb, le-ltb}
-use Rattle.integers.specs.Linear.{Within}
-use Rattle.integers.specs.Product.{natAbs-≤}
-use Rattle.integers.specs.Clip.{clipZ, clip-within}
+use lib.ListN.{length, take, drop, set, length-append, List·getD-append}
+use lib.Seq.{take-suc, drop-cons, set-at, getD-append-seam, length-take-le}
+use lib.IntN.{ℤ, pos}
+use lib.Signed.{ltZ}
+use mir.Syntax.{w32}
+use mir.Val.{SFits}
+use Rattle.integers.specs.Linear.{lin, arithZ, _⩽_, up}
+use Rattle.integers.specs.Order.{le-refl}
 use Rattle.rules.specs.Limits.{unit}
 use Rattle.rules.specs.Table.{at}
 use Rattle.rules.specs.Mask.{digit, maskOf}
-use Rattle.rules.specs.Cut.{isNeg, negatives, smallest}
+use Rattle.rules.specs.Cut.{isNeg, negatives}
 use Rattle.rules.specs.Step.{clips}
+use Rattle.rules.specs.Buffers.{over}
 use Rattle.rules.proofs.Masks.{mask-below}
 use Rattle.cut.specs.declared.scan.Scan.{Scan}
-use Rattle.cut.specs.Scan.{withValue, scanned, sizes, Smallest, Scanned}
+use Rattle.cut.specs.Heights.{height, higher, highest}
+use Rattle.cut.specs.Scan.{scanned, sights, rooms, Highest, Scanned}
+use Rattle.cut.proofs.ValueLaws.{up-most}
+use Rattle.cut.proofs.HeightLaws.{floor, higher-left, higher-right, highest-more, height-low, height-top, sights-length, sights-more}
 
 pub negatives-length : (ss : List ℤ) → length (negatives ss) ≡ length ss
 negatives-length [] = refl
 negatives-length (s ∷ ss) = ap suc (negatives-length ss)
 
+pub clips-length : (u : ℕ) (vs : List ℤ) → length (clips u vs) ≡ length vs
+clips-length u [] = refl
+clips-length u (v ∷ vs) = ap suc (clips-length u vs)
+
 -- ---- one value more, as the code's two arms have it
-scan-eq : (m m′ t t′ l l′ k k′ : ℕ) → m ≡ m′ → t ≡ t′ → l ≡ l′ → k ≡ k′
-    → _≡_ {A = Scan} (record { mask = m; sum = t; least = l; place = k }) (record { mask = m′; sum = t′; least = l′; place = k′ })
-scan-eq m m′ t t′ l l′ k k′ p q r e = cc
+scan-eq : (m m′ r r′ : ℕ) (t t′ : ℤ) (k k′ : ℕ) → m ≡ m′ → r ≡ r′ → t ≡ t′ → k ≡ k′
+    → _≡_ {A = Scan} (record { mask = m; room = r; top = t; place = k }) (record { mask = m′; room = r′; top = t′; place = k′ })
+scan-eq m m′ r r′ t t′ k k′ p q e f = cc
 
-module _ (s : Scan) (z : ℤ) (k b a : ℕ) (hb : b ≡ digit (isNeg z) * 2 ^ k) (ha : a ≡ natAbs z) where
-  mask-is : s .mask + b ≡ s .mask + digit (isNeg z) * 2 ^ k
-  mask-is = ap (λ n. s .mask + n) hb
+module _ (s : Scan) (x h : ℤ) (k b a : ℕ) (hb : b ≡ digit (isNeg x) * 2 ^ k) (ha : a ≡ up h) (top now : ℤ) (ht : top ≡ s .top) (hn : now ≡ h) where
+  compared : (t : Bool) → ltZ top now ≡ t → ltZ (s .top) h ≡ t
+  compared t e = sym (ap₂ ltZ ht hn) ∙ e
 
-  sum-is : s .sum + a ≡ s .sum + natAbs z
-  sum-is = ap (λ n. s .sum + n) ha
+  pub with-higher : ltZ top now ≡ true → record { mask = s .mask + b; room = s .room + a; top = now; place = k } ≡ scanned s x h k
+  with-higher e =
+      scan-eq _ _ _ _ _ _ _ _ (ap (λ n. s .mask + n) hb) (ap (λ n. s .room + n) ha)
+      (hn ∙ ap (λ t. cond t h (s .top)) (sym (compared true e))) (ap (λ t. cond t k (s .place)) (sym (compared true e)))
 
-  pub with-smaller : a < s .least → record { mask = s .mask + b; sum = s .sum + a; least = a; place = k } ≡ withValue s z k
-  with-smaller h =
-      let smaller : ltb (natAbs z) (s .least) ≡ true = lt-ltb (natAbs z) (s .least) (omega arith) in
-      scan-eq _ _ _ _ _ _ _ _ mask-is sum-is (omega arith) (ap (λ t. cond t k (s .place)) (sym smaller))
-
-  pub with-other : s .least ≤ a → record { mask = s .mask + b; sum = s .sum + a; least = s .least; place = s .place } ≡ withValue s z k
-  with-other h =
-      let other : ltb (natAbs z) (s .least) ≡ false = le-ltb (natAbs z) (s .least) (omega arith) in
-      scan-eq _ _ _ _ _ _ _ _ mask-is sum-is (omega arith) (ap (λ t. cond t k (s .place)) (sym other))
+  pub with-other : ltZ top now ≡ false → record { mask = s .mask + b; room = s .room + a; top = top; place = s .place } ≡ scanned s x h k
+  with-other e =
+      scan-eq _ _ _ _ _ _ _ _ (ap (λ n. s .mask + n) hb) (ap (λ n. s .room + n) ha)
+      (ht ∙ ap (λ t. cond t h (s .top)) (sym (compared false e))) (ap (λ t. cond t k (s .place)) (sym (compared false e)))
 
 -- ---- one value more, at the end
 mask-step : (v t : Bool) (m p q : ℕ) → q ≡ p * 2 → digit v + 2 * (m + digit t * p) ≡ digit v + 2 * m + digit t * q
@@ -66,119 +71,117 @@ mask-more (s ∷ ss) z =
     ap (λ n. digit (isNeg s) + 2 * n) (mask-more ss z)
     ∙ mask-step (isNeg s) (isNeg z) (maskOf (negatives ss)) (2 ^ length ss) (2 ^ suc (length ss)) (pow-suc 2 (length ss))
 
-sizes-more : (ss : List ℤ) (z : ℤ) → sizes (ss ++ (z ∷ [])) ≡ sizes ss + natAbs z
-sizes-more [] z = swap (natAbs z)
+rooms-more : (hs : List ℤ) (h : ℤ) → rooms (hs ++ (h ∷ [])) ≡ rooms hs + up h
+rooms-more [] h = swap (up h)
   where
     swap : (n : ℕ) → n + 0 ≡ 0 + n
     swap n = omega arith
-sizes-more (s ∷ ss) z = ap (λ n. natAbs s + n) (sizes-more ss z) ∙ assoc (natAbs s) (sizes ss) (natAbs z)
+rooms-more (a ∷ hs) h = ap (λ n. up a + n) (rooms-more hs h) ∙ assoc (up a) (rooms hs) (up h)
   where
     assoc : (a b c : ℕ) → a + (b + c) ≡ a + b + c
     assoc a b c = omega arith
 
-smallest-more : (u : ℕ) (ss : List ℤ) (z : ℤ) → smallest u (ss ++ (z ∷ [])) ≡ min (natAbs z) (smallest u ss)
-smallest-more u [] z = refl
-smallest-more u (s ∷ ss) z = ap (min (natAbs s)) (smallest-more u ss z) ∙ swap (natAbs s) (natAbs z) (smallest u ss)
-  where
-    swap : (a b c : ℕ) → min a (min b c) ≡ min b (min a c)
-    swap a b c = omega arith
+length-more : {A : Type 0} (xs : List A) (x : A) → length (xs ++ (x ∷ [])) ≡ suc (length xs)
+length-more xs x = length-append xs (x ∷ []) ∙ add-one (length xs)
 
-length-more : (ss : List ℤ) (z : ℤ) → length (ss ++ (z ∷ [])) ≡ suc (length ss)
-length-more ss z = length-append ss (z ∷ []) ∙ add-one (length ss)
-
--- place k has the smallest absolute spin of a list that is not empty
+-- place k has the greatest height of a list that is not empty
 abbrev Holds : List ℤ → ℕ → Type 0
-Holds ss k = (k < length ss) × (natAbs (at ss k) ≡ smallest unit ss)
+Holds hs k = (k < length hs) × (at hs k ≡ highest hs)
 
-last-smallest : (ss : List ℤ) (z : ℤ) → natAbs z ≤ smallest unit ss → Holds (ss ++ (z ∷ [])) (length ss)
-last-smallest ss z h = (
-  subst (λ n. length ss < n) (sym (length-more ss z)) (omega arith),
-  ap natAbs (getD-append-seam ss z [] (pos 0)) ∙ lower (natAbs z) (smallest unit ss) h ∙ sym (smallest-more unit ss z),
+last-highest : (hs : List ℤ) (h : ℤ) → floor ⩽ h → highest hs ⩽ h → Holds (hs ++ (h ∷ [])) (length hs)
+last-highest hs h f t = (
+  subst (λ n. length hs < n) (sym (length-more hs h)) (omega arith),
+  getD-append-seam hs h [] (pos 0) ∙ sym (highest-more hs h f ∙ higher-right (highest hs) h t),
 )
-  where
-    lower : (a b : ℕ) → a ≤ b → a ≡ min a b
-    lower a b h = omega arith
 
-still-smallest : (ss : List ℤ) (z : ℤ) (k : ℕ) → smallest unit ss ≤ natAbs z → Holds ss k → Holds (ss ++ (z ∷ [])) k
-still-smallest ss z k h p = (
-  subst (λ n. k < n) (sym (length-more ss z)) (omega (arith, p .0)),
-  ap natAbs (List·getD-append ss (z ∷ []) (pos 0) k (p .0)) ∙ p .1 ∙ upper (natAbs z) (smallest unit ss) h ∙ sym (smallest-more unit ss z),
+still-highest : (hs : List ℤ) (h : ℤ) (k : ℕ) → floor ⩽ h → h ⩽ highest hs → Holds hs k → Holds (hs ++ (h ∷ [])) k
+still-highest hs h k f t p = (
+  subst (λ n. k < n) (sym (length-more hs h)) (omega (arith, p .0)),
+  List·getD-append hs (h ∷ []) (pos 0) k (p .0) ∙ p .1 ∙ sym (highest-more hs h f ∙ higher-left (highest hs) h t),
 )
-  where
-    upper : (a b : ℕ) → b ≤ a → b ≡ min a b
-    upper a b h = omega arith
+
+not-above : (a b : ℤ) → ltZ a b ≡ false → b ⩽ a
+not-above a b = simp lin (omega arithZ)
+
+is-above : (a b : ℤ) → ltZ a b ≡ true → a ⩽ b
+is-above a b = simp lin (omega arithZ)
 
 -- the first place stays on a tie
-lowest-more : (ss : List ℤ) (z : ℤ) (k : ℕ) → Within unit z → Smallest ss k → Smallest (ss ++ (z ∷ [])) (cond (ltb (natAbs z) (smallest unit ss)) (length ss) k)
-lowest-more [] z k w e = go (ltb (natAbs z) unit) refl
+peak-more : (hs : List ℤ) (h : ℤ) (k : ℕ) → floor ⩽ h → Highest hs k → Highest (hs ++ (h ∷ [])) (cond (ltZ (highest hs) h) (length hs) k)
+peak-more [] h k f e = go (ltZ floor h)
   where
-    most : natAbs z ≤ unit
-    most = natAbs-≤ z unit w
+    only : Holds (h ∷ []) 0
+    only = last-highest [] h f f
 
-    same : (a : ℕ) → a ≤ unit → a ≡ min a unit
-    same a h = omega arith
-
-    go : (b : Bool) → ltb (natAbs z) unit ≡ b → Holds (z ∷ []) (cond b 0 k)
-    go true p = (omega arith, same (natAbs z) most)
-    go false p = subst (Holds (z ∷ [])) (sym e) (omega arith, same (natAbs z) most)
-lowest-more (s ∷ ss) z k w p = go (ltb (natAbs z) (smallest unit (s ∷ ss))) refl
+    go : (b : Bool) → Holds (h ∷ []) (cond b 0 k)
+    go true = only
+    go false = subst (Holds (h ∷ [])) (sym e) only
+peak-more (a ∷ hs) h k f p = go (ltZ (highest (a ∷ hs)) h) refl
   where
-    weaken : (a b : ℕ) → a < b → a ≤ b
-    weaken a b h = omega arith
+    go : (b : Bool) → ltZ (highest (a ∷ hs)) h ≡ b → Holds ((a ∷ hs) ++ (h ∷ [])) (cond b (length (a ∷ hs)) k)
+    go true q = last-highest (a ∷ hs) h f (is-above (highest (a ∷ hs)) h q)
+    go false q = still-highest (a ∷ hs) h k f (not-above (highest (a ∷ hs)) h q) p
 
-    go : (b : Bool) → ltb (natAbs z) (smallest unit (s ∷ ss)) ≡ b → Holds ((s ∷ ss) ++ (z ∷ [])) (cond b (length (s ∷ ss)) k)
-    go true q = last-smallest (s ∷ ss) z (weaken (natAbs z) (smallest unit (s ∷ ss)) (ltb-true (natAbs z) (smallest unit (s ∷ ss)) q))
-    go false q = still-smallest (s ∷ ss) z k (ltb-false (natAbs z) (smallest unit (s ∷ ss)) q) p
-
-with-more : (ss : List ℤ) (s : Scan) (z : ℤ) → Within unit z → Scanned ss s → Scanned (ss ++ (z ∷ [])) (withValue s z (length ss))
-with-more ss s z w p = record {
-  negative = ap (λ n. n + digit (isNeg z) * 2 ^ length ss) (p .negative) ∙ sym (mask-more ss z);
-  total = ap (λ n. n + natAbs z) (p .total) ∙ sym (sizes-more ss z);
-  low = ap (min (natAbs z)) (p .low) ∙ sym (smallest-more unit ss z);
-  lowest = subst (λ n. Smallest (ss ++ (z ∷ [])) (cond (ltb (natAbs z) n) (length ss) (s .place))) (sym (p .low)) (lowest-more ss z (s .place) w (p .lowest));
-}
+with-more : (vs : List ℤ) (s : Scan) (v : ℤ) → floor ⩽ height (isNeg v) v → Scanned vs s → Scanned (vs ++ (v ∷ [])) (scanned s v (height (isNeg v) v) (length vs))
+with-more vs s v f p =
+    let h = height (isNeg v) v in
+    let hs = sights vs in
+    let next : sights (vs ++ (v ∷ [])) ≡ hs ++ (h ∷ []) = sights-more vs v in
+    let peak : Highest (hs ++ (h ∷ [])) (cond (ltZ (s .top) h) (length vs) (s .place)) =
+    subst (λ n. Highest (hs ++ (h ∷ [])) (cond (ltZ (s .top) h) n (s .place))) (sights-length vs)
+    (subst (λ t. Highest (hs ++ (h ∷ [])) (cond (ltZ t h) (length hs) (s .place))) (sym (p .high)) (peak-more hs h (s .place) f (p .peak))) in
+    record {
+      negative = ap (λ n. n + digit (isNeg v) * 2 ^ length vs) (p .negative) ∙ sym (mask-more vs v);
+      total = ap (λ n. n + up h) (p .total) ∙ sym (ap rooms next ∙ rooms-more hs h);
+      high = ap (λ t. higher t h) (p .high) ∙ sym (ap highest next ∙ highest-more hs h f);
+      peak = subst (λ l. Highest l (cond (ltZ (s .top) h) (length vs) (s .place))) (sym next) peak;
+    }
 
 -- ---- the loop
-pub scanned-none : (s : Scan) → s .mask ≡ 0 → s .sum ≡ 0 → s .least ≡ unit → s .place ≡ 0 → Scanned [] s
-scanned-none s m t l k = record { negative = m; total = t; low = l; lowest = k }
+pub scanned-none : (s : Scan) → s .mask ≡ 0 → s .room ≡ 0 → s .top ≡ floor → s .place ≡ 0 → Scanned [] s
+scanned-none s m r t k = record { negative = m; total = r; high = t; peak = k }
 
-pub clips-length : (u : ℕ) (vs : List ℤ) → length (clips u vs) ≡ length vs
-clips-length u [] = refl
-clips-length u (v ∷ vs) = ap suc (clips-length u vs)
-
-clips-++ : (u : ℕ) (vs ws : List ℤ) → clips u (vs ++ ws) ≡ clips u vs ++ clips u ws
-clips-++ u [] ws = refl
-clips-++ u (v ∷ vs) ws = ap (λ l. clipZ u v ∷ l) (clips-++ u vs ws)
-
--- of the first i values of v
-abbrev pub first : List ℤ → ℕ → List ℤ
-first v i = clips unit (take i v)
-
-pub first-length : (v : List ℤ) (i : ℕ) → i ≤ length v → length (first v i) ≡ i
-first-length v i h = clips-length unit (take i v) ∙ length-take-le i v h
-
-pub scanned-more : (v : List ℤ) (i : ℕ) (s r : Scan) → i < length v → Scanned (first v i) s → r ≡ scanned s (at v i) i → Scanned (first v (i + 1)) r
-scanned-more v i s r h p e =
-    let next : first v (i + 1) ≡ first v i ++ (clipZ unit (at v i) ∷ []) =
-    ap (first v) (add-one i) ∙ ap (clips unit) (take-suc v i (pos 0) h) ∙ clips-++ unit (take i v) (at v i ∷ []) in
-    let place : length (first v i) ≡ i = first-length v i (omega arith) in
+pub scanned-more : (v : List ℤ) (i : ℕ) (s r : Scan) → i < length v → SFits w32 (at v i) → Scanned (take i v) s → r ≡ scanned s (at v i) (height (isNeg (at v i)) (at v i)) i
+    → Scanned (take (i + 1) v) r
+scanned-more v i s r h f p e =
+    let x = at v i in
+    let next : take (i + 1) v ≡ take i v ++ (x ∷ []) = ap (λ n. take n v) (add-one i) ∙ take-suc v i (pos 0) h in
+    let place : length (take i v) ≡ i = length-take-le i v (omega arith) in
     subst (λ l. Scanned l r) (sym next)
-    (subst (Scanned (first v i ++ (clipZ unit (at v i) ∷ []))) (ap (λ k. scanned s (at v i) k) place ∙ sym e)
-    (with-more (first v i) s (clipZ unit (at v i)) (clip-within unit (at v i)) p))
+    (subst (Scanned (take i v ++ (x ∷ []))) (ap (scanned s x (height (isNeg x) x)) place ∙ sym e)
+    (with-more (take i v) s x (height-low x f) p))
+
+-- one place more is written
+over-more : {A : Type 0} (front old : List A) (z : A) (i : ℕ) → length front ≡ i → i < length old → set (over front old) i z ≡ over (front ++ (z ∷ [])) old
+over-more front old z i e h =
+    ap (λ l. set (front ++ l) i z) (drop-cons old (length front) z (omega arith))
+    ∙ set-at front _ _ z i e
+    ∙ sym (append-assoc front (z ∷ []) (drop (suc (length front)) old))
+    ∙ ap (λ n. (front ++ (z ∷ [])) ++ drop n old) (sym (length-more front z))
+
+pub heights-more : (v old now : List ℤ) (i : ℕ) (z : ℤ) → i < length v → i < length old → z ≡ height (isNeg (at v i)) (at v i) → now ≡ over (sights (take i v)) old
+    → set now i z ≡ over (sights (take (i + 1) v)) old
+heights-more v old now i z h k e q =
+    let x = at v i in
+    let next : take (i + 1) v ≡ take i v ++ (x ∷ []) = ap (λ n. take n v) (add-one i) ∙ take-suc v i (pos 0) h in
+    let size : length (sights (take i v)) ≡ i = sights-length (take i v) ∙ length-take-le i v (omega arith) in
+    ap₂ (λ l y. set l i y) q e
+    ∙ over-more (sights (take i v)) old (height (isNeg x) x) i size k
+    ∙ ap (λ l. over l old) (sym (ap sights next ∙ sights-more (take i v) x))
 
 -- ---- the machine's bounds
-sizes-most : (u : ℕ) (vs : List ℤ) → sizes (clips u vs) ≤ u * length vs
-sizes-most u [] = omega arith
-sizes-most u (v ∷ vs) = step (natAbs (clipZ u v)) (sizes (clips u vs)) (length vs) (natAbs-≤ (clipZ u v) u (clip-within u v)) (sizes-most u vs)
+rooms-most : (vs : List ℤ) → rooms (sights vs) ≤ unit * length vs
+rooms-most [] = omega arith
+rooms-most (v ∷ vs) = step (up (height (isNeg v) v)) (rooms (sights vs)) (length vs) (up-most (height (isNeg v) v) unit (height-top v)) (rooms-most vs)
   where
-    step : (a b n : ℕ) → a ≤ u → b ≤ u * n → a + b ≤ u * suc n
+    step : (a b n : ℕ) → a ≤ unit → b ≤ unit * n → a + b ≤ unit * suc n
     step a b n h k = omega arith
 
-module _ (v : List ℤ) (i : ℕ) (h : i ≤ length v) (s : Scan) (p : Scanned (first v i) s) where
+module _ (v : List ℤ) (i : ℕ) (h : i ≤ length v) (s : Scan) (p : Scanned (take i v) s) where
   pub mask-fits : s .mask < 2 ^ i
   mask-fits =
-      let size : length (negatives (first v i)) ≡ i = negatives-length (first v i) ∙ first-length v i h in
-      subst (λ m. m < 2 ^ i) (sym (p .negative)) (subst (λ n. maskOf (negatives (first v i)) < 2 ^ n) size (mask-below (negatives (first v i))))
+      let size : length (negatives (take i v)) ≡ i = negatives-length (take i v) ∙ length-take-le i v h in
+      subst (λ m. m < 2 ^ i) (sym (p .negative)) (subst (λ n. maskOf (negatives (take i v)) < 2 ^ n) size (mask-below (negatives (take i v))))
 
-  pub sum-fits : s .sum ≤ unit * i
-  sum-fits = subst (λ n. n ≤ unit * i) (sym (p .total)) (subst (λ n. sizes (first v i) ≤ unit * n) (length-take-le i v h) (sizes-most unit (take i v)))
+  pub room-fits : s .room ≤ unit * i
+  room-fits = subst (λ n. n ≤ unit * i) (sym (p .total)) (subst (λ n. rooms (sights (take i v)) ≤ unit * n) (length-take-le i v h) (rooms-most (take i v)))

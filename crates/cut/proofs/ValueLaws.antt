@@ -1,15 +1,14 @@
--- One value: its sign as a bit, its size, its bit alone. Assumes nothing.
-use mathlib.Core.Path.{_≡_, _∙_, ap}
+-- One value: its sign as a bit, its bit alone, its height above 0. Assumes nothing.
+use mathlib.Core.Path.{_≡_, refl, _∙_}
 use mathlib.Core.Bool.{Bool, true, false}
 use Prim.Native.Nat.{ℕ, suc, _+_, _*_, _%_, _^_, _≤_, _<_}
 use native.Mathlib.Omega.{arith}
 use native.Mathlib.Nat.{one-mul, pow-suc}
 use lib.Dec.{lit<}
-use lib.IntN.{ℤ, pos, negsuc, negℤ, natAbs, _-ℤ_}
+use lib.IntN.{ℤ, pos, negsuc, natAbs}
 use lib.Pow.{shl-exact, pow-mono}
 use lib.Signed.{_≤ℤ_, _<ℤ_}
-use Rattle.integers.specs.Linear.{lin, arithZ}
-use Rattle.integers.specs.Product.{abs-neg}
+use Rattle.integers.specs.Linear.{arithZ, _⩽_, up, le-out}
 use Rattle.rules.specs.Mask.{digit}
 use Rattle.rules.specs.Cut.{isNeg}
 
@@ -25,11 +24,18 @@ pub other-bit : (x : ℤ) (p : ℕ) → pos 0 ≤ℤ x → 0 ≡ digit (isNeg x)
 other-bit (pos n) p h = omega arith
 other-bit (negsuc n) p h = absurd (h .le)
 
-pub abs-minus : (x : ℤ) → natAbs (pos 0 -ℤ x) ≡ natAbs x
-abs-minus x = ap natAbs (minus-neg x) ∙ abs-neg x
-  where
-    minus-neg : (x : ℤ) → pos 0 -ℤ x ≡ negℤ x
-    minus-neg x = simp lin (omega arithZ)
+-- what a height adds
+pub up-none : (z : ℤ) → z ⩽ pos 0 → up z ≡ 0
+up-none (pos n) h = omega (arith, le-out h)
+up-none (negsuc n) h = refl
+
+pub up-all : (z : ℤ) → pos 0 ⩽ z → natAbs z ≡ up z
+up-all (pos n) h = refl
+up-all (negsuc n) h = absurd (h .le)
+
+pub up-most : (z : ℤ) (n : ℕ) → z ⩽ pos n → up z ≤ n
+up-most (pos m) n h = omega (arith, le-out h)
+up-most (negsuc m) n h = omega arith
 
 -- bit k on top of a mask of k bits
 pub bit-above : (t : Bool) (m b k : ℕ) → k < 32 → m < 2 ^ k → b ≡ digit t * 2 ^ k → m + b < 2 ^ 32

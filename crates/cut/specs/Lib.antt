@@ -1,4 +1,5 @@
 pub mod CutMask
+pub mod Heights
 pub mod Scan
 pub mod Reply
 pub mod Search

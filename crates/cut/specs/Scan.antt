@@ -1,43 +1,64 @@
--- One pass over a check's values: what it has of the clipped values so far, and one value more. Definitions only. Assumes nothing.
+-- One pass over a check's values: what it has of the values so far, and one value more; and what it decides. Definitions only. Assumes nothing.
 use mathlib.Core.Path.{_≡_}
 use mathlib.Core.Bool.{cond}
 use mathlib.Core.List.{List, [], _∷_}
-use Prim.Native.Nat.{ℕ, _+_, _*_, _^_, _<_, min}
-use lib.Dec.{ltb}
-use lib.ListN.{length}
-use lib.IntN.{ℤ, natAbs}
-use Rattle.integers.specs.Clip.{clipZ}
+use Prim.Native.Nat.{ℕ, _+_, _*_, _%_, _^_, _<_}
+use lib.Bits.{bitXor}
+use lib.Count.{ones}
+use lib.Dec.{eqb, ltb}
+use lib.ListN.{length, set}
+use lib.IntN.{ℤ, pos, _-ℤ_}
+use lib.Signed.{ltZ}
+use Rattle.integers.specs.Linear.{up}
 use Rattle.rules.specs.Limits.{unit}
 use Rattle.rules.specs.Table.{at}
 use Rattle.rules.specs.Mask.{digit, maskOf}
-use Rattle.rules.specs.Cut.{isNeg, negatives, smallest}
+use Rattle.rules.specs.Cut.{isNeg, negatives}
+use Rattle.cut.specs.Heights.{heightsOf, higher, highest, Seen}
 use Rattle.cut.specs.declared.scan.Scan.{Scan}
 
--- with value k, a clipped one
-abbrev pub withValue : Scan → ℤ → ℕ → Scan
-withValue s z k = record {
-  mask = s .mask + digit (isNeg z) * 2 ^ k;
-  sum = s .sum + natAbs z;
-  least = min (natAbs z) (s .least);
-  place = cond (ltb (natAbs z) (s .least)) k (s .place);
+-- with value k and its height
+abbrev pub scanned : Scan → ℤ → ℤ → ℕ → Scan
+scanned s x h k = record {
+  mask = s .mask + digit (isNeg x) * 2 ^ k;
+  room = s .room + up h;
+  top = higher (s .top) h;
+  place = cond (ltZ (s .top) h) k (s .place);
 }
 
-abbrev pub scanned : Scan → ℤ → ℕ → Scan
-scanned s x k = withValue s (clipZ unit x) k
+-- the heights as the negative values see them: U less each size
+abbrev pub sights : List ℤ → List ℤ
+sights vs = heightsOf (negatives vs) vs
 
--- the sum of the sizes
-abbrev pub sizes : List ℤ → ℕ
-sizes [] = 0
-sizes (s ∷ ss) = natAbs s + sizes ss
+-- the sum of the heights above 0
+abbrev pub rooms : List ℤ → ℕ
+rooms [] = 0
+rooms (h ∷ hs) = up h + rooms hs
 
--- place k has the smallest absolute spin
-abbrev pub Smallest : List ℤ → ℕ → Type 0
-Smallest [] k = k ≡ 0
-Smallest (s ∷ ss) k = (k < length (s ∷ ss)) × (natAbs (at (s ∷ ss) k) ≡ smallest unit (s ∷ ss))
+-- place k has the greatest height
+abbrev pub Highest : List ℤ → ℕ → Type 0
+Highest [] k = k ≡ 0
+Highest (h ∷ hs) k = (k < length (h ∷ hs)) × (at (h ∷ hs) k ≡ highest (h ∷ hs))
 
--- what the pass has after the values ss
-pub record Scanned (ss : List ℤ) (s : Scan) : Type 0 where
-  pub negative : s .mask ≡ maskOf (negatives ss)
-  pub total : s .sum ≡ sizes ss
-  pub low : s .least ≡ smallest unit ss
-  pub lowest : Smallest ss (s .place)
+-- what the pass has after the values vs
+pub record Scanned (vs : List ℤ) (s : Scan) : Type 0 where
+  pub negative : s .mask ≡ maskOf (negatives vs)
+  pub total : s .room ≡ rooms (sights vs)
+  pub high : s .top ≡ highest (sights vs)
+  pub peak : Highest (sights vs) (s .place)
+
+-- the heights stay
+abbrev pub stays : ℕ → ℤ → List ℤ → Seen
+stays mask top hs = record { mask = mask; top = top; heights = hs }
+
+-- the member with the greatest height changes sides
+abbrev pub changes : Scan → List ℤ → Seen
+changes s hs = record {
+  mask = bitXor (s .mask) (2 ^ s .place);
+  top = pos (2 * unit) -ℤ s .top;
+  heights = set hs (s .place) (pos (2 * unit) -ℤ s .top);
+}
+
+abbrev pub decided : Scan → List ℤ → Seen
+decided s hs =
+    cond (eqb (ones (s .mask) % 2) 1) (stays (cond (ltb (s .room) (2 * unit)) (s .mask) 0) (s .top) hs) (cond (ltb (s .room) (2 * up (s .top))) (changes s hs) (stays 0 (s .top) hs))

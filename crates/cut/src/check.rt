@@ -1,5 +1,5 @@
 // One check of a loaded table: the spins at its members, and their cut.
-use super::of;
+use super::see;
 use table::limits::MAX_DEGREE;
 ghost use mathlib.Core.Path.{_≡_};
 ghost use mathlib.Core.List.{_++_};
@@ -41,7 +41,8 @@ fn members_cut(members: &[u16], spins: &[i32]) -> u32
     let d = members.len();
     let mut values = [0i32; MAX_DEGREE];
     gather(spins, members, &mut values);
-    of(&values[..d])
+    let mut heights = [0i32; MAX_DEGREE];
+    see(&values[..d], &mut heights).mask
 }
 
 // The cut of check j.

@@ -6,7 +6,8 @@ mod scan;
 use check::check_cut;
 use inputs::limits::UNIT;
 use limits::ASKED_TOO_MUCH;
-use scan::UNIT_SIZE;
+use scan::Scan;
+use scan::above;
 use scan::bit;
 use scan::scan_first;
 use table::Checked;
@@ -17,15 +18,26 @@ ghost use mathlib.Core.Path.{_≡_};
 ghost use mathlib.Core.Bool.{cond};
 ghost use Prim.Native.Nat.{_*_, _<_, min};
 ghost use lib.Dec.{ltb};
-ghost use lib.ListN.{length, take};
+ghost use lib.IntN.{pos};
+ghost use lib.ListN.{length};
+ghost use Rattle.integers.specs.Linear.{up, _⩽_, Within};
 ghost use Rattle.integers.specs.Clip.{clipZ};
 ghost use Rattle.rules.specs.Limits.{unit, maxDegree};
 ghost use Rattle.rules.specs.Refusal.{replyOf};
-ghost use Rattle.rules.specs.Cut.{cut, cutValues, cutReply};
-ghost use Rattle.rules.specs.Step.{clips};
-ghost use Rattle.cut.specs.CutMask.{cutMask};
+ghost use Rattle.rules.specs.Cut.{cutValues, cutReply};
+ghost use Rattle.cut.specs.Heights.{seen};
+ghost use Rattle.cut.specs.Scan.{changes, decided};
 ghost use Rattle.cut.specs.Reply.{numbered};
 ghost use Rattle.cut.specs.Search.{PartFits, searchRefusal, tableSearch, maskReply};
+
+// U as a size.
+const UNIT_SIZE: u32 = UNIT as u32;
+
+// The cut's mask, or 0 for none, and the greatest height as it sees the members.
+pub struct Cut {
+    pub mask: u32,
+    pub top: i32,
+}
 
 // The answer: a refusal's number, none, or the violated set.
 pub enum Found {
@@ -47,14 +59,20 @@ pub fn clip(x: i32) -> i32
     x
 }
 
-// How many values count: a check has at most 32 members.
-fn degree(v: &[i32]) -> usize
-    ensures { λ r. ⌜ r ≡ min maxDegree (length (now (v .entry))) ⌝ }
+fn lesser(a: usize, b: usize) -> usize
+    ensures { λ r. ⌜ r ≡ min a b ⌝ }
 {
-    if v.len() < MAX_DEGREE {
-        return v.len();
+    if a < b {
+        return a;
     }
-    MAX_DEGREE
+    b
+}
+
+// How many values count: a check has at most 32 members, and each wants room for its height.
+fn degree(values: usize, room: usize) -> usize
+    ensures { λ r. ⌜ r ≡ min (min maxDegree room) values ⌝ }
+{
+    lesser(lesser(MAX_DEGREE, room), values)
 }
 
 // The set, where its left side is below 2U.
@@ -67,18 +85,50 @@ fn when_violated(left: u32, mask: u32) -> u32
     0
 }
 
-// "V is the negative spins; if its size is even, the member with smallest absolute spin changes
-// sides": the cut of the clipped values, of the first 32 at most, or 0.
-pub fn of(v: &[i32]) -> u32
-    ensures { λ r. ⌜ r ≡ cutMask (cut unit (clips unit (take maxDegree (now (v .entry))))) ⌝ }
+// The member with the greatest height changes sides: U less its size becomes U and its size.
+fn change_side(s: Scan, heights: &mut [i32]) -> Cut
+    requires { ⌜ (s .place < maxDegree) × (s .place < length (now heights)) × Within unit (s .top) ⌝ }
+    ensures { λ r. ⌜ (record { mask = r .mask; top = r .top; heights = now (heights .exit) }) ≡ changes s (now (heights .entry)) ⌝ }
 {
-    let d = degree(v);
-    let s = scan_first(v, d);
-    let left = UNIT_SIZE * d as u32 - s.sum;
-    if u32::count_ones(s.mask) % 2 == 1 {
-        return when_violated(left, s.mask);
+    let k = s.place;
+    let top = 2 * UNIT - s.top;
+    heights[k] = top;
+    Cut {
+        mask: s.mask ^ bit(k),
+        top,
     }
-    when_violated(left + 2 * s.least, s.mask ^ bit(s.place))
+}
+
+// "V is the negative spins; if its size is even, the member with smallest absolute spin changes
+// sides": twice that size is 2U less twice the greatest height, so the heights' sum is compared with
+// the latter.
+fn decide(s: Scan, heights: &mut [i32]) -> Cut
+    requires { ⌜ (s .place < maxDegree) × (s .top ⩽ pos unit) × (s .room < 2 * up (s .top) → s .place < length (now heights)) ⌝ }
+    ensures { λ r. ⌜ (record { mask = r .mask; top = r .top; heights = now (heights .exit) }) ≡ decided s (now (heights .entry)) ⌝ }
+{
+    if u32::count_ones(s.mask) % 2 == 1 {
+        return Cut {
+            mask: when_violated(s.room, s.mask),
+            top: s.top,
+        };
+    }
+    if s.room < 2 * above(s.top) {
+        return change_side(s, heights);
+    }
+    Cut {
+        mask: 0,
+        top: s.top,
+    }
+}
+
+// The cut of a check's values, of the first 32 at most and no more than `heights` has room for: its
+// mask or 0, each member's height as the cut sees it, left in `heights`, and the greatest of them.
+pub fn see(v: &[i32], heights: &mut [i32]) -> Cut
+    ensures { λ r. ⌜ (record { mask = r .mask; top = r .top; heights = now (heights .exit) }) ≡ seen (now (v .entry)) (now (heights .entry)) ⌝ }
+{
+    let d = degree(v.len(), heights.len());
+    let s = scan_first(v, d, heights);
+    decide(s, heights)
 }
 
 // The mask as an answer: no odd set has mask 0.

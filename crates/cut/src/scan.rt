@@ -1,29 +1,38 @@
-// One pass over a check's values: each clipped, with its sign and its size.
-use super::clip;
+// One pass over a check's values: their signs and their heights, U less each size.
 use inputs::limits::UNIT;
 ghost use mathlib.Core.Path.{_≡_};
 ghost use Prim.Native.Nat.{_+_, _*_, _^_, _≤_, _<_};
-ghost use lib.IntN.{natAbs};
+ghost use lib.IntN.{pos, negℤ};
 ghost use lib.ListN.{length, take};
-ghost use Rattle.integers.specs.Linear.{Within};
+ghost use Rattle.integers.specs.Linear.{up, _⩽_};
 ghost use Rattle.rules.specs.Limits.{unit, maxDegree};
 ghost use Rattle.rules.specs.Mask.{digit};
 ghost use Rattle.rules.specs.Cut.{isNeg};
-ghost use Rattle.rules.specs.Step.{clips};
-ghost use Rattle.cut.specs.Scan.{scanned, Scanned};
+ghost use Rattle.rules.specs.Buffers.{over};
+ghost use Rattle.cut.specs.Heights.{height};
+ghost use Rattle.cut.specs.Scan.{scanned, sights, Scanned};
 
-// U as a size.
-pub const UNIT_SIZE: u32 = UNIT as u32;
+// The least height that a 32-bit value has.
+const FLOOR: i32 = -2147479552;
 
-// The absolute value of a clipped number.
-pub(crate) fn size(x: i32) -> u32
-    requires { ⌜ Within unit x ⌝ }
-    ensures { λ r. ⌜ r ≡ natAbs x ⌝ }
+// The height of the value x. No value is too large for it.
+fn height_of(x: i32) -> i32
+    ensures { λ r. ⌜ r ≡ height (isNeg x) x ⌝ }
 {
     if x < 0 {
-        return (-x) as u32;
+        return UNIT + x;
     }
-    x as u32
+    UNIT - x
+}
+
+// What a height adds to a left side: 0 for a negative one.
+pub(crate) fn above(h: i32) -> u32
+    ensures { λ r. ⌜ r ≡ up h ⌝ }
+{
+    if h < 0 {
+        return 0;
+    }
+    h as u32
 }
 
 // Bit k alone.
@@ -35,7 +44,7 @@ pub(crate) fn bit(k: usize) -> u32
 }
 
 // Bit k if x is negative.
-pub(crate) fn sign_bit(x: i32, k: usize) -> u32
+fn sign_bit(x: i32, k: usize) -> u32
     requires { ⌜ k < maxDegree ⌝ }
     ensures { λ r. ⌜ r ≡ digit (isNeg x) * 2 ^ k ⌝ }
 {
@@ -45,62 +54,64 @@ pub(crate) fn sign_bit(x: i32, k: usize) -> u32
     0
 }
 
-// The negative values as a mask, the sum of the sizes, the least size and the first place that has it.
+// The negative values as a mask, the sum of the heights above 0, the greatest height and the first
+// place that has it.
 pub struct Scan {
     pub mask: u32,
-    pub sum: u32,
-    pub least: u32,
+    pub room: u32,
+    pub top: i32,
     pub place: usize,
 }
 
 impl Scan {
-    // No value yet: the least size is none's, U.
-    pub(crate) fn new() -> Scan
-        ensures { λ r. ⌜ (r .mask ≡ 0) × (r .sum ≡ 0) × (r .least ≡ unit) × (r .place ≡ 0) ⌝ }
+    // No value yet: none has a height below the least.
+    fn new() -> Scan
+        ensures { λ r. ⌜ (r .mask ≡ 0) × (r .room ≡ 0) × (r .top ≡ negℤ (pos 2147479552)) × (r .place ≡ 0) ⌝ }
     {
         Scan {
             mask: 0,
-            sum: 0,
-            least: UNIT_SIZE,
+            room: 0,
+            top: FLOOR,
             place: 0,
         }
     }
 
-    // With value k.
-    pub(crate) fn with(self, x: i32, k: usize) -> Scan
-        requires { ⌜ (k < maxDegree) × (self .mask < 2 ^ k) × (self .sum ≤ unit * k) ⌝ }
-        ensures { λ r. ⌜ r ≡ scanned self x k ⌝ }
+    // With value k, of height h.
+    fn with(self, x: i32, h: i32, k: usize) -> Scan
+        requires { ⌜ (k < maxDegree) × (self .mask < 2 ^ k) × (self .room ≤ unit * k) × (h ⩽ pos unit) ⌝ }
+        ensures { λ r. ⌜ r ≡ scanned self x h k ⌝ }
     {
-        let value = clip(x);
-        let amount = size(value);
-        let mask = self.mask + sign_bit(value, k);
-        let sum = self.sum + amount;
-        if amount < self.least {
+        let mask = self.mask + sign_bit(x, k);
+        let room = self.room + above(h);
+        if self.top < h {
             return Scan {
                 mask,
-                sum,
-                least: amount,
+                room,
+                top: h,
                 place: k,
             };
         }
         Scan {
             mask,
-            sum,
-            least: self.least,
+            room,
+            top: self.top,
             place: self.place,
         }
     }
 }
 
-// The first d values of v.
-pub(crate) fn scan_first(v: &[i32], d: usize) -> Scan
-    requires { ⌜ (d ≤ length (now v)) × (d ≤ maxDegree) ⌝ }
-    ensures { λ r. ⌜ Scanned (clips unit (take d (now (v .entry)))) r ⌝ }
+// The first d values of v, with their heights left in `heights`.
+pub(crate) fn scan_first(v: &[i32], d: usize, heights: &mut [i32]) -> Scan
+    requires { ⌜ (d ≤ length (now v)) × (d ≤ length (now heights)) × (d ≤ maxDegree) ⌝ }
+    ensures { λ r. ⌜ Scanned (take d (now (v .entry))) r × (now (heights .exit) ≡ over (sights (take d (now (v .entry)))) (now (heights .entry))) ⌝ }
 {
     let mut s = Scan::new();
     let mut i: usize = 0;
     while i < d {
-        s = s.with(v[i], i);
+        let x = v[i];
+        let h = height_of(x);
+        heights[i] = h;
+        s = s.with(x, h, i);
         i += 1;
     }
     s

@@ -1,12 +1,16 @@
 -- `members_cut` meets its contract. Assumes nothing.
-use mathlib.Core.Path.{_∙_, ap}
+use mathlib.Core.Path.{_≡_, _∙_, ap}
+use Prim.Native.Nat.{_≤_}
+use native.Mathlib.Omega.{arith}
+use lib.ListN.{length, take}
 use borrow.Author.Needs.{needs}
 use Rattle.rules.specs.Limits.{unit}
 use Rattle.rules.specs.Table.{at}
 use Rattle.rules.specs.Cut.{cut}
 use Rattle.rules.specs.Step.{clips}
 use Rattle.cut.specs.CutMask.{cutMask}
-use Rattle.cut.proofs.GatherLaws.{front-length, front-all}
+use Rattle.cut.proofs.GatherLaws.{front-is, front-length}
+use Rattle.cut.proofs.SeeLaws.{seen-mask}
 use Rattle.cut.proofs.check.members_cut.Statement.{statement}
 use Rattle.cut.proofs.check.members_cut.Tie as tie
 
@@ -19,19 +23,25 @@ gather-requires c κs = search needs
 array-share-prefix-values : tie.Need-array-share-prefix-values
 array-share-prefix-values c = search needs
 
-slice-aggregate-of : tie.Need-slice-aggregate-of
-slice-aggregate-of c =
+slice-aggregate-see : tie.Need-slice-aggregate-see
+slice-aggregate-see c =
     let start = c .before .before .before .before .before in
-    front-length (at (start .args .spins .now)) (start .args .members .now) _ _ (start .pre .0) (c .before .before .gather .ensures)
+    front-length (at (start .args .spins .now)) (start .args .members .now) _ _ (c .before .before .gather .ensures)
 
-of-requires : tie.Need-of-requires
-of-requires c κs = search needs
+slice-aggregate-see-2 : tie.Need-slice-aggregate-see-2
+slice-aggregate-see-2 c = search needs
+
+see-requires : tie.Need-see-requires
+see-requires c κs = search needs
 
 returns : tie.Need-returns
 returns c =
-    let start = c .before .before .before .before .before .before in
-    let front = front-all (at (start .args .spins .now)) (start .args .members .now) _ _ (start .pre .0) (c .before .before .before .gather .ensures) in
-    c .of .ensures ∙ ap (λ l. cutMask (cut unit (clips unit l))) front
+    let start = c .before .before .before .before .before .before .before .before in
+    let gathered = c .before .before .before .before .before .gather .ensures in
+    let long = front-length (at (start .args .spins .now)) (start .args .members .now) _ _ gathered in
+    ap (λ r. r .mask) (c .before .see .ensures)
+    ∙ seen-mask _ _ (omega (arith, long, start .pre .0)) (omega (arith, long, start .pre .0))
+    ∙ ap (λ l. cutMask (cut unit (clips unit l))) (front-is (at (start .args .spins .now)) (start .args .members .now) _ _ gathered)
 
 pub members-cut-spec : {M : Type 1} → statement M
 members-cut-spec =
@@ -40,6 +50,7 @@ members-cut-spec =
     slice-aggregate-gather
     gather-requires
     array-share-prefix-values
-    slice-aggregate-of
-    of-requires
+    slice-aggregate-see
+    slice-aggregate-see-2
+    see-requires
     returns)

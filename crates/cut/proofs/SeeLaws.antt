@@ -1,0 +1,238 @@
+-- What the pass over a check's values decides: the cut, and the heights as it sees them. Assumes nothing.
+use mathlib.Core.Path.{_≡_, refl, sym, _∙_, ap, ap₂, subst}
+use mathlib.Core.Bool.{Bool, true, false, not, cond}
+use mathlib.Core.List.{List, [], _∷_, _++_}
+use mathlib.Core.Option.{Option, some, none}
+use Prim.Native.Nat.{ℕ, zero, suc, _+_, _*_, _-_, _%_, _^_, _≤_, _<_, min}
+use native.Mathlib.Decide.{decLe}
+use native.Mathlib.Omega.{arith}
+use native.Mathlib.Nat.{le-of-suc-le-suc}
+use lib.Bits.{bitXor}
+use lib.Count.{ones}
+use lib.Dec.{eqb, ltb}
+use lib.ListN.{length, take, drop, set, length-append, length-take, length-set}
+use lib.Seq.{take-all, set-append-left}
+use lib.IntN.{ℤ, pos, negsuc, natAbs, _+ℤ_, _-ℤ_}
+use lib.Signed.{ltZ}
+use borrow.Author.Tests.{eq-eqb, ne-eqb, lt-ltb, le-ltb}
+use Rattle.integers.specs.Linear.{lin, arithZ, _⩽_, Within, up, le-out}
+use Rattle.rules.specs.Limits.{unit, maxDegree}
+use Rattle.rules.specs.Table.{at}
+use Rattle.rules.specs.Parity.{odd, left}
+use Rattle.rules.specs.Mask.{maskOf}
+use Rattle.rules.specs.Cut.{negatives, isNeg, smallest, keep, cut}
+use Rattle.rules.specs.Step.{clips}
+use Rattle.rules.specs.Buffers.{over}
+use Rattle.rules.proofs.Steps.{clips-within}
+use Rattle.rules.proofs.Masks.{set-mask, mask-below, odd-ones}
+use Rattle.cut.specs.declared.scan.Scan.{Scan}
+use Rattle.cut.specs.CutMask.{cutMask}
+use Rattle.cut.specs.Heights.{height, heightsOf, highest, sideBy, Seen, seenOn, seen}
+use Rattle.cut.specs.Scan.{sights, rooms, Highest, Scanned, stays, changes, decided}
+use Rattle.cut.proofs.HeightLaws.{highest-set, sights-top, sights-length}
+use Rattle.cut.proofs.ClipLaws.{clips-signs, clips-left, size-at, smallest-high}
+use Rattle.cut.proofs.ScanLaws.{negatives-length, clips-length}
+use Rattle.cut.proofs.SideLaws.{changeSide, change-pays, cut-odd, cut-even}
+use Rattle.cut.proofs.MaskLaws.{mask-change}
+
+-- ---- as the code's arms have it
+module _ (s : Scan) (hs : List ℤ) where
+  pub decided-odd : (m : ℕ) (t : ℤ) → ones (s .mask) % 2 ≡ 1 → m ≡ cond (ltb (s .room) (2 * unit)) (s .mask) 0 → t ≡ s .top → stays m t hs ≡ decided s hs
+  decided-odd m t o e p =
+      ap₂ (λ m t. stays m t hs) e p
+      ∙ ap (λ b. cond b (stays (cond (ltb (s .room) (2 * unit)) (s .mask) 0) (s .top) hs) (cond (ltb (s .room) (2 * up (s .top))) (changes s hs) (stays 0 (s .top) hs))) (sym (eq-eqb (ones (s .mask) % 2) 1 o))
+
+  decided-even : (b : Bool) → (ones (s .mask) % 2 ≡ 1 → ⊥) → ltb (s .room) (2 * up (s .top)) ≡ b → cond b (changes s hs) (stays 0 (s .top) hs) ≡ decided s hs
+  decided-even b o e =
+      ap (λ b. cond b (changes s hs) (stays 0 (s .top) hs)) (sym e)
+      ∙ ap (λ b. cond b (stays (cond (ltb (s .room) (2 * unit)) (s .mask) 0) (s .top) hs) (cond (ltb (s .room) (2 * up (s .top))) (changes s hs) (stays 0 (s .top) hs))) (sym (ne-eqb (ones (s .mask) % 2) 1 o))
+
+  pub decided-change : (ones (s .mask) % 2 ≡ 1 → ⊥) → s .room < 2 * up (s .top) → changes s hs ≡ decided s hs
+  decided-change o h = decided-even true o (lt-ltb (s .room) (2 * up (s .top)) h)
+
+  pub decided-stay : (t : ℤ) → (ones (s .mask) % 2 ≡ 1 → ⊥) → 2 * up (s .top) ≤ s .room → t ≡ s .top → stays 0 t hs ≡ decided s hs
+  decided-stay t o h p = ap (λ t. stays 0 t hs) p ∙ decided-even false o (le-ltb (s .room) (2 * up (s .top)) h)
+
+  pub changes-is : (b : ℕ) (t : ℤ) → b ≡ 2 ^ s .place → t ≡ pos (2 * unit) -ℤ s .top
+      → _≡_ {A = Seen} (record { mask = bitXor (s .mask) b; top = t; heights = set hs (s .place) t }) (changes s hs)
+  changes-is b t e p = ap₂ (λ b t. record { mask = bitXor (s .mask) b; top = t; heights = set hs (s .place) t }) e p
+
+-- a height above 0 is a size
+pub above-within : (z : ℤ) (r : ℕ) → z ⩽ pos unit → r < 2 * up z → Within unit z
+above-within (pos n) r h k = record { hi = omega (arith, le-out h); lo = omega arith }
+above-within (negsuc n) r h k = absurd (omega arith)
+
+-- ---- the member at place k changes sides
+side-height : (t : Bool) (v : ℤ) → height (not t) v ≡ pos (2 * unit) -ℤ height t v
+side-height true v = simp lin (omega arithZ)
+side-height false v = simp lin (omega arithZ)
+
+changed-heights : (k : ℕ) (vs : List ℤ) → k < length vs → heightsOf (changeSide k (negatives vs)) vs ≡ set (sights vs) k (pos (2 * unit) -ℤ at (sights vs) k)
+changed-heights k [] h = absurd (omega arith)
+changed-heights zero (v ∷ vs) h = ap (λ x. x ∷ sights vs) (side-height (isNeg v) v)
+changed-heights (suc k) (v ∷ vs) h = ap (λ l. height (isNeg v) v ∷ l) (changed-heights k vs (le-of-suc-le-suc h))
+
+set-over : (hs old : List ℤ) (k : ℕ) (z : ℤ) → k < length hs → set (over hs old) k z ≡ over (set hs k z) old
+set-over hs old k z h = set-append-left hs (drop (length hs) old) k z h ∙ ap (λ n. set hs k z ++ drop n old) (sym (length-set hs k z))
+
+raised : (t : ℤ) → t ⩽ pos unit → t ⩽ pos (2 * unit) -ℤ t
+raised t = simp lin (omega arithZ)
+
+-- ---- the cut
+keep-none : (u : ℕ) → cut u [] ≡ none
+unfolding cut
+keep-none u = refl
+
+ones-odd : (ts : List Bool) → odd ts ≡ eqb (ones (maskOf ts) % 2) 1
+ones-odd ts = ap odd (sym (set-mask ts)) ∙ odd-ones (length ts) (maskOf ts) (mask-below ts)
+
+-- r + 2 (u − t) is below 2u exactly if r is below 2t
+shifted : (u r n t : ℕ) → n + t ≡ u → ltb (r + 2 * n) (2 * u) ≡ ltb r (2 * t)
+shifted u r n t e = go (decLe (suc r) (2 * t))
+  where
+    go : Dec (r < 2 * t) → ltb (r + 2 * n) (2 * u) ≡ ltb r (2 * t)
+    go (yes h) = lt-ltb (r + 2 * n) (2 * u) (omega arith) ∙ sym (lt-ltb r (2 * t) h)
+    go (no f) = le-ltb (r + 2 * n) (2 * u) (omega arith) ∙ sym (le-ltb r (2 * t) (omega arith))
+
+-- a cut's view of the values
+sees : Option (List Bool) → List ℤ → List ℤ → Seen
+sees o vs old = record { mask = cutMask o; top = highest (heightsOf (sideBy o vs) vs); heights = over (heightsOf (sideBy o vs) vs) old }
+
+seen-by : (vs old : List ℤ) (o : Option (List Bool)) → cut unit (clips unit vs) ≡ o → sees o vs old ≡ seenOn vs old
+unfolding sees seenOn
+seen-by vs old o e = ap (λ o. sees o vs old) (sym e)
+
+seen-eq : (m m′ : ℕ) (t t′ : ℤ) (hs hs′ : List ℤ) → m ≡ m′ → t ≡ t′ → hs ≡ hs′ → _≡_ {A = Seen} (record { mask = m; top = t; heights = hs }) (record { mask = m′; top = t′; heights = hs′ })
+seen-eq m m′ t t′ hs hs′ p q r = cc
+
+module _ (vs old : List ℤ) (s : Scan) (p : Scanned vs s) where
+  left-is : left unit (negatives (clips unit vs)) (clips unit vs) ≡ pos (s .room)
+  left-is = ap (λ ts. left unit ts (clips unit vs)) (clips-signs vs) ∙ clips-left vs ∙ ap pos (sym (p .total))
+
+  parity-is : (b : Bool) → eqb (ones (s .mask) % 2) 1 ≡ b → odd (negatives (clips unit vs)) ≡ b
+  parity-is b e = ap odd (clips-signs vs) ∙ ones-odd (negatives vs) ∙ ap (λ m. eqb (ones m % 2) 1) (sym (p .negative)) ∙ e
+
+  -- the negative values see
+  negatives-see : (b : Bool) → stays (cond b (s .mask) 0) (s .top) (over (sights vs) old) ≡ sees (keep b (negatives vs)) vs old
+  unfolding sees
+  negatives-see true = seen-eq _ _ _ _ _ _ (p .negative) (p .high) refl
+  negatives-see false = seen-eq _ _ _ _ _ _ refl (p .high) refl
+
+  odd-sees : eqb (ones (s .mask) % 2) 1 ≡ true → stays (cond (ltb (s .room) (2 * unit)) (s .mask) 0) (s .top) (over (sights vs) old) ≡ seenOn vs old
+  odd-sees o =
+      negatives-see (ltb (s .room) (2 * unit))
+      ∙ seen-by vs old (keep (ltb (s .room) (2 * unit)) (negatives vs))
+      (cut-odd unit (clips unit vs) (clips-within unit vs) (parity-is true o) ∙ ap₂ (λ z ts. keep (ltZ z (pos (2 * unit))) ts) left-is (clips-signs vs))
+
+  -- where there is a member to change sides
+  module _ (h : s .place < length vs) (t : at (sights vs) (s .place) ≡ highest (sights vs)) where
+    size-is : natAbs (at (clips unit vs) (s .place)) + up (s .top) ≡ unit
+    size-is = ap (λ z. natAbs (at (clips unit vs) (s .place)) + up z) (p .high ∙ sym t) ∙ size-at vs (s .place) h
+
+    smallest-is : natAbs (at (clips unit vs) (s .place)) ≡ smallest unit (clips unit vs)
+    smallest-is = omega (arith, size-is, smallest-high vs, ap up (p .high))
+
+    clipped : s .place < length (clips unit vs)
+    clipped = subst (λ n. s .place < n) (sym (clips-length unit vs)) h
+
+    pays : left unit (changeSide (s .place) (negatives (clips unit vs))) (clips unit vs) ≡ pos (s .room + 2 * natAbs (at (clips unit vs) (s .place)))
+    pays = change-pays unit (s .place) (clips unit vs) clipped ∙ ap (λ z. z +ℤ pos (2 * natAbs (at (clips unit vs) (s .place)))) left-is
+
+    cut-is : eqb (ones (s .mask) % 2) 1 ≡ false → cut unit (clips unit vs) ≡ keep (ltb (s .room) (2 * up (s .top))) (changeSide (s .place) (negatives vs))
+    cut-is o =
+        cut-even unit (s .place) (clips unit vs) (clips-within unit vs) (parity-is false o) clipped smallest-is
+        ∙ ap₂ (λ z ts. keep (ltZ z (pos (2 * unit))) (changeSide (s .place) ts)) pays (clips-signs vs)
+        ∙ ap (λ b. keep b (changeSide (s .place) (negatives vs))) (shifted unit (s .room) (natAbs (at (clips unit vs) (s .place))) (up (s .top)) size-is)
+
+    raised-heights : heightsOf (changeSide (s .place) (negatives vs)) vs ≡ set (sights vs) (s .place) (pos (2 * unit) -ℤ s .top)
+    raised-heights = changed-heights (s .place) vs h ∙ ap (λ z. set (sights vs) (s .place) (pos (2 * unit) -ℤ z)) (t ∙ sym (p .high))
+
+    inside : s .place < length (sights vs)
+    inside = subst (λ n. s .place < n) (sym (sights-length vs)) h
+
+    raised-top : highest (set (sights vs) (s .place) (pos (2 * unit) -ℤ s .top)) ≡ pos (2 * unit) -ℤ s .top
+    raised-top =
+        highest-set (sights vs) (s .place) (pos (2 * unit) -ℤ s .top) inside
+        (subst (λ z. highest (sights vs) ⩽ pos (2 * unit) -ℤ z) (sym (p .high)) (raised (highest (sights vs)) (sights-top vs)))
+
+    -- the changed set sees
+    changed-see : (b : Bool) → cond b (changes s (over (sights vs) old)) (stays 0 (s .top) (over (sights vs) old)) ≡ sees (keep b (changeSide (s .place) (negatives vs))) vs old
+    unfolding sees
+    changed-see true = seen-eq _ _ _ _ _ _
+        (ap (λ m. bitXor m (2 ^ s .place)) (p .negative) ∙ mask-change (s .place) (negatives vs) (subst (λ n. s .place < n) (sym (negatives-length vs)) h))
+        (sym (ap highest raised-heights ∙ raised-top))
+        (set-over (sights vs) old (s .place) (pos (2 * unit) -ℤ s .top) inside ∙ ap (λ l. over l old) (sym raised-heights))
+    changed-see false = seen-eq _ _ _ _ _ _ refl (p .high) refl
+
+    even-sees : eqb (ones (s .mask) % 2) 1 ≡ false
+        → cond (ltb (s .room) (2 * up (s .top))) (changes s (over (sights vs) old)) (stays 0 (s .top) (over (sights vs) old)) ≡ seenOn vs old
+    even-sees o =
+        changed-see (ltb (s .room) (2 * up (s .top)))
+        ∙ seen-by vs old (keep (ltb (s .room) (2 * up (s .top))) (changeSide (s .place) (negatives vs))) (cut-is o)
+
+-- no values, no cut
+none-sees : (old : List ℤ) (s : Scan) → Scanned [] s → cond (ltb (s .room) (2 * up (s .top))) (changes s old) (stays 0 (s .top) old) ≡ seenOn [] old
+unfolding sees
+none-sees old s p =
+    ap (λ b. cond b (changes s old) (stays 0 (s .top) old)) (ap₂ (λ r t. ltb r (2 * up t)) (p .total) (p .high))
+    ∙ seen-eq _ _ _ _ _ _ refl (p .high) refl
+    ∙ seen-by [] old none (keep-none unit)
+
+even-decides : (vs old : List ℤ) (s : Scan) → Scanned vs s → eqb (ones (s .mask) % 2) 1 ≡ false
+    → cond (ltb (s .room) (2 * up (s .top))) (changes s (over (sights vs) old)) (stays 0 (s .top) (over (sights vs) old)) ≡ seenOn vs old
+even-decides [] old s p o = none-sees old s p
+even-decides (v ∷ vs) old s p o = even-sees (v ∷ vs) old s p (subst (λ n. s .place < n) (sights-length (v ∷ vs)) (p .peak .0)) (p .peak .1) o
+
+decides : (vs old : List ℤ) (s : Scan) → Scanned vs s → decided s (over (sights vs) old) ≡ seenOn vs old
+decides vs old s p = go (eqb (ones (s .mask) % 2) 1) refl
+  where
+    go : (b : Bool) → eqb (ones (s .mask) % 2) 1 ≡ b
+        → cond b (stays (cond (ltb (s .room) (2 * unit)) (s .mask) 0) (s .top) (over (sights vs) old)) (cond (ltb (s .room) (2 * up (s .top))) (changes s (over (sights vs) old)) (stays 0 (s .top) (over (sights vs) old)))
+        ≡ seenOn vs old
+    go true o = odd-sees vs old s p o
+    go false o = even-decides vs old s p o
+
+-- ---- the code's numbers: d values at most 32, of which the pass has every one
+take-most : (n : ℕ) (l : List ℤ) → take (min n (length l)) l ≡ take n l
+take-most n l = go (decLe n (length l))
+  where
+    go : Dec (n ≤ length l) → take (min n (length l)) l ≡ take n l
+    go (yes h) = ap (λ k. take k l) (fewer h)
+      where
+        fewer : n ≤ length l → min n (length l) ≡ n
+        fewer h = omega arith
+    go (no f) = take-all (min n (length l)) l (all f) ∙ sym (take-all n l (more f))
+      where
+        all : ¬ (n ≤ length l) → length l ≤ min n (length l)
+        all f = omega arith
+
+        more : ¬ (n ≤ length l) → length l ≤ n
+        more f = omega arith
+
+place-inside : (hs : List ℤ) (k : ℕ) → Highest hs k → length hs ≤ maxDegree → k < maxDegree
+place-inside [] k p h = omega arith
+place-inside (s ∷ ss) k p h = omega (arith, p .0)
+
+-- only a pass that has a value has a height above 0
+place-held : (vs old : List ℤ) (s : Scan) → Scanned vs s → s .room < 2 * up (s .top) → s .place < length (over (sights vs) old)
+place-held [] old s p h = absurd (omega (arith, ap up (p .high)))
+place-held (v ∷ vs) old s p h = omega (arith, p .peak .0, length-append (sights (v ∷ vs)) (drop (length (sights (v ∷ vs))) old))
+
+module _ (v old hs : List ℤ) (d : ℕ) (hd : d ≡ min (min maxDegree (length old)) (length v)) (s : Scan) (p : Scanned (take d v) s) (e : hs ≡ over (sights (take d v)) old) where
+  pub place-most : s .place < maxDegree
+  place-most = place-inside (sights (take d v)) (s .place) (p .peak) (omega (arith, sights-length (take d v), length-take d v))
+
+  pub top-most : s .top ⩽ pos unit
+  top-most = subst (λ z. z ⩽ pos unit) (sym (p .high)) (sights-top (take d v))
+
+  pub place-there : s .room < 2 * up (s .top) → s .place < length hs
+  place-there h = subst (λ l. s .place < length l) (sym e) (place-held (take d v) old s p h)
+
+  pub decides-seen : decided s hs ≡ seen v old
+  unfolding seen
+  decides-seen = ap (decided s) e ∙ decides (take d v) old s p ∙ ap (λ l. seenOn l old) (ap (λ k. take k v) hd ∙ take-most (min maxDegree (length old)) v)
+
+-- the mask, where there is room for every value's height
+pub seen-mask : (v old : List ℤ) → length v ≤ maxDegree → length v ≤ length old → seen v old .mask ≡ cutMask (cut unit (clips unit v))
+unfolding seen seenOn
+seen-mask v old h k = ap (λ l. cutMask (cut unit (clips unit l))) (take-all (min maxDegree (length old)) v (omega arith))

@@ -1,0 +1,76 @@
+-- `decide` meets its contract. Assumes nothing.
+use mathlib.Core.Path.{_≡_, sym, _∙_, ap, subst}
+use Prim.Native.Nat.{_*_, _≤_, _<_}
+use native.Mathlib.Omega.{arith}
+use mir.Syntax.{w32}
+use mir.Val.{SFits}
+use mir.Facts.{toZ-ofZ}
+use borrow.Author.Needs.{needs}
+use Rattle.integers.specs.Linear.{up}
+use Rattle.integers.specs.Machine.{fit}
+use Rattle.rules.specs.Limits.{unit}
+use Rattle.cut.proofs.ValueLaws.{up-most}
+use Rattle.cut.proofs.SeeLaws.{decided-odd, decided-change, decided-stay, above-within}
+use Rattle.cut.proofs.decide.Statement.{statement}
+use Rattle.cut.proofs.decide.Tie as tie
+
+when-violated-requires : tie.Need-when-violated-requires
+when-violated-requires c κs = search needs
+
+returns : tie.Need-returns
+returns c =
+    let start = c .before .before .before .before in
+    let top : SFits w32 (start .args .s .top) = fit w32 (start .args .s .top) (search) in
+    decided-odd (start .args .s) _ _ _ (c .before .before .if1 .taken) (c .before .when-violated .ensures) (toZ-ofZ top)
+
+above-requires : tie.Need-above-requires
+above-requires c κs = search needs
+
+-- the greatest height, where it is above 0
+above-is : (c : tie.After-above) → c .above .result ≡ up (c .before .before .before .before .args .s .top)
+above-is c =
+    let top : SFits w32 (c .before .before .before .before .args .s .top) = fit w32 (c .before .before .before .before .args .s .top) (search) in
+    c .above .ensures ∙ ap up (toZ-ofZ top)
+
+mul-if2 : tie.Need-mul-if2
+mul-if2 c =
+    let start = c .before .before .before .before in
+    omega (arith, above-is c, up-most (start .args .s .top) unit (start .pre .1))
+
+-- the room is less than twice that height
+short : (c : tie.Then2) → c .before .before .before .before .before .before .args .s .room < 2 * up (c .before .before .before .before .before .before .args .s .top)
+short c = subst (λ n. c .before .before .before .before .before .before .args .s .room < 2 * n) (above-is (c .before .before)) (c .if2 .taken)
+
+change-side-requires : tie.Need-change-side-requires
+change-side-requires c κs =
+    let start = c .before .before .before .before .before .before .before in
+    (start .pre .0, start .pre .2 (short (c .before)), above-within (start .args .s .top) (start .args .s .room) (start .pre .1) (short (c .before)))
+
+same-length : tie.Need-same-length
+same-length c = search needs
+
+returns-2 : tie.Need-returns-2
+returns-2 c =
+    let start = c .before .before .before .before .before .before .before .before .before in
+    c .before .change-side .ensures
+    ∙ decided-change (start .args .s) (start .args .heights .now) (c .before .before .before .before .before .before .before .if1 .left) (short (c .before .before .before))
+
+returns-3 : tie.Need-returns-3
+returns-3 c =
+    let start = c .before .before .before .before .before .before .before in
+    let top : SFits w32 (start .args .s .top) = fit w32 (start .args .s .top) (search) in
+    decided-stay (start .args .s) _ _ (c .before .before .before .before .before .if1 .left)
+    (subst (λ n. 2 * n ≤ start .args .s .room) (above-is (c .before .before .before)) (c .before .if2 .left)) (toZ-ofZ top)
+
+pub decide-spec : {M : Type 1} → statement M
+decide-spec =
+    tie.close
+    (tie.spec
+    when-violated-requires
+    returns
+    above-requires
+    mul-if2
+    change-side-requires
+    same-length
+    returns-2
+    returns-3)
