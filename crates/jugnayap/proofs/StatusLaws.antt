@@ -1,11 +1,10 @@
 -- The three statuses and their numbers. Assumes nothing.
-use mathlib.Core.Path.{_≡_, refl, sym, _∙_, ap}
-use mathlib.Core.Option.{some, none}
+use mathlib.Core.Path.{_≡_, refl, sym, ap}
+use mathlib.Core.Option.{none}
 use Prim.Native.Nat.{ℕ, zero, suc, _≤_, _<_}
 use native.Mathlib.Omega.{arith}
 use Rattle.rules.specs.Limits.{roundLimit}
-use Rattle.rules.specs.Refusal.{Answer}
-use Rattle.rules.specs.Run.{Status, running, certified, spent, Progress}
+use Rattle.rules.specs.Run.{running, certified, spent, Progress}
 use Rattle.jugnayap.specs.declared.JugnayapRun.{JugnayapRun}
 use Rattle.jugnayap.specs.Numbers.{statusAt, progressBy, runAfter, runNumbers}
 

@@ -3,8 +3,6 @@
 mod run;
 
 use cut::Found;
-use decoder::Record;
-use decoder::Started;
 use judge::Agreed;
 use judge::Verdict;
 use run::called_numbers;
