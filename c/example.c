@@ -1,0 +1,86 @@
+/* Document 01's first reference frame, a round at a time: one check on bits 0, 1 and 2. */
+#include <inttypes.h>
+#include <stdio.h>
+
+#include "jugnayap.h"
+
+enum { BITS = 3, CHECKS = 1, EDGES = 3, CERTIFICATE = 4 + 10 * CHECKS };
+
+static const uint8_t code[] = {3, 0, 1, 0, 0, 0, 3, 0, 0, 0, 1, 0, 2, 0};
+static const int16_t frame[BITS] = {4000, 4000, -2000};
+
+/* The buffers of one run. */
+typedef struct {
+    int32_t spins[BITS], copies[EDGES], offsets[EDGES];
+    uint32_t multipliers[CHECKS], masks[CHECKS];
+    uint8_t word[BITS], certificate[CERTIFICATE];
+} Buffers;
+
+static JugnayapCalled one_round(JugnayapRun run, Buffers *b)
+{
+    return jugnayap_rounds(code, sizeof code, frame, BITS, run, 1, b->spins, BITS, b->copies, EDGES,
+                           b->offsets, EDGES, b->multipliers, CHECKS, b->masks, CHECKS, b->word, BITS,
+                           b->certificate, CERTIFICATE);
+}
+
+static void print_round(uint32_t round, const Buffers *b)
+{
+    printf("round %" PRIu32 " spins", round);
+    for (int i = 0; i < BITS; i++)
+        printf(" %" PRId32, b->spins[i]);
+    printf(" multiplier %" PRIu32 " mask %" PRIu32 " copies", b->multipliers[0], b->masks[0]);
+    for (int i = 0; i < EDGES; i++)
+        printf(" %" PRId32, b->copies[i]);
+    printf("\n");
+}
+
+/* q stands in front of a certificate, and says how long it is. */
+static size_t certificate_length(const uint8_t *certificate)
+{
+    return 4 + 10 * (size_t)(certificate[0] | certificate[1] << 8);
+}
+
+static void print_verdict(const Buffers *b)
+{
+    JugnayapVerdict v = jugnayap_judge(code, sizeof code, frame, BITS, b->word, BITS, b->certificate,
+                                       certificate_length(b->certificate));
+    if (v.number != 0)
+        printf("judge refused %" PRIu32 "\n", v.number);
+    else if (v.kind == JUGNAYAP_BROKEN)
+        printf("judge check %" PRId64 " broken\n", v.value);
+    else if (v.kind == JUGNAYAP_PASSED)
+        printf("judge certified\n");
+    else
+        printf("judge gap %" PRId64 "\n", v.value);
+}
+
+static void print_certified(uint32_t rounds, const Buffers *b)
+{
+    printf("word ");
+    for (int i = 0; i < BITS; i++)
+        printf("%d", b->word[i]);
+    JugnayapAgreement a = jugnayap_agreement(code, sizeof code, frame, BITS, b->word, BITS);
+    printf("\nrounds %" PRIu32 "\nagreement %" PRId64 "\ncertificate", rounds, a.agreement);
+    for (size_t i = 0; i < certificate_length(b->certificate); i++)
+        printf(" %02X", b->certificate[i]);
+    printf("\n");
+    print_verdict(b);
+}
+
+int main(void)
+{
+    Buffers b = {0};
+    JugnayapCalled called = jugnayap_start(code, sizeof code, b.copies, EDGES, b.offsets, EDGES);
+    while (called.number == 0 && called.run.status == JUGNAYAP_RUNNING) {
+        called = one_round(called.run, &b);
+        if (called.number == 0)
+            print_round(called.run.rounds, &b);
+    }
+    if (called.number != 0)
+        printf("refused %" PRIu32 "\n", called.number);
+    else if (called.run.status == JUGNAYAP_CERTIFIED)
+        print_certified(called.run.rounds, &b);
+    else
+        printf("spent %" PRIu32 "\n", called.run.rounds);
+    return 0;
+}

@@ -1,0 +1,82 @@
+-- The sizes in an answer are small: they fit the numbers of the C interface. Assumes nothing.
+use mathlib.Core.Path.{_≡_, sym, ap}
+use mathlib.Core.Bool.{Bool, true, false, cond}
+use mathlib.Core.List.{List, [], _∷_}
+use mathlib.Core.Option.{Option, some, none}
+use Prim.Native.Nat.{ℕ, suc, _+_, _≤_, _<_}
+use native.Mathlib.Omega.{arith}
+use lib.ListN.{length}
+use lib.IntN.{ℤ, pos}
+use Rattle.rules.specs.Limits.{maxBits, maxChecks, maxEdges}
+use Rattle.rules.specs.Refusal.{Answer, refused, gives, replyOf}
+use Rattle.rules.specs.Table.{Table, checksOf, bitsAt}
+use Rattle.rules.specs.Parity.{odd, firstBroken}
+use Rattle.rules.specs.CodeFile.{tableAt, codeFileReply}
+use Rattle.rules.specs.Input.{bitsOf}
+use Rattle.rules.specs.Bound.{Row, gap}
+use Rattle.rules.specs.Certificate.{scaleOf, itemsOf, rowsAt}
+use Rattle.rules.specs.Judge.{Verdict, breaks, passes, misses, weigh, verdict, verdictValues, judge, judgeReply}
+use Rattle.rules.specs.Round.{isZero}
+use Rattle.rules.proofs.Tables.{file-sound}
+use Rattle.rules.proofs.Judged.{judged}
+use Rattle.table.proofs.AcceptedLaws.{readable}
+
+-- ---- n, m and E of an accepted file
+pub record Small (n m e : ℕ) : Type 0 where
+  pub bits : n ≤ maxBits
+  pub checks : m ≤ maxChecks
+  pub edges : e ≤ maxEdges
+
+pub accepted-small : (file : List ℕ) (n m e : ℕ) → record { number = 0; values = pos n ∷ pos m ∷ pos e ∷ [] } ≡ codeFileReply file → Small n m e
+accepted-small file n m e h =
+    let r = readable file n m e h in
+    record { bits = file-sound file (tableAt file n m) (r .table) .bits .1; checks = r .many; edges = r .few }
+
+-- ---- the first broken check
+at-front : (i j n : ℕ) → j ≡ i → j < i + suc n
+at-front i j n e = omega arith
+
+further : (i j n : ℕ) → j < suc i + n → j < i + suc n
+further i j n h = omega arith
+
+broken-below : (j i : ℕ) (w : List Bool) (cs : List (List ℕ)) → firstBroken i w cs ≡ some j → j < i + length cs
+broken-below j i w [] h = absurd (let z : _≡_ {A = ℕ} 0 1 = cc in omega arith)
+broken-below j i w (ms ∷ cs) h = go (odd (bitsAt w ms)) h (broken-below j (suc i) w cs)
+  where
+    go : (b : Bool) → cond b (some i) (firstBroken (suc i) w cs) ≡ some j → (firstBroken (suc i) w cs ≡ some j → j < suc i + length cs) → j < i + suc (length cs)
+    go true e f = at-front i j (length cs) (cc)
+    go false e f = further i j (length cs) (f e)
+
+weigh-breaks : (o : Option ℕ) (g : ℤ) (j : ℕ) → weigh o g ≡ breaks j → o ≡ some j
+weigh-breaks (some i) g j e = cc
+weigh-breaks none g j e = go (isZero g) e
+  where
+    go : (b : Bool) → cond b passes (misses g) ≡ breaks j → none ≡ some j
+    go true e = absurd (let z : _≡_ {A = ℕ} 0 1 = cc in omega arith)
+    go false e = absurd (let z : _≡_ {A = ℕ} 0 1 = cc in omega arith)
+
+verdict-below : (t : Table) (s : ℕ) (l : List ℤ) (rs : List Row) (w : List Bool) (j : ℕ) → verdict t s l rs w ≡ breaks j → j < checksOf t
+unfolding verdict
+verdict-below t s l rs w j e =
+    let below = broken-below j 0 w (t .checks) (weigh-breaks (firstBroken 0 w (t .checks)) (gap (t .bits) s l rs w) j e) in
+    omega arith
+
+module _ (file : List ℕ) (l : List ℤ) (w bs : List ℕ) (j : ℕ) where
+  judge-below : judge file l w bs ≡ gives (breaks j) → j < maxChecks
+  judge-below e =
+      let d = judged file l w bs (breaks j) e in
+      let few = file-sound file (d .table) (d .isFile) .checks .1 in
+      let below = verdict-below (d .table) (scaleOf bs) l (rowsAt (d .table) (itemsOf bs)) (bitsOf w) j (d .says) in
+      omega arith
+
+  -- only a broken check's number comes after 0
+  values-breaks : (a : Answer Verdict) → pos 0 ∷ pos j ∷ [] ≡ replyOf verdictValues a .values → a ≡ gives (breaks j)
+  unfolding replyOf
+  values-breaks (refused k) v = absurd (let z : _≡_ {A = ℕ} 0 1 = cc in omega arith)
+  values-breaks (gives (breaks i)) v = let e : j ≡ i = cc in ap (λ x. gives (breaks x)) (sym e)
+  values-breaks (gives passes) v = absurd (let z : _≡_ {A = ℕ} 0 1 = cc in omega arith)
+  values-breaks (gives (misses g)) v = absurd (let z : _≡_ {A = ℕ} 0 2 = cc in omega arith)
+
+  pub broken-small : record { number = 0; values = pos 0 ∷ pos j ∷ [] } ≡ judgeReply file l w bs → j < maxChecks
+  unfolding judgeReply
+  broken-small h = judge-below (values-breaks (judge file l w bs) (ap (λ r. r .values) h))

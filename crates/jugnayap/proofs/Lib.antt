@@ -1,0 +1,4 @@
+pub mod AnswerLaws
+pub mod StatusLaws
+pub mod RunLaws
+pub mod RefusedRun

@@ -1,0 +1,81 @@
+-- What the functions of the C interface return, made of rules' own replies and calls. Definitions only. Assumes nothing.
+use mathlib.Core.List.{List}
+use mathlib.Core.Option.{Option, some, none}
+use Prim.Native.Nat.{ℕ, zero, suc}
+use lib.ListN.{getD}
+use lib.IntN.{ℤ, pos, natAbs}
+use Rattle.rules.specs.Limits.{roundLimit}
+use Rattle.rules.specs.Refusal.{Answer, Reply, replyOf}
+use Rattle.rules.specs.Buffers.{Buffers}
+use Rattle.rules.specs.Run.{Status, running, certified, spent, statusNumber, statusValues, Progress, progressValues, Called, Started}
+use Rattle.jugnayap.specs.declared.JugnayapTable.{JugnayapTable}
+use Rattle.jugnayap.specs.declared.JugnayapCut.{JugnayapCut}
+use Rattle.jugnayap.specs.declared.JugnayapVerdict.{JugnayapVerdict}
+use Rattle.jugnayap.specs.declared.JugnayapAgreement.{JugnayapAgreement}
+use Rattle.jugnayap.specs.declared.JugnayapRun.{JugnayapRun}
+use Rattle.jugnayap.specs.declared.JugnayapCalled.{JugnayapCalled}
+
+-- ---- a reply as a struct: its number, then its values in their order, 0 where there is none
+abbrev pub signed : Reply → ℕ → ℤ
+signed r i = getD (r .values) i (pos 0)
+
+-- of a value that is never negative
+abbrev pub unsigned : Reply → ℕ → ℕ
+unsigned r i = natAbs (signed r i)
+
+abbrev pub tableFrom : Reply → JugnayapTable
+tableFrom r = record { number = r .number; bits = unsigned r 0; checks = unsigned r 1; edges = unsigned r 2 }
+
+abbrev pub cutFrom : Reply → JugnayapCut
+cutFrom r = record { number = r .number; mask = unsigned r 0 }
+
+abbrev pub verdictFrom : Reply → JugnayapVerdict
+verdictFrom r = record { number = r .number; kind = unsigned r 0; value = signed r 1 }
+
+abbrev pub agreementFrom : Reply → JugnayapAgreement
+agreementFrom r = record { number = r .number; agreement = signed r 0 }
+
+abbrev pub startedFrom : Reply → JugnayapCalled
+startedFrom r = record { number = r .number; run = record { rounds = unsigned r 0; status = unsigned r 1 } }
+
+-- ---- what a start returns and leaves
+pub record StartLeft : Type 0 where
+  pub called : JugnayapCalled
+  pub copies : List ℤ
+  pub offsets : List ℤ
+
+abbrev pub startLeft : Started → StartLeft
+startLeft d = record { called = startedFrom (replyOf progressValues (d .answer)); copies = d .copies; offsets = d .offsets }
+
+-- ---- the record: the rounds done, and 0 running, 1 certified, 2 spent
+abbrev pub runNumbers : Progress → JugnayapRun
+runNumbers p = record { rounds = p .rounds; status = statusNumber (p .status) }
+
+abbrev pub statusAt : ℕ → Option Status
+statusAt zero = some running
+statusAt (suc zero) = some certified
+statusAt (suc (suc zero)) = some spent
+statusAt (suc (suc (suc s))) = none
+
+-- A record of unknown status is handed on as a running one that has done 1,024 rounds: a call refuses that with 43 in 43's turn.
+abbrev pub progressBy : ℕ → Option Status → Progress
+progressBy k none = record { rounds = roundLimit; status = running }
+progressBy k (some s) = record { rounds = k; status = s }
+
+abbrev pub progressAt : JugnayapRun → Progress
+progressAt h = progressBy (h .rounds) (statusAt (h .status))
+
+-- ---- what a call for rounds returns and leaves; a record of unknown status comes back as handed in
+abbrev pub runAfter : Option Status → JugnayapRun → Progress → JugnayapRun
+runAfter none h p = h
+runAfter (some s) h p = runNumbers p
+
+abbrev pub calledFrom : JugnayapRun → Answer Status → Progress → JugnayapCalled
+calledFrom h a p = record { number = replyOf statusValues a .number; run = runAfter (statusAt (h .status)) h p }
+
+pub record CallLeft : Type 0 where
+  pub called : JugnayapCalled
+  pub buffers : Buffers
+
+abbrev pub callLeft : JugnayapRun → Called → CallLeft
+callLeft h d = record { called = calledFrom h (d .answer) (d .run .progress); buffers = d .run .buffers }

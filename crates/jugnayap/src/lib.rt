@@ -1,0 +1,199 @@
+// The C interface (c/jugnayap.h): each function calls the proved one of table, cut, judge or decoder
+// and gives its answer as numbers.
+mod run;
+
+use cut::Found;
+use judge::Agreed;
+use judge::Verdict;
+use run::called_numbers;
+use run::record_of;
+use run::started_numbers;
+use table::Checked;
+ghost use mathlib.Core.Path.{_≡_};
+ghost use Rattle.rules.specs.Refusal.{replyOf};
+ghost use Rattle.rules.specs.CodeFile.{codeFileReply};
+ghost use Rattle.rules.specs.Cut.{cutReply};
+ghost use Rattle.rules.specs.Judge.{judgeReply, agreementOf};
+ghost use Rattle.rules.specs.Run as rule;
+ghost use Rattle.judge.specs.Reply.{agreementValues};
+ghost use Rattle.jugnayap.specs.Numbers.{tableFrom, cutFrom, verdictFrom, agreementFrom, progressAt, StartLeft, startLeft, CallLeft, callLeft};
+
+// `number` is 0 or the refusal's number; a refused call has zeros in the other fields.
+#[repr(C)]
+pub struct JugnayapTable {
+    pub number: u32,
+    pub bits: u32,
+    pub checks: u32,
+    pub edges: u32,
+}
+
+// `mask` is 0 for no cut.
+#[repr(C)]
+pub struct JugnayapCut {
+    pub number: u32,
+    pub mask: u32,
+}
+
+// `kind` 0: `value` is the first broken check; 1: certified; 2: `value` is the gap.
+#[repr(C)]
+pub struct JugnayapVerdict {
+    pub number: u32,
+    pub kind: u32,
+    pub value: i64,
+}
+
+#[repr(C)]
+pub struct JugnayapAgreement {
+    pub number: u32,
+    pub agreement: i64,
+}
+
+// The run's record: the rounds done, and 0 running, 1 certified, 2 spent.
+#[repr(C)]
+pub struct JugnayapRun {
+    pub rounds: u32,
+    pub status: u32,
+}
+
+#[repr(C)]
+pub struct JugnayapCalled {
+    pub number: u32,
+    pub run: JugnayapRun,
+}
+
+#[no_mangle]
+pub extern "C" fn jugnayap_check_table(code: &[u8]) -> JugnayapTable
+    ensures { λ r. ⌜ r ≡ tableFrom (codeFileReply (now (code .entry))) ⌝ }
+{
+    let answer = table::check(code);
+    match answer {
+        Checked::Refused(k) => JugnayapTable {
+            number: k as u32,
+            bits: 0,
+            checks: 0,
+            edges: 0,
+        },
+        Checked::Accepted {
+            bits,
+            checks,
+            edges,
+        } => JugnayapTable {
+            number: 0,
+            bits: bits as u32,
+            checks: checks as u32,
+            edges: edges as u32,
+        },
+    }
+}
+
+#[no_mangle]
+pub extern "C" fn jugnayap_search_cut(code: &[u8], spins: &[i32], check: usize) -> JugnayapCut
+    ensures { λ r. ⌜ r ≡ cutFrom (cutReply (now (code .entry)) (now (spins .entry)) check) ⌝ }
+{
+    let answer = cut::search(code, spins, check);
+    match answer {
+        Found::Refused(k) => JugnayapCut {
+            number: k as u32,
+            mask: 0,
+        },
+        Found::Nothing => JugnayapCut { number: 0, mask: 0 },
+        Found::Mask(mask) => JugnayapCut { number: 0, mask },
+    }
+}
+
+#[no_mangle]
+pub extern "C" fn jugnayap_judge(
+    code: &[u8],
+    frame: &[i16],
+    word: &[u8],
+    certificate: &[u8],
+) -> JugnayapVerdict
+    ensures { λ r. ⌜ r ≡ verdictFrom (judgeReply (now (code .entry)) (now (frame .entry)) (now (word .entry)) (now (certificate .entry))) ⌝ }
+{
+    let answer = judge::judge(code, frame, word, certificate);
+    match answer {
+        Verdict::Refused(k) => JugnayapVerdict {
+            number: k as u32,
+            kind: 0,
+            value: 0,
+        },
+        Verdict::Broken(check) => JugnayapVerdict {
+            number: 0,
+            kind: 0,
+            value: check as i64,
+        },
+        Verdict::Certified => JugnayapVerdict {
+            number: 0,
+            kind: 1,
+            value: 0,
+        },
+        Verdict::Gap(gap) => JugnayapVerdict {
+            number: 0,
+            kind: 2,
+            value: gap,
+        },
+    }
+}
+
+#[no_mangle]
+pub extern "C" fn jugnayap_agreement(code: &[u8], frame: &[i16], word: &[u8]) -> JugnayapAgreement
+    ensures { λ r. ⌜ r ≡ agreementFrom (replyOf agreementValues (agreementOf (now (code .entry)) (now (frame .entry)) (now (word .entry)))) ⌝ }
+{
+    let answer = judge::agreement(code, frame, word);
+    match answer {
+        Agreed::Refused(k) => JugnayapAgreement {
+            number: k as u32,
+            agreement: 0,
+        },
+        Agreed::Is(agreement) => JugnayapAgreement {
+            number: 0,
+            agreement,
+        },
+    }
+}
+
+#[no_mangle]
+pub extern "C" fn jugnayap_start(
+    code: &[u8],
+    copies: &mut [i32],
+    offsets: &mut [i32],
+) -> JugnayapCalled
+    ensures { λ r. ⌜ _≡_ {A = StartLeft} (record { called = r; copies = now (copies .exit); offsets = now (offsets .exit) })
+        (startLeft (rule.start (now (code .entry)) (now (copies .entry)) (now (offsets .entry)))) ⌝ }
+{
+    started_numbers(decoder::start(code, copies, offsets))
+}
+
+#[no_mangle]
+pub extern "C" fn jugnayap_rounds(
+    code: &[u8],
+    frame: &[i16],
+    run: JugnayapRun,
+    wanted: u32,
+    spins: &mut [i32],
+    copies: &mut [i32],
+    offsets: &mut [i32],
+    multipliers: &mut [u32],
+    masks: &mut [u32],
+    word: &mut [u8],
+    certificate: &mut [u8],
+) -> JugnayapCalled
+    ensures { λ r. ⌜ _≡_ {A = CallLeft} (record { called = r; buffers = record { spins = now (spins .exit); copies = now (copies .exit); offsets = now (offsets .exit); multipliers = now (multipliers .exit); masks = now (masks .exit); word = now (word .exit); certificate = now (certificate .exit) } })
+        (callLeft run (rule.call (now (code .entry)) (now (frame .entry)) wanted (record { progress = progressAt run; buffers = record { spins = now (spins .entry); copies = now (copies .entry); offsets = now (offsets .entry); multipliers = now (multipliers .entry); masks = now (masks .entry); word = now (word .entry); certificate = now (certificate .entry) } }))) ⌝ }
+{
+    let handed = record_of(run);
+    let called = decoder::rounds(
+        code,
+        frame,
+        handed,
+        wanted,
+        spins,
+        copies,
+        offsets,
+        multipliers,
+        masks,
+        word,
+        certificate,
+    );
+    called_numbers(run, called)
+}
