@@ -46,8 +46,9 @@ class Reader:
         raise Refused(f"line {line or self.number}: {reason}")
 
     def refuse_more(self):
-        if self.number < len(self.lines):
-            self.refuse("text after the last row", self.number + 1)
+        for number, line in enumerate(self.lines[self.number:], self.number + 1):
+            if line.strip(plain.BLANKS):
+                self.refuse("text after the last row", number)
 
 
 # --- alist to table --------------------------------------------------------------------------

@@ -19,6 +19,7 @@ import picture
 import plain
 import report_text
 from limits import CODE_FILE_REFUSALS, FRAME_REFUSALS
+from picture import Share
 from plain import Refused, counted
 
 BAR = 50
@@ -53,15 +54,24 @@ def sort_frames(report, wrong):
 
 # --- text ------------------------------------------------------------------------------------
 
-def count_lines(report):
+def sizes(report):
     bits, checks, edges = report.code
-    yield f"{counted(bits, 'bit')}, {counted(checks, 'check')}, {counted(edges, 'edge')}"
+    return f"{counted(bits, 'bit')}, {counted(checks, 'check')}, {counted(edges, 'edge')}"
+
+
+def refusals(report):
+    """Refusal numbers with how many frames each met, ascending."""
+    return sorted(Counter(report.refused.values()).items())
+
+
+def count_lines(report):
+    yield sizes(report)
     yield ""
-    yield f"{report.frames():6} frames"
+    yield f"{report.frames():6} in all"
     yield f"{len(report.certified):6} certified"
     yield f"{len(report.spent):6} spent"
     yield f"{len(report.refused):6} refused"
-    for number, frames in sorted(Counter(report.refused.values()).items()):
+    for number, frames in refusals(report):
         yield f"{frames:10} with {number}: {FRAME_REFUSALS[number]}"
 
 
@@ -69,8 +79,8 @@ def histogram_lines(name, steps):
     yield f"{name} of the certified frames"
     most = max((step.frames for step in steps), default=0)
     for step in steps:
-        bar = "#" * -(-BAR * step.frames // most)
-        yield f"{histogram.label(step):>11}  {bar} {step.frames}"
+        bar = "#" * -(-BAR * step.frames // most) + " " * (step.frames > 0)
+        yield f"{histogram.label(step):>11}  {bar}{step.frames}"
     if not steps:
         yield "  none is certified"
 
@@ -122,23 +132,23 @@ def text(report, desks):
 # --- picture ---------------------------------------------------------------------------------
 
 def shares(report, desks):
-    """The parts of the picture's bar: what is said of each, how many frames, the colour."""
-    certified = [("certified", len(desks.kept), picture.BLUE)]
-    if desks.wrong is not None:
-        certified = [("certified, not known wrong", len(desks.kept), picture.BLUE),
-                     ("certified, wrong: antenna people", len(desks.wrong), picture.RED)]
-    return certified + [("spent: code people", len(desks.code_people), picture.AMBER),
-                        ("refused", len(report.refused), picture.GREY)]
+    """The parts of the picture's bar."""
+    if desks.wrong is None:
+        yield Share("certified", "to the antenna people if wrong", len(desks.kept), picture.BLUE)
+    else:
+        yield Share("certified", "not known to be wrong", len(desks.kept), picture.BLUE)
+        yield Share("certified, wrong", "to the antenna people", len(desks.wrong), picture.RED)
+    yield Share("spent", "to the code people", len(desks.code_people), picture.AMBER)
+    numbers = ", ".join(f"{frames} with {number}" for number, frames in refusals(report))
+    yield Share("refused", numbers, len(report.refused), picture.GREY)
 
 
 def svg(report, desks):
     if report.code is None:
         return picture.notice(refused_code(report))
-    bits, checks, edges = report.code
-    subtitle = (f"{counted(bits, 'bit')}, {counted(checks, 'check')}, {counted(edges, 'edge')}; "
-                f"{counted(report.frames(), 'frame')}")
+    subtitle = f"{sizes(report)}; {counted(report.frames(), 'frame')}"
     panels = [(name, histogram.steps(numbers, first)) for name, numbers, first in values(report)]
-    return picture.page(subtitle, shares(report, desks), panels)
+    return picture.page(subtitle, list(shares(report, desks)), panels)
 
 
 # --- program ---------------------------------------------------------------------------------

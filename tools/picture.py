@@ -1,14 +1,18 @@
 """The picture of a frame report: a bar of shares and two histograms, as plain SVG."""
 
+from collections import namedtuple
 from html import escape
 
 import histogram
 
+# A part of all frames: its name, what is to be said of it, how many, and its colour.
+Share = namedtuple("Share", "name note frames colour")
+
 WIDTH = 900
 LEFT, RIGHT = 70, 870               # the plots' ends
 PLOT_HEIGHT = 190
-PANEL_HEIGHT = 300
-FIRST_PANEL = 190
+PANEL_HEIGHT, EMPTY_PANEL_HEIGHT = 300, 70
+FIRST_PANEL = 210
 
 BLUE, RED, AMBER, GREY = "#2f6fab", "#b8372e", "#e0a030", "#9aa3ab"
 INK, PALE_INK, GRID, PAPER = "#22303c", "#5a6772", "#e3e7ea", "#fdfdfb"
@@ -19,8 +23,10 @@ text {{ font-family: "DejaVu Sans", Verdana, Arial, sans-serif; fill: {INK}; }}
 .heading {{ font-size: 16px; font-weight: bold; }}
 .plain {{ font-size: 14px; }}
 .small {{ font-size: 13px; fill: {PALE_INK}; }}
+.count {{ font-size: 13px; paint-order: stroke; stroke: {PAPER}; stroke-width: 4px; }}
 .middle {{ text-anchor: middle; }}
 .end {{ text-anchor: end; }}
+rect {{ shape-rendering: crispEdges; }}
 </style>"""
 
 
@@ -48,25 +54,25 @@ def document(height, title, parts):
 
 def share_bar(shares, top):
     """One bar of all frames, cut by what became of them."""
-    total = sum(frames for _, frames, _ in shares)
+    total = sum(share.frames for share in shares)
     at = LEFT
-    for _, frames, colour in shares:
-        if frames > 0:
-            width = (RIGHT - LEFT) * frames / total
-            yield box(at, top, width, 24, colour)
+    for share in shares:
+        if share.frames > 0:
+            width = (RIGHT - LEFT) * share.frames / total
+            yield box(at, top, width, 24, share.colour)
             at += width
     if total == 0:
         yield box(LEFT, top, RIGHT - LEFT, 24, GRID)
 
 
 def legend(shares, top):
-    """The shares' names and counts, evenly spread under the bar."""
+    """The shares' counts, names and notes, evenly spread under the bar."""
     room = (RIGHT - LEFT) / len(shares)
-    for place, (name, frames, colour) in enumerate(shares):
+    for place, share in enumerate(shares):
         x = LEFT + place * room
-        yield box(x, top, 12, 12, colour)
-        yield words(x + 18, top + 11, str(frames), "heading")
-        yield words(x, top + 31, name, "small")
+        yield box(x, top, 12, 12, share.colour)
+        yield words(x + 18, top + 11.5, f"{share.frames} {share.name}", "heading")
+        yield words(x, top + 32, share.note, "small")
 
 
 # --- histograms ------------------------------------------------------------------------------
@@ -96,7 +102,7 @@ def bars(steps, top, most):
         height = PLOT_HEIGHT * step.frames / most
         if step.frames > 0:
             yield box(middle - width / 2, top + PLOT_HEIGHT - height, width, height, BLUE)
-            yield words(middle, top + PLOT_HEIGHT - height - 5, str(step.frames), "small middle")
+            yield words(middle, top + PLOT_HEIGHT - height - 5, str(step.frames), "count middle")
         yield words(middle, top + PLOT_HEIGHT + 19, histogram.label(step), "small middle")
 
 
@@ -119,10 +125,12 @@ def panel(name, steps, top):
 def page(subtitle, shares, panels):
     """The whole picture of a report; a panel is a name and its steps."""
     parts = [words(LEFT, 42, "Frame report", "title"), words(LEFT, 66, subtitle, "plain"),
-             *share_bar(shares, 86), *legend(shares, 122)]
-    for place, (name, steps) in enumerate(panels):
-        parts += panel(name, steps, FIRST_PANEL + 10 + place * PANEL_HEIGHT)
-    return document(FIRST_PANEL + len(panels) * PANEL_HEIGHT, f"Frame report: {subtitle}", parts)
+             *share_bar(shares, 86), *legend(shares, 124)]
+    top = FIRST_PANEL
+    for name, steps in panels:
+        parts += panel(name, steps, top)
+        top += PANEL_HEIGHT if steps else EMPTY_PANEL_HEIGHT
+    return document(top, f"Frame report: {subtitle}", parts)
 
 
 def notice(text):

@@ -41,7 +41,7 @@ class Report:
 
 def read(data):
     """The report, or a refusal that names the line."""
-    lines = plain.text_lines(data)
+    lines = [line.rstrip(plain.BLANKS) for line in plain.text_lines(data)]
     if not lines:
         raise Refused("line 1: the report is empty")
     report = read_first(lines[0])
