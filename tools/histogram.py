@@ -3,7 +3,7 @@
 from collections import Counter, namedtuple
 from itertools import count
 
-MOST_STEPS = 12
+MOST_STEPS = 11           # rounds in hundreds; four-digit labels fit side by side
 
 Step = namedtuple("Step", "low high frames")        # low and high both included
 

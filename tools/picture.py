@@ -24,6 +24,7 @@ text {{ font-family: "DejaVu Sans", Verdana, Arial, sans-serif; fill: {INK}; }}
 .plain {{ font-size: 14px; }}
 .small {{ font-size: 13px; fill: {PALE_INK}; }}
 .count {{ font-size: 13px; paint-order: stroke; stroke: {PAPER}; stroke-width: 4px; }}
+.label {{ font-size: 12px; fill: {PALE_INK}; }}
 .middle {{ text-anchor: middle; }}
 .end {{ text-anchor: end; }}
 rect {{ shape-rendering: crispEdges; }}
@@ -103,7 +104,7 @@ def bars(steps, top, most):
         if step.frames > 0:
             yield box(middle - width / 2, top + PLOT_HEIGHT - height, width, height, BLUE)
             yield words(middle, top + PLOT_HEIGHT - height - 5, str(step.frames), "count middle")
-        yield words(middle, top + PLOT_HEIGHT + 19, histogram.label(step), "small middle")
+        yield words(middle, top + PLOT_HEIGHT + 19, histogram.label(step), "label middle")
 
 
 def panel(name, steps, top):

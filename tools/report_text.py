@@ -58,7 +58,8 @@ def read_first(line):
     refusal = REFUSED_LINE.fullmatch(line)
     if refusal:
         number = int(refusal[1])
-        refuse_unless(number in CODE_FILE_REFUSALS, 1, f"a code file is never refused with {number}")
+        refuse_unless(number in CODE_FILE_REFUSALS, 1,
+                      f"a code file is never refused with {number}")
         return Report(code_refusal=number)
     match = CODE_LINE.fullmatch(line)
     refuse_unless(match, 1, f"{plain.quoted(line)} is neither 'bits N checks M edges E' "

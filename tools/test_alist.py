@@ -179,7 +179,8 @@ class Program(unittest.TestCase):
 
     def test_a_missing_file(self):
         status, _, errors = run_tool("alist.py", "to-code", self.source, self.target)
-        self.assertEqual((status, errors), (1, f"alist: {self.source}: No such file or directory\n"))
+        self.assertEqual((status, errors),
+                         (1, f"alist: {self.source}: No such file or directory\n"))
 
 
 if __name__ == "__main__":

@@ -2,9 +2,10 @@
 
 import unittest
 
+import alist
 import codefile
 from codefile import CodeFileRefused
-from testing import HAMMING, LIMIT_TABLES, THREE_BITS, random_tables
+from testing import HAMMING, LIMIT_TABLES, ROOT, THREE_BITS, random_tables
 
 
 def numbers(*values):
@@ -36,6 +37,25 @@ REFUSED = [
 ]
 
 
+def stored_files():
+    """The code files that the proved code is run on: each has a 32-bit length before it."""
+    data = (ROOT / "crates" / "code_files" / "stdin").read_bytes()
+    at = 0
+    while at < len(data):
+        end = at + 4 + int.from_bytes(data[at:at + 4], "little")
+        yield data[at + 4:end]
+        at = end
+
+
+def answer(data):
+    """What the program `code_files` says of a file."""
+    try:
+        n, checks = codefile.read(data)
+    except CodeFileRefused as refusal:
+        return f"refused {refusal.number}"
+    return f"bits {n} checks {len(checks)} edges {sum(map(len, checks))}"
+
+
 class CodeFile(unittest.TestCase):
     def test_document_01s_file(self):
         self.assertEqual(codefile.write(THREE_BITS),
@@ -52,6 +72,16 @@ class CodeFile(unittest.TestCase):
             self.assertEqual(caught.exception.number, number)
             self.assertIn(place, str(caught.exception))
         self.assertEqual({number for number, _, _ in REFUSED}, set(range(1, 8)))
+
+    def test_the_proved_codes_answers(self):
+        wanted = (ROOT / "crates" / "code_files" / "stdout").read_text().splitlines()
+        self.assertEqual([answer(data) for data in stored_files()], wanted)
+        self.assertGreater(len(wanted), 0)
+
+    def test_stored_files_through_alist(self):
+        for data in stored_files():
+            if answer(data).startswith("bits"):
+                self.assertEqual(codefile.write(alist.read(alist.write(codefile.read(data)))), data)
 
 
 if __name__ == "__main__":

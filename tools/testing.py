@@ -8,7 +8,8 @@ from pathlib import Path
 from plain import Refused
 
 TOOLS = Path(__file__).resolve().parent
-SAMPLES = TOOLS.parent / "samples"
+ROOT = TOOLS.parent
+SAMPLES = ROOT / "samples"
 
 THREE_BITS = (3, [[0, 1, 2]])
 HAMMING = (7, [[0, 2, 4, 6], [1, 2, 5, 6], [3, 4, 5, 6]])
