@@ -103,6 +103,7 @@ class Reading(unittest.TestCase):
         self.assertEqual(report.certified, {0: Certified(3, 6000, 1), 2: Certified(1, -30, 0),
                                             4: Certified(11, 9, 2)})
         self.assertEqual((report.spent, report.refused), ([1, 5], {3: 9, 6: 8}))
+        self.assertEqual(report_text.read(REPORT.replace(b"\n", b"\r\n")), report)
 
     def test_refused_code_files(self):
         for number in range(1, 8):

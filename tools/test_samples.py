@@ -138,9 +138,12 @@ class RunSamples(unittest.TestCase):
         self.assertEqual((status, output.count(": the report differs\n")), (1, 2))
 
     def test_no_program(self):
-        done = subprocess.run([TOOLS / "run_samples", TOOLS / "README.md"], capture_output=True,
-                              text=True, check=False)
-        self.assertEqual((done.returncode, done.stdout), (1, ""))
+        for path in (TOOLS / "README.md", TOOLS / "absent"):
+            done = subprocess.run([TOOLS / "run_samples", path], capture_output=True, text=True,
+                                  check=False)
+            self.assertEqual((done.returncode, done.stdout), (1, ""))
+            self.assertEqual(done.stderr, f"run_samples: {path} is no program; "
+                                          "build it with 'rt check report'\n")
 
 
 if __name__ == "__main__":
