@@ -1,0 +1,194 @@
+"""Between alist, the text that tools for sparse parity-check codes exchange, and document 01's
+code file.
+
+    python3 tools/alist.py to-code IN.alist OUT.code
+    python3 tools/alist.py to-alist IN.code OUT.alist
+
+An alist has N columns (bits) and M rows (checks), numbered from 1: a line N M; a line of the
+greatest column and row weights; the N column weights; the M row weights; per column a line of
+its rows; per row a line of its columns. Lines of numbers may be padded with 0 to the greatest
+weight. What is refused is told in one line on standard error, with status 1, and nothing is
+written.
+"""
+
+import argparse
+from collections import namedtuple
+from itertools import accumulate
+from pathlib import Path
+
+import codefile
+import plain
+from limits import BITS_LIMIT, CHECKS_LIMIT, DEGREE_LIMIT, EDGES_LIMIT
+from plain import Refused
+
+# A side of the table: what a line is called, what its numbers are called, and which of document
+# 01's limits holds for its weights.
+Side = namedtuple("Side", "name listed limit")
+COLUMN = Side("column", "row", f"a bit stands in 1 to {DEGREE_LIMIT} checks")
+ROW = Side("row", "column", f"a check has 1 to {DEGREE_LIMIT} members")
+
+
+class Reader:
+    """The lines of an alist, taken one after the other."""
+
+    def __init__(self, data):
+        self.lines = plain.text_lines(data)
+        self.number = 0                     # of the line last taken, from 1
+
+    def take(self, wanted):
+        """The next line's numbers."""
+        self.number += 1
+        if self.number > len(self.lines):
+            self.refuse(f"the file ends where {wanted} should stand")
+        return plain.whole_numbers(self.number, self.lines[self.number - 1])
+
+    def refuse(self, reason, line=None):
+        raise Refused(f"line {line or self.number}: {reason}")
+
+    def refuse_more(self):
+        for number, line in enumerate(self.lines[self.number:], self.number + 1):
+            if line.strip(plain.BLANKS):
+                self.refuse("text after the last row", number)
+
+
+# --- alist to table --------------------------------------------------------------------------
+
+def read(data):
+    """The table of an alist, or a refusal that names the line."""
+    reader = Reader(data)
+    columns, rows = read_sizes(reader)
+    greatest = read_pair(reader, "the greatest column weight and the greatest row weight")
+    column_weights = read_weights(reader, COLUMN, columns)
+    row_weights = read_weights(reader, ROW, rows)
+    refuse_greatest(reader, greatest, column_weights, row_weights)
+    refuse_edges(reader, column_weights, row_weights)
+    rows_of_columns = [read_list(reader, COLUMN, number, weight, greatest[0], rows)
+                       for number, weight in enumerate(column_weights, 1)]
+    columns_of_rows = [read_list(reader, ROW, number, weight, greatest[1], columns)
+                       for number, weight in enumerate(row_weights, 1)]
+    reader.refuse_more()
+    refuse_disagreement(reader, rows_of_columns, columns_of_rows)
+    return columns, [sorted(column - 1 for column in members) for members in columns_of_rows]
+
+
+def read_pair(reader, wanted):
+    numbers = reader.take(wanted)
+    if len(numbers) != 2:
+        field = " (the field of a non-binary alist?)" if len(numbers) == 3 else ""
+        reader.refuse(f"{plain.counted(len(numbers), 'number')} where {wanted} should "
+                      f"stand{field}")
+    return numbers
+
+
+def read_sizes(reader):
+    numbers = read_pair(reader, "N and M")
+    for name, number, limit, kind in zip("NM", numbers, (BITS_LIMIT, CHECKS_LIMIT),
+                                         ("bits", "checks")):
+        if not 1 <= number <= limit:
+            reader.refuse(f"{name} is {number}; document 01 has 1 to {limit} {kind}")
+    return numbers
+
+
+def read_weights(reader, side, count):
+    weights = reader.take(f"the {side.name} weights")
+    if len(weights) != count:
+        reader.refuse(f"{plain.counted(len(weights), f'{side.name} weight')}, {count} wanted")
+    for number, weight in enumerate(weights, 1):
+        if not 1 <= weight <= DEGREE_LIMIT:
+            reader.refuse(f"{side.name} {number} has weight {weight}; in document 01 {side.limit}")
+    return weights
+
+
+def refuse_greatest(reader, stated, column_weights, row_weights):
+    for side, number, weights in zip((COLUMN, ROW), stated, (column_weights, row_weights)):
+        if number != max(weights):
+            reader.refuse(f"{number} stated for the greatest {side.name} weight, "
+                          f"which is {max(weights)}", line=2)
+
+
+def refuse_edges(reader, column_weights, row_weights):
+    edges = sum(row_weights)
+    if sum(column_weights) != edges:
+        reader.refuse(f"the row weights add up to {edges}, "
+                      f"the column weights to {sum(column_weights)}")
+    if edges > EDGES_LIMIT:
+        sums = enumerate(accumulate(row_weights), 1)
+        row = next(number for number, total in sums if total > EDGES_LIMIT)
+        reader.refuse(f"{edges} edges, too many from row {row} on; "
+                      f"document 01 has at most {EDGES_LIMIT}")
+
+
+def read_list(reader, side, number, weight, greatest, highest):
+    """The numbers of one column or row, without padding."""
+    line = f"{side.name} {number}"
+    numbers = reader.take(f"the list of {line}")
+    if len(numbers) not in (weight, greatest):
+        padded = "" if weight == greatest else f", or {greatest} with padding"
+        values = " (values of a non-binary alist?)" if len(numbers) in (
+            2 * weight, 2 * greatest) else ""
+        reader.refuse(f"{plain.counted(len(numbers), 'number')} for {line}, "
+                      f"{weight} wanted{padded}{values}")
+    if any(numbers[weight:]):
+        reader.refuse(f"{line} has weight {weight}, but more than {weight} numbers beside 0")
+    listed = numbers[:weight]
+    for place, item in enumerate(listed):
+        if not 1 <= item <= highest:
+            reader.refuse(f"{line} lists {side.listed} {item}, 1 to {highest} wanted")
+        if item in listed[:place]:
+            reader.refuse(f"{line} lists {side.listed} {item} twice")
+    return listed
+
+
+def refuse_disagreement(reader, rows_of_columns, columns_of_rows):
+    """The weights add up alike on both sides, so nothing missing in the columns is nothing
+    missing in the rows."""
+    first_column_line, first_row_line = 5, 5 + len(rows_of_columns)
+    in_column = [set(rows) for rows in rows_of_columns]
+    for row, members in enumerate(columns_of_rows, 1):
+        for column in members:
+            if row not in in_column[column - 1]:
+                reader.refuse(f"row {row} lists column {column}, but column {column} (line "
+                              f"{first_column_line + column - 1}) does not list row {row}",
+                              line=first_row_line + row - 1)
+
+
+# --- table to alist --------------------------------------------------------------------------
+
+def write(table):
+    """The alist of a table, padded with 0 as MacKay's own files are."""
+    n, checks = table
+    columns_of_rows = [[bit + 1 for bit in members] for members in checks]
+    rows_of_columns = [[] for _ in range(n)]
+    for row, members in enumerate(checks, 1):
+        for bit in members:
+            rows_of_columns[bit].append(row)
+    sides = (rows_of_columns, columns_of_rows)
+    weights = [[len(listed) for listed in side] for side in sides]
+    greatest = [max(side) for side in weights]
+    lists = [listed + [0] * (most - len(listed))
+             for side, most in zip(sides, greatest) for listed in side]
+    lines = [[n, len(checks)], greatest, *weights, *lists]
+    return "".join(" ".join(map(str, line)) + "\n" for line in lines).encode("ascii")
+
+
+# --- program ---------------------------------------------------------------------------------
+
+def convert(direction, source, target):
+    with plain.naming(source):
+        data = Path(source).read_bytes()
+        result = codefile.write(read(data)) if direction == "to-code" else write(
+            codefile.read(data))
+    Path(target).write_bytes(result)
+
+
+def main():
+    parser = argparse.ArgumentParser(description="alist to document 01's code file, and back")
+    parser.add_argument("direction", choices=["to-code", "to-alist"])
+    parser.add_argument("source", metavar="IN")
+    parser.add_argument("target", metavar="OUT")
+    given = parser.parse_args()
+    plain.run("alist", lambda: convert(given.direction, given.source, given.target))
+
+
+if __name__ == "__main__":
+    main()

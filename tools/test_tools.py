@@ -1,0 +1,14 @@
+"""All tests of the tools: `python3 tools/test_tools.py`."""
+
+import unittest
+
+PARTS = ["test_codefile", "test_alist", "test_frames", "test_desks", "test_samples"]
+
+
+def load_tests(loader, tests, pattern):
+    """unittest's own hook for what this module holds."""
+    return loader.loadTestsFromNames(PARTS)
+
+
+if __name__ == "__main__":
+    unittest.main()
