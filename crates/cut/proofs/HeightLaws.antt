@@ -7,7 +7,7 @@ use Prim.Native.Nat.{ℕ, zero, suc, _<_}
 use native.Mathlib.Omega.{arith}
 use native.Mathlib.Nat.{le-of-suc-le-suc}
 use lib.ListN.{length, set}
-use lib.IntN.{ℤ, pos, negsuc, negℤ, _+ℤ_, _-ℤ_}
+use lib.IntN.{ℤ, pos, negsuc, _+ℤ_, _-ℤ_}
 use lib.Signed.{_≤ℤ_, _<ℤ_, ltZ}
 use mir.Syntax.{w32}
 use mir.Val.{SFits}
@@ -20,7 +20,7 @@ use Rattle.cut.specs.Scan.{sights}
 
 -- the least height
 abbrev pub floor : ℤ
-floor = negℤ (pos 2147479552)
+floor = highest []
 
 -- ---- the higher of two
 pub is-above : (a b : ℤ) → ltZ a b ≡ true → a ⩽ b

@@ -41,17 +41,17 @@ add-room c =
 
 returns : tie.Need-returns
 returns c =
-    let start = c .before .before .before .before .before .before .before in
+    let start = c .before .before .before .before .before .before in
     let top : SFits w32 (start .args .self .top) = fit w32 (start .args .self .top) (search) in
-    with-higher (start .args .self) (start .args .x) (start .args .h) (start .args .k) _ _ (bit-is (c .before .before .before .before .before .before)) (room-is (c .before .before .before .before)) _ _ (toZ-ofZ top)
+    with-higher (start .args .self) (start .args .x) (start .args .h) (start .args .k) _ _ (bit-is (c .before .before .before .before .before)) (room-is (c .before .before .before)) _ _ (toZ-ofZ top)
     (toZ-ofZ (start .fits .h)) (c .if1 .taken)
 
 returns-2 : tie.Need-returns-2
 returns-2 c =
-    let start = c .before .before .before .before .before .before .before .before in
+    let start = c .before .before .before .before .before .before in
     let top : SFits w32 (start .args .self .top) = fit w32 (start .args .self .top) (search) in
-    with-other (start .args .self) (start .args .x) (start .args .h) (start .args .k) _ _ (bit-is (c .before .before .before .before .before .before .before)) (room-is (c .before .before .before .before .before)) _ _ (toZ-ofZ top)
-    (toZ-ofZ (start .fits .h)) (c .before .if1 .left)
+    with-other (start .args .self) (start .args .x) (start .args .h) (start .args .k) _ _ (bit-is (c .before .before .before .before .before)) (room-is (c .before .before .before)) _ _ (toZ-ofZ top)
+    (toZ-ofZ (start .fits .h)) (c .if1 .left)
 
 pub with-spec : {M : Type 1} → statement M
 with-spec =
