@@ -1,13 +1,13 @@
 -- The pass over a check's values: none, one value more. Assumes nothing.
 use mathlib.Core.Path.{_≡_, refl, sym, _∙_, ap, ap₂, subst}
 use mathlib.Core.Bool.{Bool, true, false, cond}
-use mathlib.Core.List.{List, [], _∷_, _++_, append-assoc}
+use mathlib.Core.List.{List, [], _∷_, _++_}
 use Prim.Native.Nat.{ℕ, suc, _+_, _*_, _^_, _≤_, _<_}
 use native.Mathlib.Omega.{arith}
 use native.Mathlib.Nat.{pow-suc}
 use native.Mathlib.Numerals.{add-one}
 use lib.ListN.{length, take, drop, set, length-append, List·getD-append}
-use lib.Seq.{take-suc, drop-cons, set-at, getD-append-seam, length-take-le}
+use lib.Seq.{take-suc, getD-append-seam, length-take-le}
 use lib.IntN.{ℤ, pos}
 use lib.Signed.{ltZ}
 use mir.Syntax.{w32}
@@ -24,6 +24,7 @@ use Rattle.cut.specs.declared.scan.Scan.{Scan}
 use Rattle.cut.specs.Heights.{height, higher, highest}
 use Rattle.cut.specs.Scan.{scanned, sights, rooms, Highest, Scanned}
 use Rattle.cut.proofs.ValueLaws.{up-mono}
+use Rattle.cut.proofs.GatherLaws.{set-more}
 use Rattle.cut.proofs.HeightLaws.{floor, is-above, not-above, higher-left, higher-right, highest-more, height-low, height-top, sights-length, sights-more}
 
 pub negatives-length : (ss : List ℤ) → length (negatives ss) ≡ length ss
@@ -147,10 +148,9 @@ scanned-more v i s r h f p e =
 -- one place more is written
 over-more : {A : Type 0} (front old : List A) (z : A) (i : ℕ) → length front ≡ i → i < length old → set (over front old) i z ≡ over (front ++ (z ∷ [])) old
 over-more front old z i e h =
-    ap (λ l. set (front ++ l) i z) (drop-cons old (length front) z (omega arith))
-    ∙ set-at front _ _ z i e
-    ∙ sym (append-assoc front (z ∷ []) (drop (suc (length front)) old))
-    ∙ ap (λ n. (front ++ (z ∷ [])) ++ drop n old) (sym (length-more front z))
+    ap (λ n. set (front ++ drop n old) i z) e
+    ∙ set-more front old z i e h
+    ∙ ap (λ n. (front ++ (z ∷ [])) ++ drop n old) (sym (length-more front z ∙ ap suc e))
 
 pub heights-more : (v old now : List ℤ) (i : ℕ) (z : ℤ) → i < length v → i < length old → z ≡ height (isNeg (at v i)) (at v i) → now ≡ over (sights (take i v)) old
     → set now i z ≡ over (sights (take (i + 1) v)) old
