@@ -9,7 +9,7 @@ use native.Mathlib.Nat.{le-of-suc-le-suc}
 use lib.ListN.{length}
 use lib.IntN.{ℤ, pos, negsuc, negℤ, natAbs, _+ℤ_}
 use lib.Signed.{ltZ}
-use Rattle.integers.specs.Linear.{lin, arithZ, up, dn, up-neg, dn-neg, lt-out, ltZ-true, ltZ-false, le-out, _⩽_}
+use Rattle.integers.specs.Linear.{lin, arithZ, _⩽_, up, up-neg, dn-neg, lt-out}
 use Rattle.integers.specs.Product.{natAbs-is, natAbs-≤, abs-neg}
 use Rattle.integers.specs.Clip.{clipZ, clip-low, clip-high, clip-mid, Place, below, above, inside, place}
 use Rattle.rules.specs.Limits.{unit}
@@ -19,7 +19,8 @@ use Rattle.rules.specs.Cut.{isNeg, negatives, smallest}
 use Rattle.rules.specs.Step.{clips}
 use Rattle.cut.specs.Heights.{height, higher, highest}
 use Rattle.cut.specs.Scan.{sights, rooms}
-use Rattle.cut.proofs.ValueLaws.{up-none, up-all}
+use Rattle.cut.proofs.ValueLaws.{up-none, up-mono}
+use Rattle.cut.proofs.HeightLaws.{is-above, not-above}
 
 -- ---- one value
 clip-size : (u : ℕ) (v : ℤ) → natAbs (clipZ u v) ≡ min (natAbs v) u
@@ -87,22 +88,12 @@ size-at [] k h = absurd (omega arith)
 size-at (v ∷ vs) zero h = clip-height v
 size-at (v ∷ vs) (suc k) h = size-at vs k (le-of-suc-le-suc h)
 
-up-mono : (a b : ℤ) → a ⩽ b → up a ≤ up b
-up-mono (pos m) b h = omega (arith, le-out h)
-up-mono (negsuc m) b h = omega arith
-
-lt-mono : (a b : ℤ) → ltZ a b ≡ true → a ⩽ b
-lt-mono a b = simp lin (omega arithZ)
-
-nlt-mono : (a b : ℤ) → ltZ a b ≡ false → b ⩽ a
-nlt-mono a b = simp lin (omega arithZ)
-
 higher-size : (u m n : ℕ) (a b : ℤ) → m + up a ≡ u → n + up b ≡ u → min m n + up (higher a b) ≡ u
 higher-size u m n a b h k = go (ltZ a b) refl
   where
     go : (t : Bool) → ltZ a b ≡ t → min m n + up (cond t b a) ≡ u
-    go true e = omega (arith, up-mono a b (lt-mono a b e))
-    go false e = omega (arith, up-mono b a (nlt-mono a b e))
+    go true e = omega (arith, up-mono a b (is-above a b e))
+    go false e = omega (arith, up-mono b a (not-above a b e))
 
 -- the smallest size has the greatest height
 pub smallest-high : (vs : List ℤ) → smallest unit (clips unit vs) + up (highest (sights vs)) ≡ unit

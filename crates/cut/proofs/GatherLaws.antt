@@ -7,9 +7,16 @@ use native.Mathlib.Nat.{le-of-suc-le-suc}
 use native.Mathlib.Numerals.{add-one}
 use lib.ListN.{length, getD, take, drop, set}
 use lib.Seq.{take-suc, drop-cons, set-at, length-take-le, take-all, take-at}
-use lib.IntN.{ℤ, pos}
+use lib.IntN.{ℤ}
 use Rattle.rules.specs.Table.{valuesAt}
 use Rattle.rules.proofs.Duality.{Below}
+
+-- a list that is written place after place: one place more
+pub set-more : {A : Type 0} (front old : List A) (z : A) (i : ℕ) → length front ≡ i → i < length old → set (front ++ drop i old) i z ≡ (front ++ (z ∷ [])) ++ drop (suc i) old
+set-more front old z i e h =
+    ap (λ l. set (front ++ l) i z) (drop-cons old i z h)
+    ∙ set-at front (getD old i z) (drop (suc i) old) z i e
+    ∙ sym (append-assoc front (z ∷ []) (drop (suc i) old))
 
 pub below-at : (n : ℕ) (ms : List ℕ) (k : ℕ) → k < length ms → Below n ms → getD ms k 0 < n
 below-at n [] k h b = absurd (omega arith)
@@ -34,9 +41,8 @@ gather-more f ms vs ws k z h g e q =
     let front = valuesAt f (take k ms) in
     let size : length front ≡ k = values-length f (take k ms) ∙ length-take-le k ms (omega arith) in
     let next : valuesAt f (take (suc k) ms) ≡ front ++ (f (getD ms k 0) ∷ []) = ap (valuesAt f) (take-suc ms k 0 h) ∙ values-++ f (take k ms) (getD ms k 0 ∷ []) in
-    ap₂ (λ l x. set l k x) (e ∙ ap (λ l. front ++ l) (drop-cons vs k (pos 0) (omega arith))) q
-    ∙ set-at front (getD vs k (pos 0)) (drop (suc k) vs) (f (getD ms k 0)) k size
-    ∙ sym (append-assoc front (f (getD ms k 0) ∷ []) (drop (suc k) vs))
+    ap₂ (λ l x. set l k x) e q
+    ∙ set-more front vs (f (getD ms k 0)) k size (omega arith)
     ∙ ap (λ l. l ++ drop (suc k) vs) (sym next)
     ∙ ap (gathered f ms vs) (sym (add-one k))
 

@@ -7,12 +7,12 @@ use Prim.Native.Nat.{ℕ, zero, suc, _<_}
 use native.Mathlib.Omega.{arith}
 use native.Mathlib.Nat.{le-of-suc-le-suc}
 use lib.ListN.{length, set}
-use lib.IntN.{ℤ, pos, negsuc, negℤ, _+ℤ_, _-ℤ_}
+use lib.IntN.{ℤ, pos, negsuc, _+ℤ_, _-ℤ_}
 use lib.Signed.{_≤ℤ_, _<ℤ_, ltZ}
 use mir.Syntax.{w32}
 use mir.Val.{SFits}
 use Rattle.integers.specs.Linear.{lin, arithZ, _⩽_, lt-ltZ, le-ltZ}
-use Rattle.integers.specs.Order.{le-trans, le-antisym, le-or-lt, le-total}
+use Rattle.integers.specs.Order.{le-refl, le-trans, le-antisym, le-or-lt, le-total}
 use Rattle.rules.specs.Limits.{unit}
 use Rattle.rules.specs.Cut.{isNeg}
 use Rattle.cut.specs.Heights.{height, higher, highest}
@@ -20,9 +20,15 @@ use Rattle.cut.specs.Scan.{sights}
 
 -- the least height
 abbrev pub floor : ℤ
-floor = negℤ (pos 2147479552)
+floor = highest []
 
 -- ---- the higher of two
+pub is-above : (a b : ℤ) → ltZ a b ≡ true → a ⩽ b
+is-above a b = simp lin (omega arithZ)
+
+pub not-above : (a b : ℤ) → ltZ a b ≡ false → b ⩽ a
+not-above a b = simp lin (omega arithZ)
+
 pub higher-left : (a b : ℤ) → b ⩽ a → higher a b ≡ a
 higher-left a b h = ap (λ t. cond t b a) (le-ltZ a b h)
 
@@ -37,15 +43,15 @@ higher-first : (a b : ℤ) → a ⩽ higher a b
 higher-first a b = go (ltZ a b) refl
   where
     go : (t : Bool) → ltZ a b ≡ t → a ⩽ cond t b a
-    go true e = simp lin (omega arithZ)
-    go false e = simp lin (omega arithZ)
+    go true e = is-above a b e
+    go false e = le-refl a
 
 higher-second : (a b : ℤ) → b ⩽ higher a b
 higher-second a b = go (ltZ a b) refl
   where
     go : (t : Bool) → ltZ a b ≡ t → b ⩽ cond t b a
-    go true e = simp lin (omega arithZ)
-    go false e = simp lin (omega arithZ)
+    go true e = le-refl b
+    go false e = not-above a b e
 
 higher-most : (a b c : ℤ) → a ⩽ c → b ⩽ c → higher a b ⩽ c
 higher-most a b c h k = go (ltZ a b)

@@ -1,11 +1,11 @@
 pub mod ValueLaws
+pub mod GatherLaws
 pub mod HeightLaws
 pub mod ClipLaws
 pub mod ScanLaws
 pub mod SideLaws
 pub mod MaskLaws
 pub mod SeeLaws
-pub mod GatherLaws
 pub mod PartLaws
 pub mod ReplyLaws
 pub mod SearchLaws

@@ -1,19 +1,18 @@
 -- The pass over a check's values: none, one value more. Assumes nothing.
 use mathlib.Core.Path.{_≡_, refl, sym, _∙_, ap, ap₂, subst}
 use mathlib.Core.Bool.{Bool, true, false, cond}
-use mathlib.Core.List.{List, [], _∷_, _++_, append-assoc}
+use mathlib.Core.List.{List, [], _∷_, _++_}
 use Prim.Native.Nat.{ℕ, suc, _+_, _*_, _^_, _≤_, _<_}
 use native.Mathlib.Omega.{arith}
 use native.Mathlib.Nat.{pow-suc}
 use native.Mathlib.Numerals.{add-one}
 use lib.ListN.{length, take, drop, set, length-append, List·getD-append}
-use lib.Seq.{take-suc, drop-cons, set-at, getD-append-seam, length-take-le}
+use lib.Seq.{take-suc, getD-append-seam, length-take-le}
 use lib.IntN.{ℤ, pos}
 use lib.Signed.{ltZ}
 use mir.Syntax.{w32}
 use mir.Val.{SFits}
-use Rattle.integers.specs.Linear.{lin, arithZ, _⩽_, up}
-use Rattle.integers.specs.Order.{le-refl}
+use Rattle.integers.specs.Linear.{_⩽_, up}
 use Rattle.rules.specs.Limits.{unit}
 use Rattle.rules.specs.Table.{at}
 use Rattle.rules.specs.Mask.{digit, maskOf}
@@ -24,8 +23,9 @@ use Rattle.rules.proofs.Masks.{mask-below}
 use Rattle.cut.specs.declared.scan.Scan.{Scan}
 use Rattle.cut.specs.Heights.{height, higher, highest}
 use Rattle.cut.specs.Scan.{scanned, sights, rooms, Highest, Scanned}
-use Rattle.cut.proofs.ValueLaws.{up-most}
-use Rattle.cut.proofs.HeightLaws.{floor, higher-left, higher-right, highest-more, height-low, height-top, sights-length, sights-more}
+use Rattle.cut.proofs.ValueLaws.{up-mono}
+use Rattle.cut.proofs.GatherLaws.{set-more}
+use Rattle.cut.proofs.HeightLaws.{floor, is-above, not-above, higher-left, higher-right, highest-more, height-low, height-top, sights-length, sights-more}
 
 pub negatives-length : (ss : List ℤ) → length (negatives ss) ≡ length ss
 negatives-length [] = refl
@@ -100,12 +100,6 @@ still-highest hs h k f t p = (
   List·getD-append hs (h ∷ []) (pos 0) k (p .0) ∙ p .1 ∙ sym (highest-more hs h f ∙ higher-left (highest hs) h t),
 )
 
-not-above : (a b : ℤ) → ltZ a b ≡ false → b ⩽ a
-not-above a b = simp lin (omega arithZ)
-
-is-above : (a b : ℤ) → ltZ a b ≡ true → a ⩽ b
-is-above a b = simp lin (omega arithZ)
-
 -- the first place stays on a tie
 peak-more : (hs : List ℤ) (h : ℤ) (k : ℕ) → floor ⩽ h → Highest hs k → Highest (hs ++ (h ∷ [])) (cond (ltZ (highest hs) h) (length hs) k)
 peak-more [] h k f e = go (ltZ floor h)
@@ -154,10 +148,9 @@ scanned-more v i s r h f p e =
 -- one place more is written
 over-more : {A : Type 0} (front old : List A) (z : A) (i : ℕ) → length front ≡ i → i < length old → set (over front old) i z ≡ over (front ++ (z ∷ [])) old
 over-more front old z i e h =
-    ap (λ l. set (front ++ l) i z) (drop-cons old (length front) z (omega arith))
-    ∙ set-at front _ _ z i e
-    ∙ sym (append-assoc front (z ∷ []) (drop (suc (length front)) old))
-    ∙ ap (λ n. (front ++ (z ∷ [])) ++ drop n old) (sym (length-more front z))
+    ap (λ n. set (front ++ drop n old) i z) e
+    ∙ set-more front old z i e h
+    ∙ ap (λ n. (front ++ (z ∷ [])) ++ drop n old) (sym (length-more front z ∙ ap suc e))
 
 pub heights-more : (v old now : List ℤ) (i : ℕ) (z : ℤ) → i < length v → i < length old → z ≡ height (isNeg (at v i)) (at v i) → now ≡ over (sights (take i v)) old
     → set now i z ≡ over (sights (take (i + 1) v)) old
@@ -172,7 +165,7 @@ heights-more v old now i z h k e q =
 -- ---- the machine's bounds
 rooms-most : (vs : List ℤ) → rooms (sights vs) ≤ unit * length vs
 rooms-most [] = omega arith
-rooms-most (v ∷ vs) = step (up (height (isNeg v) v)) (rooms (sights vs)) (length vs) (up-most (height (isNeg v) v) unit (height-top v)) (rooms-most vs)
+rooms-most (v ∷ vs) = step (up (height (isNeg v) v)) (rooms (sights vs)) (length vs) (up-mono (height (isNeg v) v) (pos unit) (height-top v)) (rooms-most vs)
   where
     step : (a b n : ℕ) → a ≤ unit → b ≤ unit * n → a + b ≤ unit * suc n
     step a b n h k = omega arith

@@ -2,8 +2,8 @@
 use mathlib.Core.Path.{_≡_, refl, sym, _∙_, ap, ap₂, subst}
 use mathlib.Core.Bool.{Bool, true, false, not, cond}
 use mathlib.Core.List.{List, [], _∷_, _++_}
-use mathlib.Core.Option.{Option, some, none}
-use Prim.Native.Nat.{ℕ, zero, suc, _+_, _*_, _-_, _%_, _^_, _≤_, _<_, min}
+use mathlib.Core.Option.{Option, none}
+use Prim.Native.Nat.{ℕ, zero, suc, _+_, _*_, _%_, _^_, _≤_, _<_, min}
 use native.Mathlib.Decide.{decLe}
 use native.Mathlib.Omega.{arith}
 use native.Mathlib.Nat.{le-of-suc-le-suc}
@@ -28,7 +28,7 @@ use Rattle.rules.proofs.Masks.{set-mask, mask-below, odd-ones}
 use Rattle.cut.specs.declared.scan.Scan.{Scan}
 use Rattle.cut.specs.CutMask.{cutMask}
 use Rattle.cut.specs.Heights.{height, heightsOf, highest, sideBy, Seen, seenOn, seen}
-use Rattle.cut.specs.Scan.{sights, rooms, Highest, Scanned, stays, changes, decided}
+use Rattle.cut.specs.Scan.{sights, Highest, Scanned, stays, changes, whenOdd, whenEven, decided}
 use Rattle.cut.proofs.HeightLaws.{highest-set, sights-top, sights-length}
 use Rattle.cut.proofs.ClipLaws.{clips-signs, clips-left, size-at, smallest-high}
 use Rattle.cut.proofs.ScanLaws.{negatives-length, clips-length}
@@ -38,14 +38,12 @@ use Rattle.cut.proofs.MaskLaws.{mask-change}
 -- ---- as the code's arms have it
 module _ (s : Scan) (hs : List ℤ) where
   pub decided-odd : (m : ℕ) (t : ℤ) → ones (s .mask) % 2 ≡ 1 → m ≡ cond (ltb (s .room) (2 * unit)) (s .mask) 0 → t ≡ s .top → stays m t hs ≡ decided s hs
-  decided-odd m t o e p =
-      ap₂ (λ m t. stays m t hs) e p
-      ∙ ap (λ b. cond b (stays (cond (ltb (s .room) (2 * unit)) (s .mask) 0) (s .top) hs) (cond (ltb (s .room) (2 * up (s .top))) (changes s hs) (stays 0 (s .top) hs))) (sym (eq-eqb (ones (s .mask) % 2) 1 o))
+  decided-odd m t o e p = ap₂ (λ m t. stays m t hs) e p ∙ ap (λ b. cond b (whenOdd s hs) (whenEven s hs)) (sym (eq-eqb (ones (s .mask) % 2) 1 o))
 
   decided-even : (b : Bool) → (ones (s .mask) % 2 ≡ 1 → ⊥) → ltb (s .room) (2 * up (s .top)) ≡ b → cond b (changes s hs) (stays 0 (s .top) hs) ≡ decided s hs
   decided-even b o e =
       ap (λ b. cond b (changes s hs) (stays 0 (s .top) hs)) (sym e)
-      ∙ ap (λ b. cond b (stays (cond (ltb (s .room) (2 * unit)) (s .mask) 0) (s .top) hs) (cond (ltb (s .room) (2 * up (s .top))) (changes s hs) (stays 0 (s .top) hs))) (sym (ne-eqb (ones (s .mask) % 2) 1 o))
+      ∙ ap (λ b. cond b (whenOdd s hs) (whenEven s hs)) (sym (ne-eqb (ones (s .mask) % 2) 1 o))
 
   pub decided-change : (ones (s .mask) % 2 ≡ 1 → ⊥) → s .room < 2 * up (s .top) → changes s hs ≡ decided s hs
   decided-change o h = decided-even true o (lt-ltb (s .room) (2 * up (s .top)) h)
@@ -118,7 +116,7 @@ module _ (vs old : List ℤ) (s : Scan) (p : Scanned vs s) where
   negatives-see true = seen-eq _ _ _ _ _ _ (p .negative) (p .high) refl
   negatives-see false = seen-eq _ _ _ _ _ _ refl (p .high) refl
 
-  odd-sees : eqb (ones (s .mask) % 2) 1 ≡ true → stays (cond (ltb (s .room) (2 * unit)) (s .mask) 0) (s .top) (over (sights vs) old) ≡ seenOn vs old
+  odd-sees : eqb (ones (s .mask) % 2) 1 ≡ true → whenOdd s (over (sights vs) old) ≡ seenOn vs old
   odd-sees o =
       negatives-see (ltb (s .room) (2 * unit))
       ∙ seen-by vs old (keep (ltb (s .room) (2 * unit)) (negatives vs))
@@ -164,31 +162,27 @@ module _ (vs old : List ℤ) (s : Scan) (p : Scanned vs s) where
         (set-over (sights vs) old (s .place) (pos (2 * unit) -ℤ s .top) inside ∙ ap (λ l. over l old) (sym raised-heights))
     changed-see false = seen-eq _ _ _ _ _ _ refl (p .high) refl
 
-    even-sees : eqb (ones (s .mask) % 2) 1 ≡ false
-        → cond (ltb (s .room) (2 * up (s .top))) (changes s (over (sights vs) old)) (stays 0 (s .top) (over (sights vs) old)) ≡ seenOn vs old
+    even-sees : eqb (ones (s .mask) % 2) 1 ≡ false → whenEven s (over (sights vs) old) ≡ seenOn vs old
     even-sees o =
         changed-see (ltb (s .room) (2 * up (s .top)))
         ∙ seen-by vs old (keep (ltb (s .room) (2 * up (s .top))) (changeSide (s .place) (negatives vs))) (cut-is o)
 
 -- no values, no cut
-none-sees : (old : List ℤ) (s : Scan) → Scanned [] s → cond (ltb (s .room) (2 * up (s .top))) (changes s old) (stays 0 (s .top) old) ≡ seenOn [] old
+none-sees : (old : List ℤ) (s : Scan) → Scanned [] s → whenEven s old ≡ seenOn [] old
 unfolding sees
 none-sees old s p =
     ap (λ b. cond b (changes s old) (stays 0 (s .top) old)) (ap₂ (λ r t. ltb r (2 * up t)) (p .total) (p .high))
     ∙ seen-eq _ _ _ _ _ _ refl (p .high) refl
     ∙ seen-by [] old none (keep-none unit)
 
-even-decides : (vs old : List ℤ) (s : Scan) → Scanned vs s → eqb (ones (s .mask) % 2) 1 ≡ false
-    → cond (ltb (s .room) (2 * up (s .top))) (changes s (over (sights vs) old)) (stays 0 (s .top) (over (sights vs) old)) ≡ seenOn vs old
+even-decides : (vs old : List ℤ) (s : Scan) → Scanned vs s → eqb (ones (s .mask) % 2) 1 ≡ false → whenEven s (over (sights vs) old) ≡ seenOn vs old
 even-decides [] old s p o = none-sees old s p
 even-decides (v ∷ vs) old s p o = even-sees (v ∷ vs) old s p (subst (λ n. s .place < n) (sights-length (v ∷ vs)) (p .peak .0)) (p .peak .1) o
 
 decides : (vs old : List ℤ) (s : Scan) → Scanned vs s → decided s (over (sights vs) old) ≡ seenOn vs old
 decides vs old s p = go (eqb (ones (s .mask) % 2) 1) refl
   where
-    go : (b : Bool) → eqb (ones (s .mask) % 2) 1 ≡ b
-        → cond b (stays (cond (ltb (s .room) (2 * unit)) (s .mask) 0) (s .top) (over (sights vs) old)) (cond (ltb (s .room) (2 * up (s .top))) (changes s (over (sights vs) old)) (stays 0 (s .top) (over (sights vs) old)))
-        ≡ seenOn vs old
+    go : (b : Bool) → eqb (ones (s .mask) % 2) 1 ≡ b → cond b (whenOdd s (over (sights vs) old)) (whenEven s (over (sights vs) old)) ≡ seenOn vs old
     go true o = odd-sees vs old s p o
     go false o = even-decides vs old s p o
 

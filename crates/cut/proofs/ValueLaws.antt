@@ -33,9 +33,9 @@ pub up-all : (z : ℤ) → pos 0 ⩽ z → natAbs z ≡ up z
 up-all (pos n) h = refl
 up-all (negsuc n) h = absurd (h .le)
 
-pub up-most : (z : ℤ) (n : ℕ) → z ⩽ pos n → up z ≤ n
-up-most (pos m) n h = omega (arith, le-out h)
-up-most (negsuc m) n h = omega arith
+pub up-mono : (a b : ℤ) → a ⩽ b → up a ≤ up b
+up-mono (pos m) b h = omega (arith, le-out h)
+up-mono (negsuc m) b h = omega arith
 
 -- bit k on top of a mask of k bits
 pub bit-above : (t : Bool) (m b k : ℕ) → k < 32 → m < 2 ^ k → b ≡ digit t * 2 ^ k → m + b < 2 ^ 32

@@ -59,6 +59,12 @@ changes s hs = record {
   heights = set hs (s .place) (pos (2 * unit) -ℤ s .top);
 }
 
+abbrev pub whenOdd : Scan → List ℤ → Seen
+whenOdd s hs = stays (cond (ltb (s .room) (2 * unit)) (s .mask) 0) (s .top) hs
+
+-- twice the smallest size is 2U less twice the greatest height
+abbrev pub whenEven : Scan → List ℤ → Seen
+whenEven s hs = cond (ltb (s .room) (2 * up (s .top))) (changes s hs) (stays 0 (s .top) hs)
+
 abbrev pub decided : Scan → List ℤ → Seen
-decided s hs =
-    cond (eqb (ones (s .mask) % 2) 1) (stays (cond (ltb (s .room) (2 * unit)) (s .mask) 0) (s .top) hs) (cond (ltb (s .room) (2 * up (s .top))) (changes s hs) (stays 0 (s .top) hs))
+decided s hs = cond (eqb (ones (s .mask) % 2) 1) (whenOdd s hs) (whenEven s hs)

@@ -91,11 +91,12 @@ fn change_side(s: Scan, heights: &mut [i32]) -> Cut
     ensures { λ r. ⌜ (record { mask = r .mask; top = r .top; heights = now (heights .exit) }) ≡ changes s (now (heights .entry)) ⌝ }
 {
     let k = s.place;
-    let top = 2 * UNIT - s.top;
-    heights[k] = top;
+    let height = s.top;
+    let raised = 2 * UNIT - height;
+    heights[k] = raised;
     Cut {
         mask: s.mask ^ bit(k),
-        top,
+        top: raised,
     }
 }
 

@@ -1,15 +1,16 @@
 // One pass over a check's values: their signs and their heights, U less each size.
 use inputs::limits::UNIT;
 ghost use mathlib.Core.Path.{_≡_};
+ghost use mathlib.Core.List.{[]};
 ghost use Prim.Native.Nat.{_+_, _*_, _^_, _≤_, _<_};
-ghost use lib.IntN.{pos, negℤ};
+ghost use lib.IntN.{pos};
 ghost use lib.ListN.{length, take};
 ghost use Rattle.integers.specs.Linear.{up, _⩽_};
 ghost use Rattle.rules.specs.Limits.{unit, maxDegree};
 ghost use Rattle.rules.specs.Mask.{digit};
 ghost use Rattle.rules.specs.Cut.{isNeg};
 ghost use Rattle.rules.specs.Buffers.{over};
-ghost use Rattle.cut.specs.Heights.{height};
+ghost use Rattle.cut.specs.Heights.{height, highest};
 ghost use Rattle.cut.specs.Scan.{scanned, sights, Scanned};
 
 // The least height that a 32-bit value has.
@@ -66,7 +67,7 @@ pub struct Scan {
 impl Scan {
     // No value yet: none has a height below the least.
     fn new() -> Scan
-        ensures { λ r. ⌜ (r .mask ≡ 0) × (r .room ≡ 0) × (r .top ≡ negℤ (pos 2147479552)) × (r .place ≡ 0) ⌝ }
+        ensures { λ r. ⌜ (r .mask ≡ 0) × (r .room ≡ 0) × (r .top ≡ highest []) × (r .place ≡ 0) ⌝ }
     {
         Scan {
             mask: 0,
@@ -83,7 +84,8 @@ impl Scan {
     {
         let mask = self.mask + sign_bit(x, k);
         let room = self.room + above(h);
-        if self.top < h {
+        let top = self.top;
+        if top < h {
             return Scan {
                 mask,
                 room,
@@ -94,7 +96,7 @@ impl Scan {
         Scan {
             mask,
             room,
-            top: self.top,
+            top,
             place: self.place,
         }
     }

@@ -24,6 +24,7 @@ pub mod SetsLaws
 pub mod SignLaws
 pub mod CandidateLaws
 pub mod CheckLaws
+pub mod QuotientLaws
 pub mod RoomLaws
 pub mod GapLaws
 pub mod BoundLaws

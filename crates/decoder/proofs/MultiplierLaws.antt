@@ -3,8 +3,8 @@ use mathlib.Core.Path.{_≡_, refl, sym, _∙_, ap, subst}
 use mathlib.Core.Bool.{Bool, true, false, cond, false≢true}
 use mathlib.Core.List.{List, [], _∷_}
 use mathlib.Core.Logic.{_⊎_, inl, inr}
-use Prim.Native.Nat.{ℕ, zero, suc, _+_, _≤_, _<_, min}
-use native.Mathlib.Nat.{add-assoc, add-comm}
+use Prim.Native.Nat.{ℕ, zero, suc, _+_, _*_, _-_, _/_, _≤_, _<_, min}
+use native.Mathlib.Nat.{add-assoc, add-comm, mul-comm, suc-mul, lt-div-mul-add}
 use native.Mathlib.Omega.{arith}
 use native.Mathlib.Numerals.{add-one}
 use lib.Seq.{take-all}
@@ -14,7 +14,8 @@ use lib.Signed.{_≤ℤ_, _<ℤ_, ltZ}
 use mir.Syntax.{w32}
 use mir.Val.{SFits}
 use Rattle.integers.specs.Linear.{lin, arithZ, _⩽_, Within, up, le-out, lt-ltZ}
-use Rattle.integers.specs.Sum.{AllWithin}
+use Rattle.integers.specs.Product.{natAbs-≤}
+use Rattle.integers.specs.Sum.{sumZ, sum-within, AllWithin}
 use Rattle.rules.specs.Parity.{side, left, odd, Alike}
 use Rattle.rules.specs.Step.{clips, moves, short, multiplier}
 use Rattle.rules.proofs.CutRule.{Cuts}
@@ -157,6 +158,7 @@ module _ (ts : List Bool) (vs : List ℤ) (few : length vs ≤ 32) (small : AllW
   pub rising : Rising hs (highest hs)
   unfolding sumAt
   rising = record {
+    some = nonempty hs member;
     few = subst (λ n. n ≤ 32) (sym (heights-length ts vs alike)) few;
     small = heights-small ts vs small;
     short = at-zero;
@@ -165,6 +167,10 @@ module _ (ts : List Bool) (vs : List ℤ) (few : length vs ≤ 32) (small : AllW
     met = later (in-sum (natAbs (pos 8192 -ℤ highest hs)) (highest hs) hs member) (reached (highest hs) most);
   }
     where
+      nonempty : (hs : List ℤ) → In (highest hs) hs → 0 < length hs
+      nonempty [] i = absurd i
+      nonempty (h ∷ hs) i = omega arith
+
       most : highest hs ⩽ pos 8192
       most = under-top (highest hs) (tally (lifted 0) hs) (in-sum 0 (highest hs) hs member) at-zero
 
@@ -180,7 +186,74 @@ module _ (ts : List Bool) (vs : List ℤ) (few : length vs ≤ 32) (small : AllW
       (multiplier-least 4096 8384512 ts vs (c .isOdd) alike small (omega arith) (c .under))
       (short-of b ts vs (l .last b refl)) (met-of (suc b) ts vs (l .met))
 
+-- ---- where the search starts: all heights lifted to 2U together
+up-least : (z : ℤ) → z ⩽ pos (up z)
+up-least (pos n) = simp lin (omega arithZ)
+up-least (negsuc n) = simp lin (omega arithZ)
+
+lift-more : (h s : ℤ) (a k m n : ℕ) → h +ℤ pos a ⩽ pos m → s +ℤ pos k ⩽ pos n → (h +ℤ s) +ℤ pos (k + a) ⩽ pos (m + n)
+lift-more h s a k m n = simp lin (omega arithZ)
+
+all-lifted : (a : ℕ) (hs : List ℤ) → sumZ hs +ℤ pos (length hs * a) ⩽ pos (tally (lifted a) hs)
+all-lifted a [] = simp lin (omega arithZ)
+all-lifted a (h ∷ hs) = subst (λ k. (h +ℤ sumZ hs) +ℤ pos k ⩽ pos (lifted a h + tally (lifted a) hs)) (sym (suc-mul (length hs) a))
+    (lift-more h (sumZ hs) a (length hs * a) (lifted a h) (tally (lifted a) hs) (up-least (h +ℤ pos a)) (all-lifted a hs))
+
+enough : (s : ℤ) (t k n : ℕ) → pos t ≡ pos 8192 -ℤ s → t ≤ k → s +ℤ pos k ⩽ pos n → 8192 ≤ n
+enough s t k n e h l = omega (arith, le-out (plain s t k n e h l))
+  where
+    plain : (s : ℤ) (t k n : ℕ) → pos t ≡ pos 8192 -ℤ s → t ≤ k → s +ℤ pos k ⩽ pos n → pos 8192 ⩽ pos n
+    plain s t k n = simp lin (omega arithZ)
+
+rounded-up : (t d : ℕ) → 0 < d → t ≤ d * ((t + (d - 1)) / d)
+rounded-up t d h = subst (λ n. t ≤ n) (mul-comm ((t + (d - 1)) / d) d) (omega (arith, lt-div-mul-add {a = t + (d - 1)} {b = d} h))
+
+pub level-met : (hs : List ℤ) (t : ℕ) → 0 < length hs → pos t ≡ pos 8192 -ℤ sumZ hs → 8192 ≤ sumAt hs ((t + (length hs - 1)) / length hs)
+unfolding sumAt
+level-met hs t h e = enough (sumZ hs) t (length hs * ((t + (length hs - 1)) / length hs)) (tally (lifted ((t + (length hs - 1)) / length hs)) hs)
+    e (rounded-up t (length hs) h) (all-lifted ((t + (length hs - 1)) / length hs) hs)
+
+-- the heights of a cut are short of 2U together
+sum-under : (hs : List ℤ) → sumZ hs ⩽ pos (tally (lifted 0) hs)
+sum-under [] = simp lin (omega arithZ)
+sum-under (h ∷ hs) = both h (sumZ hs) (lifted 0 h) (tally (lifted 0) hs) (up-least (h +ℤ pos 0)) (sum-under hs)
+  where
+    both : (h s : ℤ) (m n : ℕ) → h +ℤ pos 0 ⩽ pos m → s ⩽ pos n → h +ℤ s ⩽ pos (m + n)
+    both h s m n = simp lin (omega arithZ)
+
+pub together-fits : (hs : List ℤ) → length hs ≤ 32 → AllWithin 8388608 hs → sumAt hs 0 < 8192
+    → SFits w32 (pos 8192 -ℤ sumZ hs) × (pos 0 ≤ℤ (pos 8192 -ℤ sumZ hs)) × (natAbs (pos 8192 -ℤ sumZ hs) ≤ 268443648)
+unfolding sumAt
+together-fits hs h w k = (fits (sumZ hs) within, not-less (sumZ hs) (tally (lifted 0) hs) (sum-under hs) k, size (pos 8192 -ℤ sumZ hs) (reach (sumZ hs) within))
+  where
+    wide : (n : ℕ) (z : ℤ) → n ≤ 32 → Within (8388608 * n) z → Within 268435456 z
+    wide n z = simp lin (omega arithZ)
+
+    within : Within 268435456 (sumZ hs)
+    within = wide (length hs) (sumZ hs) h (sum-within 8388608 hs w)
+
+    fits : (z : ℤ) → Within 268435456 z → SFits w32 (pos 8192 -ℤ z)
+    fits z = simp lin (omega arithZ)
+
+    reach : (z : ℤ) → Within 268435456 z → Within 268443648 (pos 8192 -ℤ z)
+    reach z = simp lin (omega arithZ)
+
+    size : (z : ℤ) → Within 268443648 z → natAbs z ≤ 268443648
+    size z = natAbs-≤ z 268443648
+
+    not-less : (z : ℤ) (n : ℕ) → z ⩽ pos n → n < 8192 → pos 0 ≤ℤ (pos 8192 -ℤ z)
+    not-less z n = simp lin (omega arithZ)
+
 -- ---- machine words
+pub sum-next : (n : ℕ) (z h : ℤ) → n < 32 → Within (8388608 * n) z → Within 8388608 h → SFits w32 (z +ℤ h) × Within (8388608 * (n + 1)) (z +ℤ h)
+sum-next n z h k w x = (fits n z h k w x, within n z h w x)
+  where
+    fits : (n : ℕ) (z h : ℤ) → n < 32 → Within (8388608 * n) z → Within 8388608 h → SFits w32 (z +ℤ h)
+    fits n z h = simp lin (omega arithZ)
+
+    within : (n : ℕ) (z h : ℤ) → Within (8388608 * n) z → Within 8388608 h → Within (8388608 * (n + 1)) (z +ℤ h)
+    within n z h = simp lin (omega arithZ)
+
 pub lift-fits : (h : ℤ) (b : ℕ) → Within 8388608 h → b ≤ 8388608 → SFits w32 (h +ℤ pos b)
 lift-fits h b = simp lin (omega arithZ)
 
@@ -201,3 +274,7 @@ up-none (negsuc n) h = refl
 pub up-all : (z : ℤ) → pos 0 ≤ℤ z → natAbs z ≡ up z
 up-all (pos n) h = refl
 up-all (negsuc n) h = absurd (omega arithZ)
+
+pub natural : (z : ℤ) → pos 0 ≤ℤ z → pos (natAbs z) ≡ z
+natural (pos n) h = refl
+natural (negsuc n) h = absurd (omega arithZ)

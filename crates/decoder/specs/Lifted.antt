@@ -30,6 +30,7 @@ countAt hs b = tally (lifting b) hs
 
 -- the heights of a cut, and the greatest of them: lifted to 2U alone, that one meets the inequality
 pub record Rising (hs : List ℤ) (top : ℤ) : Type 0 where
+  pub some : 0 < length hs
   pub few : length hs ≤ 32
   pub small : AllWithin 8388608 hs
   pub short : sumAt hs 0 < 8192

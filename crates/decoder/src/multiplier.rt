@@ -6,7 +6,7 @@ ghost use Prim.Native.Nat.{_-_, _*_, _/_, _≤_, min};
 ghost use lib.ListN.{length};
 ghost use lib.IntN.{pos};
 ghost use Rattle.integers.specs.Linear.{Within, up};
-ghost use Rattle.integers.specs.Sum.{AllWithin};
+ghost use Rattle.integers.specs.Sum.{sumZ, AllWithin};
 ghost use Rattle.rules.specs.Limits.{unit};
 ghost use Rattle.decoder.specs.Lifted.{lifted, sumAt, countAt, Rising, LeastAt};
 
@@ -73,12 +73,41 @@ fn fall(heights: &[i32], b: u32) -> u32
     (sum - REACH) / count
 }
 
-// The least step at which V's inequality is met, from the one that lifts the greatest height to 2U.
+fn sum_of(heights: &[i32]) -> i32
+    requires { ⌜ (length (now heights) ≤ 32) × AllWithin 8388608 (now heights) ⌝ }
+    ensures { λ r. ⌜ r ≡ sumZ (now (heights .entry)) ⌝ }
+{
+    let mut sum: i32 = 0;
+    let mut i = 0;
+    while i < heights.len() {
+        sum += heights[i];
+        i += 1;
+    }
+    sum
+}
+
+// A step that is enough: the lesser of the one that lifts all heights to 2U together and the one that
+// lifts the greatest alone. Mostly it is the least already.
+fn first_step(heights: &[i32], top: i32) -> u32
+    requires { ⌜ Rising (now heights) top ⌝ }
+    ensures { λ r. ⌜ (r ≤ 8388608) × (2 * unit ≤ sumAt (now (heights .entry)) r) ⌝ }
+{
+    let d = heights.len() as u32;
+    let together = (2 * UNIT - sum_of(heights)) as u32;
+    let alone = (2 * UNIT - top) as u32;
+    let level = (together + (d - 1)) / d;
+    if level < alone {
+        return level;
+    }
+    alone
+}
+
+// The least step at which V's inequality is met.
 pub(crate) fn least_multiplier(heights: &[i32], top: i32) -> u32
     requires { ⌜ Rising (now heights) top ⌝ }
     ensures { λ r. ⌜ LeastAt (now (heights .entry)) r ⌝ }
 {
-    let mut b = (2 * UNIT - top) as u32;
+    let mut b = first_step(heights, top);
     loop {
         let d = fall(heights, b);
         if d == 0 {

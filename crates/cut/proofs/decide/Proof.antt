@@ -1,7 +1,8 @@
 -- `decide` meets its contract. Assumes nothing.
-use mathlib.Core.Path.{_≡_, sym, _∙_, ap, subst}
+use mathlib.Core.Path.{_≡_, _∙_, ap, subst}
 use Prim.Native.Nat.{_*_, _≤_, _<_}
 use native.Mathlib.Omega.{arith}
+use lib.IntN.{pos}
 use mir.Syntax.{w32}
 use mir.Val.{SFits}
 use mir.Facts.{toZ-ofZ}
@@ -9,7 +10,7 @@ use borrow.Author.Needs.{needs}
 use Rattle.integers.specs.Linear.{up}
 use Rattle.integers.specs.Machine.{fit}
 use Rattle.rules.specs.Limits.{unit}
-use Rattle.cut.proofs.ValueLaws.{up-most}
+use Rattle.cut.proofs.ValueLaws.{up-mono}
 use Rattle.cut.proofs.SeeLaws.{decided-odd, decided-change, decided-stay, above-within}
 use Rattle.cut.proofs.decide.Statement.{statement}
 use Rattle.cut.proofs.decide.Tie as tie
@@ -35,7 +36,7 @@ above-is c =
 mul-if2 : tie.Need-mul-if2
 mul-if2 c =
     let start = c .before .before .before .before in
-    omega (arith, above-is c, up-most (start .args .s .top) unit (start .pre .1))
+    omega (arith, above-is c, up-mono (start .args .s .top) (pos unit) (start .pre .1))
 
 -- the room is less than twice that height
 short : (c : tie.Then2) → c .before .before .before .before .before .before .args .s .room < 2 * up (c .before .before .before .before .before .before .args .s .top)

@@ -1,9 +1,9 @@
 -- `above` meets its contract. Assumes nothing.
-use mathlib.Core.Path.{_≡_, sym, _∙_, ap}
+use mathlib.Core.Path.{sym, _∙_, ap}
+use lib.IntN.{pos, natAbs}
 use mir.Facts.{toZ-ofZ}
 use Rattle.integers.specs.Linear.{lin, arithZ, _⩽_}
 use Rattle.integers.specs.Machine.{to-unsigned}
-use lib.IntN.{pos, natAbs}
 use Rattle.cut.proofs.ValueLaws.{up-none, up-all}
 use Rattle.cut.proofs.scan.above.Statement.{statement}
 use Rattle.cut.proofs.scan.above.Tie as tie

@@ -21,46 +21,28 @@ Inv-loop heights top b₀ b = (b ≤ 8388608) × (8192 ≤ sumAt heights b)
 abbrev μ-loop : tie.MeasureT-loop
 μ-loop heights top b₀ b = b
 
-mul-b : tie.Need-mul-b Inv-loop μ-loop
-mul-b c = search needs
-
--- where b starts
-first-is : (c : tie.Start Inv-loop μ-loop) → pos 8192 -ℤ toZ w32 (ofZ w32 (c .args .top)) ≡ pos 8192 -ℤ c .args .top
-first-is c = ap (λ z. pos 8192 -ℤ z) (toZ-ofZ (c .fits .top))
-
-first-fits : (c : tie.Start Inv-loop μ-loop) → SFits w32 (pos 8192 -ℤ toZ w32 (ofZ w32 (c .args .top)))
-first-fits c = subst (SFits w32) (sym (first-is c)) (start-fits (c .args .top) (c .pre .low) (c .pre .high) .0)
-
-b-is : (c : tie.Start Inv-loop μ-loop) → toZ w32 (ofZ w32 (pos 8192 -ℤ toZ w32 (ofZ w32 (c .args .top)))) ≡ pos 8192 -ℤ c .args .top
-b-is c = toZ-ofZ (first-fits c) ∙ first-is c
-
-sub-b : tie.Need-sub-b Inv-loop μ-loop
-sub-b c = first-fits c
-
-cast-b : tie.Need-cast-b Inv-loop μ-loop
-cast-b c = to-unsigned tt (first-fits c) (subst (λ z. pos 0 ≤ℤ z) (sym (first-is c)) (start-fits (c .args .top) (c .pre .low) (c .pre .high) .1))
+first-step-requires : tie.Need-first-step-requires Inv-loop μ-loop
+first-step-requires c κs = search needs
 
 loop-holds : tie.Need-loop-holds Inv-loop μ-loop
-loop-holds c =
-    let e = ap natAbs (sym (b-is c)) in
-    (subst (λ n. n ≤ 8388608) e (start-most (c .args .top) (c .pre .low) (c .pre .high)), subst (λ n. 8192 ≤ sumAt (c .args .heights .now) n) e (c .pre .met))
+loop-holds c = c .first-step .ensures
 
 fall-requires : tie.Need-fall-requires Inv-loop μ-loop
-fall-requires c κs = (c .before .pre .few, c .loop .inv .0, c .before .pre .small, c .loop .inv .1)
+fall-requires c κs = (c .before .before .pre .few, c .loop .inv .0, c .before .before .pre .small, c .loop .inv .1)
 
 returns : tie.Need-returns Inv-loop μ-loop
 returns c =
     let l = c .before .before .loop in
-    least-found (c .before .before .before .args .heights .now) (l .b) (c .before .fall .result) (l .inv .1) (l .inv .0) (c .before .fall .ensures) (omega arith)
+    least-found (c .before .before .before .before .args .heights .now) (l .b) (c .before .fall .result) (l .inv .1) (l .inv .0) (c .before .fall .ensures) (omega arith)
 
 turn : (c : tie.Else1 Inv-loop μ-loop)
-    → (c .before .fall .result < c .before .before .loop .b) × (8192 ≤ sumAt (c .before .before .before .args .heights .now) (c .before .before .loop .b - c .before .fall .result))
+    → (c .before .fall .result < c .before .before .loop .b) × (8192 ≤ sumAt (c .before .before .before .before .args .heights .now) (c .before .before .loop .b - c .before .fall .result))
 turn c =
     let l = c .before .before .loop in
-    next-step (c .before .before .before .args .heights .now) (l .b) (c .before .fall .result) (l .inv .1) (c .before .before .before .pre .short) (c .before .fall .ensures)
+    next-step (c .before .before .before .before .args .heights .now) (l .b) (c .before .fall .result) (l .inv .1) (c .before .before .before .before .pre .short) (c .before .fall .ensures)
 
-sub-b-2 : tie.Need-sub-b-2 Inv-loop μ-loop
-sub-b-2 c = omega (arith, turn c .0)
+sub-b : tie.Need-sub-b Inv-loop μ-loop
+sub-b c = omega (arith, turn c .0)
 
 loop-less : tie.Need-loop-less Inv-loop μ-loop
 loop-less c = omega (arith, turn c .0)
@@ -74,12 +56,10 @@ least-multiplier-spec =
     (tie.spec
     Inv-loop
     μ-loop
-    mul-b
-    sub-b
-    cast-b
+    first-step-requires
     loop-holds
     fall-requires
     returns
-    sub-b-2
+    sub-b
     loop-less
     loop-again)

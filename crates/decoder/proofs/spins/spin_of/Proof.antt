@@ -1,6 +1,6 @@
--- `spin_of` meets its contract: divided, then clipped. Assumes nothing.
+-- `spin_of` meets its contract: clipped to U times the degree, then divided. Assumes nothing.
 use mathlib.Core.Path.{_≡_, sym, _∙_, ap, ap₂, subst}
-use Prim.Native.Nat.{ℕ, _≤_}
+use Prim.Native.Nat.{ℕ, _*_, _≤_}
 use native.Mathlib.Omega.{arith}
 use lib.IntN.{pos, natAbs}
 use lib.Signed.{_≤ℤ_}
@@ -13,32 +13,47 @@ use Rattle.integers.specs.Clip.{clipZ}
 use Rattle.integers.specs.Machine.{fit}
 use Rattle.rules.specs.Round.{divided}
 use Rattle.decoder.specs.Totals.{spinOf}
+use Rattle.decoder.proofs.QuotientLaws.{clip-first}
 use Rattle.decoder.proofs.spins.spin_of.Statement.{statement}
 use Rattle.decoder.proofs.spins.spin_of.Tie as tie
 
-one-le : (n : ℕ) → 1 ≤ n → pos 1 ≤ℤ pos n
-one-le n = simp lin (omega arithZ)
+from : (m n : ℕ) → m ≤ n → pos m ≤ℤ pos n
+from m n = simp lin (omega arithZ)
 
-cast-divided : tie.Need-cast-divided
-cast-divided c = search needs
+mul-most : tie.Need-mul-most
+mul-most c = search needs
+
+cast-clip-to : tie.Need-cast-clip-to
+cast-clip-to c = search needs
+
+most-is : (c : tie.Start) → toZ w32 (4096 * c .args .degree) ≡ pos (4096 * c .args .degree)
+most-is c = toZ-pos w32 (omega (arith, c .fits .degree))
 
 degree-is : (c : tie.Start) → toZ w32 (c .args .degree) ≡ pos (c .args .degree)
 degree-is c = toZ-pos w32 (omega (arith, c .fits .degree))
 
-divided-requires : tie.Need-divided-requires
-divided-requires c κs = subst (λ z. pos 1 ≤ℤ z) (sym (degree-is c)) (one-le (c .args .degree) (c .pre))
+clip-to-requires : tie.Need-clip-to-requires
+clip-to-requires c κs = subst (λ z. pos 0 ≤ℤ z) (sym (most-is c)) (from 0 (4096 * c .args .degree) (omega arith))
 
-clip-requires : tie.Need-clip-requires
-clip-requires c κs = search needs
+cast-divided : tie.Need-cast-divided
+cast-divided c = search needs
+
+divided-requires : tie.Need-divided-requires
+divided-requires c κs = subst (λ z. pos 1 ≤ℤ z) (sym (degree-is (c .before))) (from 1 (c .before .args .degree) (c .before .pre))
 
 returns : tie.Need-returns
-unfolding spinOf
+unfolding spinOf divided
 returns c =
     let start = c .before .before in
-    let quotient = c .before .divided in
-    toZ-ofZ (fit w32 (c .clip .result) (c .clip .ok))
-    ∙ c .clip .ensures
-    ∙ ap (clipZ 4096) (toZ-ofZ (fit w32 (quotient .result) (quotient .ok)) ∙ quotient .ensures ∙ ap₂ (λ t d. divided t (natAbs d)) (toZ-ofZ (start .fits .total)) (degree-is start))
+    let clipped = c .before .clip-to in
+    toZ-ofZ (fit w32 (c .divided .result) (c .divided .ok))
+    ∙ c .divided .ensures
+    ∙ ap₂ (λ t d. divided t (natAbs d))
+    (toZ-ofZ (fit w32 (clipped .result) (clipped .ok)) ∙ clipped .ensures ∙ ap₂ (λ x l. clipZ (natAbs l) x) (toZ-ofZ (start .fits .total)) (most-is start))
+    (degree-is start)
+    ∙ clip-first 4096 (start .args .degree) (start .args .total) (start .pre)
 
 pub spin-of-spec : {M : Type 1} → statement M
-spin-of-spec = tie.close (tie.spec cast-divided divided-requires clip-requires returns)
+spin-of-spec =
+    tie.close
+    (tie.spec mul-most cast-clip-to clip-to-requires cast-divided divided-requires returns)

@@ -1,9 +1,10 @@
 -- `Scan::with` meets its contract. Assumes nothing.
-use mathlib.Core.Path.{_≡_, sym, _∙_, ap}
-use Prim.Native.Nat.{_≤_, _*_, _^_}
+use mathlib.Core.Path.{_≡_, _∙_, ap}
+use Prim.Native.Nat.{_*_, _^_}
 use native.Mathlib.Omega.{arith}
+use lib.IntN.{pos}
 use mir.Syntax.{w32}
-use mir.Val.{SFits, toZ, ofZ}
+use mir.Val.{SFits}
 use mir.Facts.{toZ-ofZ}
 use borrow.Author.Needs.{needs}
 use Rattle.integers.specs.Linear.{up}
@@ -11,7 +12,7 @@ use Rattle.integers.specs.Machine.{fit}
 use Rattle.rules.specs.Limits.{unit}
 use Rattle.rules.specs.Mask.{digit}
 use Rattle.rules.specs.Cut.{isNeg}
-use Rattle.cut.proofs.ValueLaws.{bit-above, up-most}
+use Rattle.cut.proofs.ValueLaws.{bit-above, up-mono}
 use Rattle.cut.proofs.ScanLaws.{with-higher, with-other}
 use Rattle.cut.proofs.scan.Scan.with.Statement.{statement}
 use Rattle.cut.proofs.scan.Scan.with.Tie as tie
@@ -36,21 +37,21 @@ room-is c = c .above .ensures ∙ ap up (toZ-ofZ (c .before .before .before .fit
 add-room : tie.Need-add-room
 add-room c =
     let start = c .before .before .before .before in
-    omega (arith, start .pre, room-is (c .before), up-most (start .args .h) unit (start .pre .3))
+    omega (arith, start .pre, room-is (c .before), up-mono (start .args .h) (pos unit) (start .pre .3))
 
 returns : tie.Need-returns
 returns c =
-    let start = c .before .before .before .before .before .before .before in
+    let start = c .before .before .before .before .before .before in
     let top : SFits w32 (start .args .self .top) = fit w32 (start .args .self .top) (search) in
-    with-higher (start .args .self) (start .args .x) (start .args .h) (start .args .k) _ _ (bit-is (c .before .before .before .before .before .before)) (room-is (c .before .before .before .before)) _ _ (toZ-ofZ top)
+    with-higher (start .args .self) (start .args .x) (start .args .h) (start .args .k) _ _ (bit-is (c .before .before .before .before .before)) (room-is (c .before .before .before)) _ _ (toZ-ofZ top)
     (toZ-ofZ (start .fits .h)) (c .if1 .taken)
 
 returns-2 : tie.Need-returns-2
 returns-2 c =
-    let start = c .before .before .before .before .before .before .before .before in
+    let start = c .before .before .before .before .before .before in
     let top : SFits w32 (start .args .self .top) = fit w32 (start .args .self .top) (search) in
-    with-other (start .args .self) (start .args .x) (start .args .h) (start .args .k) _ _ (bit-is (c .before .before .before .before .before .before .before)) (room-is (c .before .before .before .before .before)) _ _ (toZ-ofZ top)
-    (toZ-ofZ (start .fits .h)) (c .before .if1 .left)
+    with-other (start .args .self) (start .args .x) (start .args .h) (start .args .k) _ _ (bit-is (c .before .before .before .before .before)) (room-is (c .before .before .before)) _ _ (toZ-ofZ top)
+    (toZ-ofZ (start .fits .h)) (c .if1 .left)
 
 pub with-spec : {M : Type 1} → statement M
 with-spec =

@@ -1,0 +1,105 @@
+-- `first_step` meets its contract: either step is enough. Assumes nothing.
+use mathlib.Core.Path.{_≡_, sym, _∙_, ap, subst}
+use Prim.Native.Nat.{_+_, _-_, _/_, _≤_, _<_}
+use native.Mathlib.Omega.{arith}
+use lib.IntN.{pos, natAbs, _-ℤ_}
+use lib.Signed.{_≤ℤ_}
+use lib.ListN.{length}
+use mir.Syntax.{w32}
+use mir.Val.{SFits, toZ, ofZ}
+use mir.Facts.{toZ-ofZ}
+use borrow.Author.Needs.{needs}
+use Rattle.integers.specs.Machine.{fit, to-unsigned}
+use Rattle.integers.specs.Sum.{sumZ}
+use Rattle.decoder.specs.Lifted.{sumAt}
+use Rattle.decoder.proofs.MultiplierLaws.{level-met, together-fits, start-fits, start-most, natural}
+use Rattle.decoder.proofs.multiplier.first_step.Statement.{statement}
+use Rattle.decoder.proofs.multiplier.first_step.Tie as tie
+
+cast-d : tie.Need-cast-d
+cast-d c = search needs
+
+mul-together : tie.Need-mul-together
+mul-together c = search needs
+
+sum-of-requires : tie.Need-sum-of-requires
+sum-of-requires c κs = search needs
+
+-- what all heights lack together
+lack-is : (c : tie.After-sum-of) → pos 8192 -ℤ toZ w32 (ofZ w32 (c .sum-of .result)) ≡ pos 8192 -ℤ sumZ (c .before .args .heights .now)
+lack-is c = ap (λ z. pos 8192 -ℤ z) (toZ-ofZ (fit w32 (c .sum-of .result) (c .sum-of .ok)) ∙ c .sum-of .ensures)
+
+lack-fits : (c : tie.After-sum-of)
+    → SFits w32 (pos 8192 -ℤ sumZ (c .before .args .heights .now)) × (pos 0 ≤ℤ (pos 8192 -ℤ sumZ (c .before .args .heights .now))) × (natAbs (pos 8192 -ℤ sumZ (c .before .args .heights .now)) ≤ 268443648)
+lack-fits c = together-fits (c .before .args .heights .now) (c .before .pre .few) (c .before .pre .small) (c .before .pre .short)
+
+sub-together : tie.Need-sub-together
+sub-together c = subst (SFits w32) (sym (lack-is c)) (lack-fits c .0)
+
+together-is : (c : tie.After-sum-of) → toZ w32 (ofZ w32 (pos 8192 -ℤ toZ w32 (ofZ w32 (c .sum-of .result)))) ≡ pos 8192 -ℤ sumZ (c .before .args .heights .now)
+together-is c = toZ-ofZ (sub-together c) ∙ lack-is c
+
+cast-together : tie.Need-cast-together
+cast-together c = to-unsigned tt (sub-together c) (subst (λ z. pos 0 ≤ℤ z) (sym (lack-is c)) (lack-fits c .1))
+
+mul-alone : tie.Need-mul-alone
+mul-alone c = search needs
+
+-- what the greatest lacks
+top-lacks : (c : tie.After-sum-of) → pos 8192 -ℤ toZ w32 (ofZ w32 (c .before .args .top)) ≡ pos 8192 -ℤ c .before .args .top
+top-lacks c = ap (λ z. pos 8192 -ℤ z) (toZ-ofZ (c .before .fits .top))
+
+sub-alone : tie.Need-sub-alone
+sub-alone c = subst (SFits w32) (sym (top-lacks c)) (start-fits (c .before .args .top) (c .before .pre .low) (c .before .pre .high) .0)
+
+alone-is : (c : tie.After-sum-of) → natAbs (pos 8192 -ℤ c .before .args .top) ≡ natAbs (toZ w32 (ofZ w32 (pos 8192 -ℤ toZ w32 (ofZ w32 (c .before .args .top)))))
+alone-is c = ap natAbs (sym (toZ-ofZ (sub-alone c) ∙ top-lacks c))
+
+alone-most : (c : tie.After-sum-of) → natAbs (toZ w32 (ofZ w32 (pos 8192 -ℤ toZ w32 (ofZ w32 (c .before .args .top))))) ≤ 8388608
+alone-most c = subst (λ n. n ≤ 8388608) (alone-is c) (start-most (c .before .args .top) (c .before .pre .low) (c .before .pre .high))
+
+cast-alone : tie.Need-cast-alone
+cast-alone c = to-unsigned tt (sub-alone c) (subst (λ z. pos 0 ≤ℤ z) (sym (top-lacks c)) (start-fits (c .before .args .top) (c .before .pre .low) (c .before .pre .high) .1))
+
+sub-level : tie.Need-sub-level
+sub-level c = search needs
+
+add-level : tie.Need-add-level
+add-level c =
+    let small = subst (λ n. n ≤ 268443648) (ap natAbs (sym (together-is c))) (lack-fits c .2) in
+    record { fits = omega (arith, small, c .before .pre .few) }
+
+div-level : tie.Need-div-level
+div-level c = search needs
+
+returns : tie.Need-returns
+returns c =
+    let a = c .before .before .args in
+    let lack = pos 8192 -ℤ sumZ (a .heights .now) in (
+      omega (arith, alone-most (c .before)),
+      subst (λ n. 8192 ≤ sumAt (a .heights .now) ((n + (length (a .heights .now) - 1)) / length (a .heights .now))) (ap natAbs (sym (together-is (c .before))))
+          (level-met (a .heights .now) (natAbs lack) (c .before .before .pre .some) (natural lack (lack-fits (c .before) .1))),
+    )
+
+returns-2 : tie.Need-returns-2
+returns-2 c =
+    let start = c .before .before in
+    (alone-most (c .before), subst (λ n. 8192 ≤ sumAt (start .args .heights .now) n) (alone-is (c .before)) (start .pre .met))
+
+pub first-step-spec : {M : Type 1} → statement M
+first-step-spec =
+    tie.close
+    (tie.spec
+    cast-d
+    mul-together
+    sum-of-requires
+    sub-together
+    cast-together
+    mul-alone
+    sub-alone
+    cast-alone
+    sub-level
+    add-level
+    div-level
+    returns
+    returns-2)

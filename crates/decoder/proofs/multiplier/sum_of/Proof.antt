@@ -1,0 +1,88 @@
+-- `sum_of` meets its contract: the sum of the first i heights. Assumes nothing.
+use mathlib.Core.Path.{_≡_, refl, sym, _∙_, ap, ap₂, subst}
+use Prim.Native.Nat.{_+_, _*_, _-_, _≤_, _<_}
+use native.Mathlib.Omega.{arith}
+use lib.IntN.{ℤ, pos, _+ℤ_}
+use lib.ListN.{length, take}
+use lib.Seq.{take-all}
+use mir.Syntax.{w32}
+use mir.Val.{SFits, toZ, ofZ}
+use mir.Facts.{toZ-ofZ}
+use Rattle.integers.specs.Linear.{Within}
+use Rattle.integers.specs.Machine.{fit}
+use Rattle.integers.specs.Sum.{sumZ, sum-take}
+use Rattle.rules.specs.Table.{at}
+use Rattle.rules.proofs.Optimal.{within-at}
+use Rattle.decoder.proofs.MultiplierLaws.{sum-next}
+use Rattle.decoder.proofs.multiplier.sum_of.Statement.{statement}
+use Rattle.decoder.proofs.multiplier.sum_of.Tie as tie
+
+abbrev Inv-loop : tie.InvT-loop
+Inv-loop heights sum₀ i₀ sum i = (i ≤ length heights) × (toZ w32 sum ≡ sumZ (take i heights)) × Within (8388608 * i) (toZ w32 sum)
+
+abbrev μ-loop : tie.MeasureT-loop
+μ-loop heights sum₀ i₀ sum i = length heights - i
+
+loop-holds : tie.Need-loop-holds Inv-loop μ-loop
+loop-holds c = (omega arith, refl, record { hi = omega arith; lo = omega arith })
+
+mul-sum : tie.Need-mul-sum Inv-loop μ-loop
+mul-sum c = omega arith
+
+shared-slice-copy-out-sum : tie.Need-shared-slice-copy-out-sum Inv-loop μ-loop
+shared-slice-copy-out-sum c = omega arith
+
+-- the sum and the height that was read
+next-is : (c : tie.After-sum Inv-loop μ-loop) → toZ w32 (c .before .before .loop .sum) +ℤ toZ w32 (ofZ w32 (at (c .before .before .before .args .heights .now) (c .before .before .loop .i)))
+    ≡ toZ w32 (c .before .before .loop .sum) +ℤ at (c .before .before .before .args .heights .now) (c .before .before .loop .i)
+next-is c =
+    let a = c .before .before .before .args in
+    let l = c .before .before .loop in
+    ap (λ z. toZ w32 (l .sum) +ℤ z) (toZ-ofZ (fit w32 (at (a .heights .now) (l .i)) (c .sum .given)))
+
+next : (c : tie.After-sum Inv-loop μ-loop) → SFits w32 (toZ w32 (c .before .before .loop .sum) +ℤ at (c .before .before .before .args .heights .now) (c .before .before .loop .i))
+    × Within (8388608 * (c .before .before .loop .i + 1)) (toZ w32 (c .before .before .loop .sum) +ℤ at (c .before .before .before .args .heights .now) (c .before .before .loop .i))
+next c =
+    let start = c .before .before .before in
+    let l = c .before .before .loop in
+    sum-next (l .i) (toZ w32 (l .sum)) (at (start .args .heights .now) (l .i)) (omega (arith, start .pre .0)) (l .inv .2) (within-at 8388608 (start .args .heights .now) (start .pre .1) (l .i))
+
+add-sum : tie.Need-add-sum Inv-loop μ-loop
+add-sum c = subst (SFits w32) (sym (next-is c)) (next c .0)
+
+add-i : tie.Need-add-i Inv-loop μ-loop
+add-i c = omega arith
+
+loop-less : tie.Need-loop-less Inv-loop μ-loop
+loop-less c = omega arith
+
+loop-again : tie.Need-loop-again Inv-loop μ-loop
+loop-again c =
+    let a = c .before .before .before .args in
+    let l = c .before .before .loop in
+    let e = toZ-ofZ (add-sum c) ∙ next-is c in (
+      omega arith,
+      e ∙ ap (λ z. z +ℤ at (a .heights .now) (l .i)) (l .inv .1) ∙ sym (sum-take (a .heights .now) (l .i) (omega arith)),
+      subst (Within (8388608 * (l .i + 1))) (sym e) (next c .1),
+    )
+
+returns : tie.Need-returns Inv-loop μ-loop
+returns c =
+    let a = c .before .before .args in
+    let l = c .before .loop in
+    l .inv .1 ∙ ap sumZ (take-all (l .i) (a .heights .now) (omega arith))
+
+pub sum-of-spec : {M : Type 1} → statement M
+sum-of-spec =
+    tie.close
+    (tie.spec
+    Inv-loop
+    μ-loop
+    loop-holds
+    mul-sum
+    shared-slice-copy-out-sum
+    add-sum
+    add-i
+    loop-less
+    loop-again
+    returns)
