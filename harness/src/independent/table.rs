@@ -1,0 +1,117 @@
+//! The code file: contents, then bodies (refusals 1 to 7).
+
+use super::limits::{code_length, DEGREE_LIMIT, EDGE_LIMIT, SIZE_LIMIT};
+use crate::decoder::{Refusal, Sizes};
+use std::ops::Range;
+
+pub struct Table {
+    pub bits: usize,
+    /// First edge of each check, and E at the end.
+    starts: Vec<u16>,
+    /// The bit of each edge, check after check.
+    pub members: Vec<u16>,
+    /// The number of edges of each bit.
+    pub degrees: Vec<u16>,
+}
+
+pub fn u16_at(bytes: &[u8], place: usize) -> u16 {
+    u16::from_le_bytes([bytes[place], bytes[place + 1]])
+}
+
+impl Table {
+    pub fn parse(code: &[u8]) -> Result<Table, Refusal> {
+        let (bits, checks) = sizes(code)?;
+        let contents = code[4..].get(..4 * checks).ok_or(Refusal::FILE_LENGTH)?;
+        let starts = starts(contents)?;
+        let edges = usize::from(starts[checks]);
+        if code.len() != code_length(checks, edges) {
+            return Err(Refusal::FILE_LENGTH);
+        }
+        let bodies = code[4 + 4 * checks..].chunks_exact(2);
+        let members: Vec<u16> = bodies.map(|pair| u16_at(pair, 0)).collect();
+        let mut table = Table { bits, starts, members, degrees: Vec::new() };
+        table.test_members()?;
+        table.count_degrees()?;
+        Ok(table)
+    }
+
+    pub fn checks(&self) -> usize {
+        self.starts.len() - 1
+    }
+
+    pub fn edges(&self) -> usize {
+        self.members.len()
+    }
+
+    pub fn sizes(&self) -> Sizes {
+        Sizes { bits: self.bits as u32, checks: self.checks() as u32, edges: self.edges() as u32 }
+    }
+
+    /// The edges of each check, in order.
+    pub fn rows(&self) -> impl Iterator<Item = Range<usize>> + '_ {
+        self.starts.windows(2).map(|pair| usize::from(pair[0])..usize::from(pair[1]))
+    }
+
+    pub fn row(&self, check: usize) -> Range<usize> {
+        usize::from(self.starts[check])..usize::from(self.starts[check + 1])
+    }
+
+    pub fn members_of(&self, check: usize) -> &[u16] {
+        &self.members[self.row(check)]
+    }
+
+    fn test_members(&self) -> Result<(), Refusal> {
+        for row in self.rows() {
+            let members = &self.members[row];
+            let ascending = members.windows(2).all(|pair| pair[0] < pair[1]);
+            // Ascending members are all below n if the last is.
+            if !ascending || usize::from(members[members.len() - 1]) >= self.bits {
+                return Err(Refusal::FILE_MEMBER);
+            }
+        }
+        Ok(())
+    }
+
+    fn count_degrees(&mut self) -> Result<(), Refusal> {
+        self.degrees = vec![0; self.bits];
+        for &member in &self.members {
+            self.degrees[usize::from(member)] += 1;
+        }
+        let fits = |&degree: &u16| (1..=DEGREE_LIMIT).contains(&usize::from(degree));
+        self.degrees.iter().all(fits).then_some(()).ok_or(Refusal::FILE_BIT)
+    }
+}
+
+fn sizes(code: &[u8]) -> Result<(usize, usize), Refusal> {
+    if code.len() < 4 {
+        return Err(Refusal::FILE_SHORT);
+    }
+    let (bits, checks) = (usize::from(u16_at(code, 0)), usize::from(u16_at(code, 2)));
+    let allowed = 1..=SIZE_LIMIT;
+    if !allowed.contains(&bits) || !allowed.contains(&checks) {
+        return Err(Refusal::FILE_SIZES);
+    }
+    Ok((bits, checks))
+}
+
+/// Every count is tested before any start.
+fn starts(contents: &[u8]) -> Result<Vec<u16>, Refusal> {
+    let count = |entry: &[u8]| usize::from(u16_at(entry, 2));
+    if !contents.chunks_exact(4).all(|entry| (1..=DEGREE_LIMIT).contains(&count(entry))) {
+        return Err(Refusal::FILE_COUNT);
+    }
+    let mut starts = Vec::with_capacity(contents.len() / 4 + 1);
+    let mut next = 0;
+    for entry in contents.chunks_exact(4) {
+        if usize::from(u16_at(entry, 0)) != next {
+            return Err(Refusal::FILE_START);
+        }
+        starts.push(next as u16);
+        next += count(entry);
+        if next > EDGE_LIMIT {
+            return Err(Refusal::FILE_START);
+        }
+    }
+    starts.push(next as u16);
+    Ok(starts)
+}
