@@ -2,9 +2,8 @@
 //! visits each edge once where no parity inequality is violated.
 
 use super::certificate::{bound, cuts, write};
-use super::cut::Sizes;
 use super::input::agreement;
-use super::limits::{DEGREE_LIMIT, ROUND_LIMIT, SIZE_LIMIT, UNIT};
+use super::limits::{DEGREE_LIMIT, FACET, MULTIPLIER_LIMIT, ROUND_LIMIT, SIZE_LIMIT, UNIT};
 use super::multiplier::least;
 use super::table::Table;
 use crate::decoder::{Buffers, Record};
@@ -26,6 +25,18 @@ struct Edges<'a> {
     members: &'a [u16],
     copies: &'a mut [i32],
     offsets: &'a mut [i32],
+}
+
+impl<'a> Edges<'a> {
+    /// The first edges, all of them if there are so many: tells the compiler their number.
+    #[inline(always)]
+    fn first(self, degree: usize) -> Edges<'a> {
+        Edges {
+            members: &self.members[..degree],
+            copies: &mut self.copies[..degree],
+            offsets: &mut self.offsets[..degree],
+        }
+    }
 }
 
 pub fn run(table: &Table, frame: &[i16], mut record: Record, wanted: u32, mut lent: Buffers) -> Record {
@@ -95,69 +106,114 @@ fn pass(table: &Table, bits: &mut Bits, lent: &mut Buffers) -> bool {
             copies: &mut lent.copies[row.clone()],
             offsets: &mut lent.offsets[row],
         };
-        (*multiplier, *mask) = relax(bits, edges, &mut broken);
+        let (b, cut) = relax_unrolled(bits, edges, *multiplier, &mut broken);
+        (*multiplier, *mask) = (b as u32, cut);
     }
     broken >= 0
 }
 
-/// One check: clips as if there were no cut, and corrects if there is one. The sign of `broken` becomes
-/// negative if the spins have an odd number of ones here.
+/// `relax`, with loops of known length for the usual degrees.
 #[inline(always)]
-fn relax(bits: &mut Bits, edges: Edges, broken: &mut i32) -> (u32, u32) {
-    let (mut sum, mut least, mut signs, mut spin_signs) = (0, UNIT, 0, 0);
-    let members = edges.members.iter();
-    for ((&member, z), y) in members.zip(edges.copies.iter_mut()).zip(edges.offsets.iter_mut()) {
-        let spin = bits.spins[place(member)];
-        let v = spin + *y;
-        let clipped = v.clamp(-UNIT, UNIT);
-        sum += clipped.abs();
-        least = least.min(clipped.abs());
-        signs ^= v;
-        spin_signs ^= spin;
-        *z = clipped;
-        *y = v - clipped;
-        bits.totals[place(member)] += 2 * clipped - v;
-    }
-    *broken |= spin_signs;
-    let sizes = Sizes { sum, least, odd: signs < 0, degree: edges.members.len() as i32 };
-    if sizes.has_cut() {
-        cut(bits, edges, &sizes)
-    } else {
-        (0, 0)
+fn relax_unrolled(bits: &mut Bits, edges: Edges, guess: u32, broken: &mut i32) -> (i32, u32) {
+    match edges.members.len() {
+        3 => relax(bits, edges.first(3), guess, broken),
+        4 => relax(bits, edges.first(4), guess, broken),
+        5 => relax(bits, edges.first(5), guess, broken),
+        6 => relax(bits, edges.first(6), guess, broken),
+        7 => relax(bits, edges.first(7), guess, broken),
+        8 => relax(bits, edges.first(8), guess, broken),
+        _ => relax(bits, edges, guess, broken),
     }
 }
 
-/// Moves the clipped copies of a check with a cut onto its facet.
-fn cut(bits: &mut Bits, edges: Edges, sizes: &Sizes) -> (u32, u32) {
-    let mut heights = [0; DEGREE_LIMIT];
-    let heights = &mut heights[..edges.members.len()];
-    let (mut mask, mut nearest, mut sum) = (0, 0, 0);
-    for (k, ((z, y), g)) in edges.copies.iter().zip(edges.offsets.iter()).zip(heights.iter_mut()).enumerate() {
-        let v = z + y;
-        mask |= u32::from(v < 0) << k;
-        nearest = if v.abs() == sizes.least { k } else { nearest };
-        *g = UNIT - v.abs();
-        sum += *g;
+/// One check: answers its multiplier and mask. `guess` is any number, best the last round's multiplier.
+/// The sign of `broken` becomes negative if the spins have an odd number of ones here.
+#[inline(always)]
+fn relax(bits: &mut Bits, mut edges: Edges, guess: u32, broken: &mut i32) -> (i32, u32) {
+    let degree = edges.members.len();
+    let mut values = [0; DEGREE_LIMIT];
+    let values = &mut values[..degree];
+    let seen = look(bits, &edges, values, guess);
+    *broken |= seen.spin_signs;
+    let odd = seen.signs < 0;
+    let change = if odd { 0 } else { 2 * seen.least };
+    if seen.room + change >= FACET {
+        store(bits, &mut edges, values, 0);
+        return (0, 0);
     }
-    if !sizes.odd {
-        // The member nearest to 0 changes sides. Its value is not clipped, or there would be no cut.
-        mask ^= 1 << nearest;
-        heights[nearest] += 2 * sizes.least;
-        sum += 2 * sizes.least;
+    let b = least(values, change, seen.kept, seen.kept_room);
+    store(bits, &mut edges, values, b);
+    if odd {
+        return (b, seen.negative);
     }
-    let multiplier = least(heights, sum);
-    let members = edges.members.iter();
-    let values = members.zip(edges.copies.iter_mut()).zip(edges.offsets.iter_mut());
-    for (k, (((&member, z), y), &g)) in values.zip(heights.iter()).enumerate() {
-        let side = -((mask >> k & 1) as i32);
-        let inward = UNIT - (g + multiplier).max(0);
-        let moved = (inward ^ side) - side;
-        let change = moved - *z;
-        *z = moved;
-        *y -= change;
-        bits.totals[place(member)] += 2 * change;
+    change_sides(bits, &mut edges, seen.nearest, seen.least, b);
+    (b, seen.negative ^ 1 << seen.nearest)
+}
+
+/// What one look at a check's values tells.
+struct Seen {
+    /// Sum of U − |v| over the members with |v| below U.
+    room: i32,
+    /// The least |v|, and its place.
+    least: i32,
+    nearest: usize,
+    /// The members with v below 0.
+    negative: u32,
+    /// Negative if an odd number of the values is, and of the spins.
+    signs: i32,
+    spin_signs: i32,
+    /// Number of members with |v| below U + guess, and the sum of their U − |v|.
+    kept: i32,
+    kept_room: i32,
+}
+
+/// Works out v = spin + y. From the last member to the first, so that the mask comes out in order.
+#[inline(always)]
+fn look(bits: &Bits, edges: &Edges, values: &mut [i32], guess: u32) -> Seen {
+    let reach = -(guess.min(MULTIPLIER_LIMIT) as i32);
+    let (mut room, mut least, mut nearest, mut negative) = (0, i32::MAX, 0, 0);
+    let (mut signs, mut spin_signs, mut kept, mut kept_room) = (0, 0, 0, 0);
+    for k in (0..values.len()).rev() {
+        let spin = bits.spins[place(edges.members[k])];
+        let v = spin + edges.offsets[k];
+        values[k] = v;
+        let height = UNIT - v.abs();
+        room += height.max(0);
+        (least, nearest) = if v.abs() < least { (v.abs(), k) } else { (least, nearest) };
+        negative = negative << 1 | v as u32 >> 31;
+        signs ^= v;
+        spin_signs ^= spin;
+        let keeps = height > reach;
+        kept += i32::from(keeps);
+        kept_room += if keeps { height } else { 0 };
     }
-    (multiplier as u32, mask)
+    Seen { room, least, nearest, negative, signs, spin_signs, kept, kept_room }
+}
+
+/// Moves every value by b toward 0 and beyond, and stores copies, offsets and totals. A clip is the
+/// case b = 0.
+#[inline(always)]
+fn store(bits: &mut Bits, edges: &mut Edges, values: &[i32], b: i32) {
+    for (k, &v) in values.iter().enumerate() {
+        let side = v >> 31;
+        let inward = UNIT - (UNIT - v.abs() + b).max(0);
+        let z = (inward ^ side) - side;
+        let y = v - z;
+        edges.copies[k] = z;
+        edges.offsets[k] = y;
+        bits.totals[place(edges.members[k])] += z - y;
+    }
+}
+
+/// The member nearest to 0 moves the other way. Its |v| is below U, or there would be no cut.
+#[inline(always)]
+fn change_sides(bits: &mut Bits, edges: &mut Edges, k: usize, size: i32, b: i32) {
+    let v = edges.copies[k] + edges.offsets[k];
+    let z = if v < 0 { -size - b } else { size + b };
+    let y = v - z;
+    bits.totals[place(edges.members[k])] += 2 * (z - edges.copies[k]);
+    edges.copies[k] = z;
+    edges.offsets[k] = y;
 }
 
 /// Whether this round's multipliers prove the candidate; if so, word and certificate are written.

@@ -1,9 +1,11 @@
 //! The multiplier of a check with a cut, by projection onto a simplex.
 //!
-//! With g = U + v on the cut's set and U − v elsewhere, the inequality after the step by b reads
-//! Σ max(g + b, 0) ≥ 2U: the upper clip never matters, since one member that reaches 2U meets it alone.
+//! On the cut's set v is negative and elsewhere it is not, but for the member nearest to 0 if that
+//! changed sides. So the inequality after the step by b reads Σ max(U − |v| + b, 0) + change ≥ 2U, where
+//! change is twice the least |v| or nothing: the upper clip never matters, since one member that
+//! reaches 2U meets it alone.
 
-use super::limits::{DEGREE_LIMIT, FACET};
+use super::limits::{DEGREE_LIMIT, FACET, MULTIPLIER_LIMIT, UNIT};
 
 /// Shift of the reciprocals below: a lack is below 2^29 and a count at most 2^5.
 const SHIFT: u32 = 34;
@@ -25,25 +27,36 @@ fn rounded_up(lack: i32, count: i32) -> i32 {
     ((raised * RECIPROCALS[count as usize & (2 * DEGREE_LIMIT - 1)]) >> SHIFT) as i32
 }
 
-/// The least b with Σ max(g + b, 0) ≥ 2U, for `sum` the sum of all g, below 2U.
+/// The least b with Σ max(U − |v| + b, 0) + change ≥ 2U, for a check with a cut.
 ///
-/// A member with g + b ≤ 0 at a b that suffices adds nothing at the least b, so it is dropped for good;
-/// the b at which none is dropped is the least.
+/// Every set of members gives a b that suffices. Those with U − |v| + b ≤ 0 there add nothing at the
+/// least b, and the set without them gives a b no greater; where the set stays the same, b is the least.
+/// `count` and `room` (the sum of U − |v|) are of any set {|v| < U + guess} to begin with; a good guess
+/// saves steps.
 #[inline(always)]
-pub fn least(heights: &[i32], sum: i32) -> i32 {
-    let mut count = heights.len() as i32;
-    let mut b = rounded_up(FACET - sum, count);
+pub fn least(values: &[i32], change: i32, mut count: i32, mut room: i32) -> i32 {
+    if count == 0 {
+        (count, room) = kept(values, MULTIPLIER_LIMIT as i32);
+    }
     loop {
-        let (mut kept, mut kept_sum) = (0, 0);
-        for &g in heights {
-            let keeps = g + b > 0;
-            kept += i32::from(keeps);
-            kept_sum += if keeps { g } else { 0 };
-        }
-        if kept == count {
+        let b = rounded_up(FACET - change - room, count);
+        let before = count;
+        (count, room) = kept(values, b);
+        if count == before {
             return b;
         }
-        count = kept;
-        b = rounded_up(FACET - kept_sum, count);
     }
+}
+
+/// The members with U − |v| + b above 0: their number, and the sum of U − |v|.
+#[inline(always)]
+fn kept(values: &[i32], b: i32) -> (i32, i32) {
+    let (mut count, mut room) = (0, 0);
+    for v in values {
+        let height = UNIT - v.abs();
+        let keeps = height > -b;
+        count += i32::from(keeps);
+        room += if keeps { height } else { 0 };
+    }
+    (count, room)
 }

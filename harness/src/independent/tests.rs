@@ -155,9 +155,11 @@ fn projection_is_the_least_multiplier() {
         let mask = mask_of(values.iter().map(|v| *v.clamp(&-UNIT, &UNIT)));
         if mask != 0 {
             cuts += 1;
-            let height = |k: usize| UNIT + if mask >> k & 1 == 1 { values[k] } else { -values[k] };
-            let heights: Vec<i32> = (0..degree).map(height).collect();
-            let b = least(&heights, heights.iter().sum());
+            let negative = values.iter().filter(|v| **v < 0).count();
+            let nearest = values.iter().map(|v| v.abs()).min().unwrap();
+            let change = if negative % 2 == 0 { 2 * nearest } else { 0 };
+            let all = values.iter().map(|v| UNIT - v.abs()).sum();
+            let b = least(&values, change, degree as i32, all);
             assert_eq!(b, least_multiplier(&values, mask), "{values:?}");
         }
     }
