@@ -3,8 +3,8 @@
 
 use super::certificate::{bound, cuts, write};
 use super::input::agreement;
-use super::limits::{DEGREE_LIMIT, FACET, MULTIPLIER_LIMIT, ROUND_LIMIT, SIZE_LIMIT, UNIT};
-use super::multiplier::least;
+use super::limits::{DEGREE_LIMIT, ROUND_LIMIT, SIZE_LIMIT, UNIT};
+use super::multiplier::{least, MEMBER};
 use super::table::Table;
 use crate::decoder::{Buffers, Record};
 
@@ -17,26 +17,21 @@ struct Bits {
     totals: [i32; SIZE_LIMIT],
     spins: [i32; SIZE_LIMIT],
     /// ⌊2^SHIFT / degree⌋ + 1.
-    reciprocals: [i32; SIZE_LIMIT],
+    reciprocals: [u32; SIZE_LIMIT],
 }
 
-/// One check's edges.
-struct Edges<'a> {
-    members: &'a [u16],
-    copies: &'a mut [i32],
-    offsets: &'a mut [i32],
-}
-
-impl<'a> Edges<'a> {
-    /// The first edges, all of them if there are so many: tells the compiler their number.
-    #[inline(always)]
-    fn first(self, degree: usize) -> Edges<'a> {
-        Edges {
-            members: &self.members[..degree],
-            copies: &mut self.copies[..degree],
-            offsets: &mut self.offsets[..degree],
+/// Calls a method for a constant degree, so that its loops have a known length.
+macro_rules! with_degree {
+    ($degree:expr, $part:ident.$method:ident($($argument:expr),*)) => {
+        with_degree!(@ $degree, $part, $method, ($($argument),*),
+            1 2 3 4 5 6 7 8 9 10 11 12 13 14 15 16 17 18 19 20 21 22 23 24 25 26 27 28 29 30 31 32)
+    };
+    (@ $degree:expr, $part:ident, $method:ident, $arguments:tt, $($d:literal)*) => {
+        match $degree {
+            $($d => $part.$method::<$d> $arguments,)*
+            _ => unreachable!("a degree is from 1 to {DEGREE_LIMIT}"),
         }
-    }
+    };
 }
 
 pub fn run(table: &Table, frame: &[i16], mut record: Record, wanted: u32, mut lent: Buffers) -> Record {
@@ -67,9 +62,9 @@ fn place(member: u16) -> usize {
 impl Bits {
     fn new(table: &Table, frame: &[i16], copies: &[i32], offsets: &[i32]) -> Bits {
         let zero = [0; SIZE_LIMIT];
-        let mut bits = Bits { totals: zero, spins: zero, reciprocals: zero };
+        let mut bits = Bits { totals: zero, spins: zero, reciprocals: [0; SIZE_LIMIT] };
         for (reciprocal, &degree) in bits.reciprocals.iter_mut().zip(&table.degrees) {
-            *reciprocal = (1 << SHIFT) / i32::from(degree) + 1;
+            *reciprocal = (1 << SHIFT) / u32::from(degree) + 1;
         }
         for (total, &l) in bits.totals.iter_mut().zip(frame) {
             *total = i32::from(l);
@@ -85,11 +80,11 @@ impl Bits {
         let mut no_zero = true;
         let bits = self.totals.iter_mut().zip(&mut self.spins).zip(&self.reciprocals).zip(frame);
         for (((total, spin), &reciprocal), &l) in bits {
-            let below = (i64::from(*total) * i64::from(reciprocal)) >> SHIFT;
-            // The product is off upward in size, so a negative one is always cut to one below.
-            let toward_zero = below as i32 + i32::from(*total < 0);
-            *spin = toward_zero.clamp(-UNIT, UNIT);
-            no_zero &= *spin != 0;
+            let size = (u64::from(total.unsigned_abs()) * u64::from(reciprocal)) >> SHIFT;
+            let clipped = (size as i32).min(UNIT);
+            let side = *total >> 31;
+            *spin = (clipped ^ side) - side;
+            no_zero &= clipped != 0;
             *total = i32::from(l);
         }
         no_zero
@@ -99,121 +94,118 @@ impl Bits {
 /// Steps 2 and 3 on all checks. Answers whether the spins' signs meet them all.
 fn pass(table: &Table, bits: &mut Bits, lent: &mut Buffers) -> bool {
     let mut broken = 0;
-    let results = lent.multipliers.iter_mut().zip(lent.masks.iter_mut());
-    for (row, (multiplier, mask)) in table.rows().zip(results) {
-        let edges = Edges {
-            members: &table.members[row.clone()],
-            copies: &mut lent.copies[row.clone()],
-            offsets: &mut lent.offsets[row],
+    for run in &table.runs {
+        let part = Part {
+            members: &table.members[run.edges.clone()],
+            copies: &mut lent.copies[run.edges.clone()],
+            offsets: &mut lent.offsets[run.edges.clone()],
+            multipliers: &mut lent.multipliers[run.checks.clone()],
+            masks: &mut lent.masks[run.checks.clone()],
         };
-        let (b, cut) = relax_unrolled(bits, edges, *multiplier, &mut broken);
-        (*multiplier, *mask) = (b as u32, cut);
+        broken |= with_degree!(run.degree(), part.relax(bits));
     }
     broken >= 0
 }
 
-/// `relax`, with loops of known length for the usual degrees.
-#[inline(always)]
-fn relax_unrolled(bits: &mut Bits, edges: Edges, guess: u32, broken: &mut i32) -> (i32, u32) {
-    match edges.members.len() {
-        3 => relax(bits, edges.first(3), guess, broken),
-        4 => relax(bits, edges.first(4), guess, broken),
-        5 => relax(bits, edges.first(5), guess, broken),
-        6 => relax(bits, edges.first(6), guess, broken),
-        7 => relax(bits, edges.first(7), guess, broken),
-        8 => relax(bits, edges.first(8), guess, broken),
-        _ => relax(bits, edges, guess, broken),
-    }
+/// The checks of a run of equal degrees, and their edges.
+struct Part<'a> {
+    members: &'a [u16],
+    copies: &'a mut [i32],
+    offsets: &'a mut [i32],
+    multipliers: &'a mut [u32],
+    masks: &'a mut [u32],
 }
 
-/// One check: answers its multiplier and mask. `guess` is any number, best the last round's multiplier.
-/// The sign of `broken` becomes negative if the spins have an odd number of ones here.
-#[inline(always)]
-fn relax(bits: &mut Bits, mut edges: Edges, guess: u32, broken: &mut i32) -> (i32, u32) {
-    let degree = edges.members.len();
-    let mut values = [0; DEGREE_LIMIT];
-    let values = &mut values[..degree];
-    let seen = look(bits, &edges, values, guess);
-    *broken |= seen.spin_signs;
-    let odd = seen.signs < 0;
-    let change = if odd { 0 } else { 2 * seen.least };
-    if seen.room + change >= FACET {
-        store(bits, &mut edges, values, 0);
-        return (0, 0);
+impl Part<'_> {
+    /// Answers a negative number if the spins have an odd number of ones on some check.
+    fn relax<const D: usize>(self, bits: &mut Bits) -> i32 {
+        let mut broken = 0;
+        let members = self.members.as_chunks::<D>().0.iter();
+        let copies = self.copies.as_chunks_mut::<D>().0.iter_mut();
+        let offsets = self.offsets.as_chunks_mut::<D>().0.iter_mut();
+        let cuts = self.multipliers.iter_mut().zip(self.masks);
+        for (((members, copies), offsets), (multiplier, mask)) in members.zip(copies).zip(offsets).zip(cuts) {
+            let seen = look(bits, members, offsets);
+            broken |= seen.spin_signs;
+            // The last round's multiplier is mostly near.
+            let b = least(&seen.shares, seen.change(), *multiplier);
+            let turned = seen.turned();
+            move_copies(bits, members, copies, offsets, &seen, b, turned);
+            *multiplier = b as u32;
+            *mask = if b == 0 { 0 } else { seen.negative ^ turned };
+        }
+        broken
     }
-    let b = least(values, change, seen.kept, seen.kept_room);
-    store(bits, &mut edges, values, b);
-    if odd {
-        return (b, seen.negative);
-    }
-    change_sides(bits, &mut edges, seen.nearest, seen.least, b);
-    (b, seen.negative ^ 1 << seen.nearest)
 }
 
 /// What one look at a check's values tells.
-struct Seen {
-    /// Sum of U − |v| over the members with |v| below U.
-    room: i32,
-    /// The least |v|, and its place.
-    least: i32,
-    nearest: usize,
+struct Seen<const D: usize> {
+    values: [i32; D],
+    /// U − |v|, and a member each.
+    shares: [i64; D],
+    /// The least |v|, times 32, plus its place.
+    nearest: u32,
     /// The members with v below 0.
     negative: u32,
     /// Negative if an odd number of the values is, and of the spins.
     signs: i32,
     spin_signs: i32,
-    /// Number of members with |v| below U + guess, and the sum of their U − |v|.
-    kept: i32,
-    kept_room: i32,
 }
 
 /// Works out v = spin + y. From the last member to the first, so that the mask comes out in order.
 #[inline(always)]
-fn look(bits: &Bits, edges: &Edges, values: &mut [i32], guess: u32) -> Seen {
-    let reach = -(guess.min(MULTIPLIER_LIMIT) as i32);
-    let (mut room, mut least, mut nearest, mut negative) = (0, i32::MAX, 0, 0);
-    let (mut signs, mut spin_signs, mut kept, mut kept_room) = (0, 0, 0, 0);
-    for k in (0..values.len()).rev() {
-        let spin = bits.spins[place(edges.members[k])];
-        let v = spin + edges.offsets[k];
+fn look<const D: usize>(bits: &Bits, members: &[u16; D], offsets: &[i32; D]) -> Seen<D> {
+    let (mut nearest, mut negative, mut signs, mut spin_signs) = (u32::MAX, 0, 0, 0);
+    let (mut values, mut shares) = ([0; D], [0; D]);
+    for k in (0..D).rev() {
+        let spin = bits.spins[place(members[k])];
+        let v = spin + offsets[k];
         values[k] = v;
-        let height = UNIT - v.abs();
-        room += height.max(0);
-        (least, nearest) = if v.abs() < least { (v.abs(), k) } else { (least, nearest) };
+        shares[k] = i64::from(UNIT - v.abs()) + MEMBER;
+        nearest = nearest.min(v.unsigned_abs() << 5 | k as u32);
         negative = negative << 1 | v as u32 >> 31;
         signs ^= v;
         spin_signs ^= spin;
-        let keeps = height > reach;
-        kept += i32::from(keeps);
-        kept_room += if keeps { height } else { 0 };
     }
-    Seen { room, least, nearest, negative, signs, spin_signs, kept, kept_room }
+    Seen { values, shares, nearest, negative, signs, spin_signs }
 }
 
-/// Moves every value by b toward 0 and beyond, and stores copies, offsets and totals. A clip is the
-/// case b = 0.
+impl<const D: usize> Seen<D> {
+    /// What the member that changes sides adds to the inequality's left side.
+    #[inline(always)]
+    fn change(&self) -> i32 {
+        (self.nearest >> 5 << 1) as i32 & !(self.signs >> 31)
+    }
+
+    /// The member that changes sides, as a mask.
+    #[inline(always)]
+    fn turned(&self) -> u32 {
+        1 << (self.nearest & 31) & !(self.signs >> 31) as u32
+    }
+}
+
+/// Moves each value toward 0 by b, the turned one away from it, and clips; stores copies, offsets and
+/// totals.
 #[inline(always)]
-fn store(bits: &mut Bits, edges: &mut Edges, values: &[i32], b: i32) {
-    for (k, &v) in values.iter().enumerate() {
+fn move_copies<const D: usize>(
+    bits: &mut Bits,
+    members: &[u16; D],
+    copies: &mut [i32; D],
+    offsets: &mut [i32; D],
+    seen: &Seen<D>,
+    b: i32,
+    turned: u32,
+) {
+    for k in 0..D {
+        let v = seen.values[k];
+        let b = if turned >> k & 1 == 1 { -b } else { b };
         let side = v >> 31;
-        let inward = UNIT - (UNIT - v.abs() + b).max(0);
-        let z = (inward ^ side) - side;
-        let y = v - z;
-        edges.copies[k] = z;
-        edges.offsets[k] = y;
-        bits.totals[place(edges.members[k])] += z - y;
+        let outward = UNIT - (seen.shares[k] as i32 + b).max(0);
+        let z = (outward ^ side) - side;
+        copies[k] = z;
+        offsets[k] = v - z;
+        bits.totals[place(members[k])] += 2 * z - v;
     }
-}
-
-/// The member nearest to 0 moves the other way. Its |v| is below U, or there would be no cut.
-#[inline(always)]
-fn change_sides(bits: &mut Bits, edges: &mut Edges, k: usize, size: i32, b: i32) {
-    let v = edges.copies[k] + edges.offsets[k];
-    let z = if v < 0 { -size - b } else { size + b };
-    let y = v - z;
-    bits.totals[place(edges.members[k])] += 2 * (z - edges.copies[k]);
-    edges.copies[k] = z;
-    edges.offsets[k] = y;
 }
 
 /// Whether this round's multipliers prove the candidate; if so, word and certificate are written.

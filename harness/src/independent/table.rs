@@ -12,6 +12,20 @@ pub struct Table {
     pub members: Vec<u16>,
     /// The number of edges of each bit.
     pub degrees: Vec<u16>,
+    /// The checks, in runs of equal degree.
+    pub runs: Vec<Run>,
+}
+
+/// Checks one after another of equal degree.
+pub struct Run {
+    pub checks: Range<usize>,
+    pub edges: Range<usize>,
+}
+
+impl Run {
+    pub fn degree(&self) -> usize {
+        self.edges.len() / self.checks.len()
+    }
 }
 
 pub fn u16_at(bytes: &[u8], place: usize) -> u16 {
@@ -29,9 +43,10 @@ impl Table {
         }
         let bodies = code[4 + 4 * checks..].chunks_exact(2);
         let members: Vec<u16> = bodies.map(|pair| u16_at(pair, 0)).collect();
-        let mut table = Table { bits, starts, members, degrees: Vec::new() };
+        let mut table = Table { bits, starts, members, degrees: Vec::new(), runs: Vec::new() };
         table.test_members()?;
         table.count_degrees()?;
+        table.find_runs();
         Ok(table)
     }
 
@@ -79,6 +94,22 @@ impl Table {
         }
         let fits = |&degree: &u16| (1..=DEGREE_LIMIT).contains(&usize::from(degree));
         self.degrees.iter().all(fits).then_some(()).ok_or(Refusal::FILE_BIT)
+    }
+}
+
+impl Table {
+    fn find_runs(&mut self) {
+        let mut runs: Vec<Run> = Vec::new();
+        for (check, edges) in self.rows().enumerate() {
+            match runs.last_mut() {
+                Some(run) if run.degree() == edges.len() => {
+                    run.checks.end = check + 1;
+                    run.edges.end = edges.end;
+                }
+                _ => runs.push(Run { checks: check..check + 1, edges }),
+            }
+        }
+        self.runs = runs;
     }
 }
 

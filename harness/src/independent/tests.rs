@@ -1,7 +1,7 @@
 //! Document 01's reference frames and worked refusals, and the fast rounds against the plain ones.
 
 use super::limits::{MULTIPLIER_LIMIT, UNIT};
-use super::multiplier::least;
+use super::multiplier::{least, MEMBER};
 use super::{cut::mask_of, plain::least_multiplier, Independent, Plain};
 use crate::decoder::{Called, Decoder, Record, Refusal, Verdict};
 use crate::gen::code::{bytes_of, three_bits};
@@ -147,23 +147,27 @@ fn projection_is_the_least_multiplier() {
     let mut rng = Rng::new(2);
     let mut cuts = 0;
     for _ in 0..20_000 {
-        let degree = 1 + rng.below(32);
-        let reach = [UNIT, 3 * UNIT, 8_380_000][rng.below(3)];
-        let far = rng.below(4) == 0;
-        let value = |rng: &mut Rng| if far { rng.signed(reach) } else { spin_near(rng, reach / 8) };
-        let values: Vec<i32> = (0..degree).map(|_| value(&mut rng)).collect();
-        let mask = mask_of(values.iter().map(|v| *v.clamp(&-UNIT, &UNIT)));
-        if mask != 0 {
-            cuts += 1;
-            let negative = values.iter().filter(|v| **v < 0).count();
-            let nearest = values.iter().map(|v| v.abs()).min().unwrap();
-            let change = if negative % 2 == 0 { 2 * nearest } else { 0 };
-            let all = values.iter().map(|v| UNIT - v.abs()).sum();
-            let b = least(&values, change, degree as i32, all);
-            assert_eq!(b, least_multiplier(&values, mask), "{values:?}");
-        }
+        let (short, long) = (projected::<5>(&mut rng), projected::<32>(&mut rng));
+        cuts += u32::from(short) + u32::from(long);
     }
-    assert!(cuts > 2_000, "{cuts}");
+    assert!(cuts > 4_000, "{cuts}");
+}
+
+/// Compares both ways to the multiplier on random values; answers whether there was a cut.
+fn projected<const D: usize>(rng: &mut Rng) -> bool {
+    let reach = rng.pick(&[UNIT, 3 * UNIT, 8_380_000]);
+    let far = rng.one_in(4);
+    let value = |_| if far { rng.signed(reach) } else { spin_near(rng, reach / 8) };
+    let values: [i32; D] = std::array::from_fn(value);
+    let negative = values.iter().filter(|v| **v < 0).count();
+    let nearest = values.iter().map(|v| v.abs()).min().unwrap();
+    let change = if negative % 2 == 0 { 2 * nearest } else { 0 };
+    let shares = values.map(|v| i64::from(UNIT - v.abs()) + MEMBER);
+    let mask = mask_of(values.iter().map(|v| *v.clamp(&-UNIT, &UNIT)));
+    let expected = if mask == 0 { 0 } else { least_multiplier(&values, mask) };
+    let guess = rng.pick(&[0, 1, expected as u32, 5_000, u32::MAX]);
+    assert_eq!(least(&shares, change, guess), expected, "{values:?}");
+    mask != 0
 }
 
 /// One bit in three checks of one member, resumed where the offsets' limit is exact: no multiplier is
