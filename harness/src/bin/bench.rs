@@ -1,10 +1,10 @@
 //! bench: the proved decoder beside the independent one, on the same inputs in one process.
 //! bench count DECODER ROUNDS: one call for so many rounds on one frame, for counting instructions.
 
-use harness::decoder::{Decoder, Record};
+use harness::decoder::{Decoder, Record, Verdict};
 use harness::gen::state::{Shape, State};
 use harness::gen::{code, frame, rng::Rng};
-use harness::independent::limits::ROUND_LIMIT;
+use harness::independent::limits::{certificate_length, ROUND_LIMIT};
 use harness::independent::Independent;
 use harness::proved::Proved;
 use std::process::ExitCode;
@@ -12,9 +12,11 @@ use std::time::Instant;
 
 const DECODERS: [&dyn Decoder; 2] = [&Proved, &Independent];
 const SEED: u64 = 2026;
-/// Edges of the main code: 2,048 bits in 3 checks each, 1,024 checks of 6 members.
-const EDGES: usize = 6_144;
-const GROWTH: [usize; 7] = [288, 576, 1_152, 2_304, 4_608, 6_144, 8_190];
+/// Bits, checks of a bit and members of a check: the largest code in which these are 3 and 6.
+const MAIN: Regular = (2_048, 3, 6);
+/// The last one has the most edges that there may be.
+const GROWTH: [Regular; 7] =
+    [(96, 3, 6), (192, 3, 6), (384, 3, 6), (768, 3, 6), (1_536, 3, 6), MAIN, (2_048, 4, 8)];
 /// The gain is the mean frame number of a sent 0; the deviation is the noise's.
 const GAIN: f64 = 3_000.0;
 const DEVIATION: f64 = 2_200.0;
@@ -23,6 +25,8 @@ const REPETITIONS: usize = 15;
 /// Edges times rounds of one measurement in the growth table.
 const GROWTH_WORK: usize = 2_000_000;
 const GROWTH_ROUNDS: u32 = 32;
+
+type Regular = (usize, usize, usize);
 
 struct Bench {
     code: Vec<u8>,
@@ -38,9 +42,9 @@ struct Work {
 }
 
 impl Bench {
-    fn new(edges: usize, frames: usize) -> Bench {
+    fn new((bits, column, row): Regular, frames: usize) -> Bench {
         let mut rng = Rng::new(SEED);
-        let code = code::regular(&mut rng, edges);
+        let code = code::regular(&mut rng, bits, column, row);
         let shape = Shape::of(&code).expect("a sound code");
         let noisy = |_| frame::noisy(&mut rng, shape.bits, GAIN, DEVIATION);
         Bench { frames: (0..frames).map(noisy).collect(), code, shape }
@@ -67,15 +71,15 @@ impl Bench {
         work
     }
 
-    /// Nanoseconds of judging the certificates of all certified frames, and how many there are.
+    /// Nanoseconds of judging the certificates of all certified frames.
     fn judge_all(&self, decoder: &dyn Decoder, certified: &[(&[i16], State)]) -> f64 {
         let begun = Instant::now();
         for (frame, state) in certified {
             let certificate = state.certificate.lent();
             let entries = usize::from(u16::from_le_bytes([certificate[0], certificate[1]]));
-            let certificate = &certificate[..4 + 10 * entries];
+            let certificate = &certificate[..certificate_length(entries)];
             let verdict = decoder.judge(&self.code, frame, state.word.lent(), certificate);
-            assert_eq!(verdict, Ok(harness::decoder::Verdict::Certified));
+            assert_eq!(verdict, Ok(Verdict::Certified));
         }
         begun.elapsed().as_nanos() as f64
     }
@@ -143,19 +147,20 @@ fn judging(bench: &Bench) {
 
 fn growth() {
     heading("ns per edge and round, first 32 rounds");
-    for edges in GROWTH {
-        let frames = GROWTH_WORK / edges / GROWTH_ROUNDS as usize;
-        let bench = Bench::new(edges, frames);
+    for regular in GROWTH {
+        let (bits, column, row) = regular;
+        let edges = bits * column;
+        let bench = Bench::new(regular, GROWTH_WORK / edges / GROWTH_ROUNDS as usize);
         let rounds = bench.run_all(&Independent, GROWTH_ROUNDS).rounds;
         let work = edges as f64 * f64::from(rounds);
         let each = medians(|decoder| bench.run_all(decoder, GROWTH_ROUNDS).nanoseconds / work);
-        line(&format!("E {edges}, n {}", bench.shape.bits), each);
+        line(&format!("E {edges}, n {bits}, degrees {column} and {row}"), each);
     }
 }
 
 /// The rounds alone, on the first frame that takes more than 40: none of 10 to 30 rounds ends the run.
 fn count(decoder: &dyn Decoder, wanted: u32) {
-    let bench = Bench::new(EDGES, FRAMES);
+    let bench = Bench::new(MAIN, FRAMES);
     let rounds = |frame: &Vec<i16>| bench.run(&Independent, frame, 64).1.rounds;
     let long = bench.frames.iter().find(|frame| rounds(frame) > 40).expect("a long frame");
     let (_, record, _) = bench.run(decoder, long, wanted);
@@ -167,8 +172,8 @@ fn main() -> ExitCode {
     let arguments: Vec<&str> = arguments.iter().map(String::as_str).collect();
     match arguments[..] {
         [] => {
-            let bench = Bench::new(EDGES, FRAMES);
-            println!("(3, 6)-regular, n {}, E {EDGES}, seed {SEED}", bench.shape.bits);
+            let bench = Bench::new(MAIN, FRAMES);
+            println!("(3, 6)-regular, n {}, E {}, seed {SEED}", bench.shape.bits, bench.shape.edges);
             println!("frames gaussian-like, gain {GAIN}, deviation {DEVIATION}, clipped to 8191");
             println!("medians of {REPETITIONS} repetitions, taken in turns");
             rounds_and_frames(&bench);

@@ -24,21 +24,22 @@ pub fn three_bits() -> Vec<u8> {
     bytes_of(3, &[vec![0, 1, 2]])
 }
 
-/// A (3, 6)-regular code of so many edges, a multiple of 6 and at least 72.
-pub fn regular(rng: &mut Rng, edges: usize) -> Vec<u8> {
-    let bits = edges / 3;
-    let mut sockets: Vec<u16> = (0..edges).map(|socket| (socket / 3) as u16).collect();
+/// A regular code of so many bits: each in `column` checks, each check with `row` members. The checks
+/// come out whole, and there are far more bits than members of a check.
+pub fn regular(rng: &mut Rng, bits: usize, column: usize, row: usize) -> Vec<u8> {
+    let edges = bits * column;
+    let mut sockets: Vec<u16> = (0..edges).map(|socket| (socket / column) as u16).collect();
     rng.shuffle(&mut sockets);
     let repeated = |sockets: &[u16], at: usize| {
-        let first = at / 6 * 6;
-        (first..first + 6).any(|other| other != at && sockets[other] == sockets[at])
+        let first = at / row * row;
+        (first..first + row).any(|other| other != at && sockets[other] == sockets[at])
     };
     // A bit that stands twice in a check trades places with a random one, until no bit does.
     while let Some(at) = (0..edges).find(|&at| repeated(&sockets, at)) {
         let other = rng.below(edges);
         sockets.swap(at, other);
     }
-    let checks: Vec<Vec<u16>> = sockets.chunks(6).map(ascending).collect();
+    let checks: Vec<Vec<u16>> = sockets.chunks(row).map(ascending).collect();
     bytes_of(bits, &checks)
 }
 
@@ -155,8 +156,8 @@ pub fn any(rng: &mut Rng) -> Vec<u8> {
         90..=96 => random(rng, 300),
         97 => random(rng, SIZE_LIMIT),
         98 => {
-            let edges = 6 * rng.between(12, 200);
-            regular(rng, edges)
+            let bits = 2 * rng.between(12, 200);
+            regular(rng, bits, 3, 6)
         }
         _ => at_limits(rng),
     }

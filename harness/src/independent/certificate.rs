@@ -1,8 +1,8 @@
 //! Certificates: their form (10 to 14), reduced numbers, bound and gap, and the judge.
 
 use super::input::{agreement, test_frame, test_word};
-use super::limits::{certificate_length, ENTRY_LIMIT, MULTIPLIER_LIMIT, SCALE_LIMIT};
-use super::table::{u16_at, Table};
+use super::limits::{certificate_length, ENTRY_LIMIT, MULTIPLIER_LIMIT, SCALE_LIMIT, SIZE_LIMIT};
+use super::table::{place, u16_at, Table};
 use crate::decoder::{Refusal, Verdict};
 use std::ops::Range;
 
@@ -58,18 +58,24 @@ fn test_entry(table: &Table, before: Option<&Entry>, entry: &Entry) -> Result<()
 
 /// The multipliers' bound on the agreement, times the scale.
 pub fn bound(table: &Table, frame: &[i16], scale: u16, entries: impl Iterator<Item = Entry>) -> i64 {
-    let mut reduced: Vec<i64> = frame.iter().map(|&l| i64::from(scale) * i64::from(l)).collect();
-    let mut extra = 0;
+    let mut reduced = [0; SIZE_LIMIT];
+    for (r, &l) in reduced.iter_mut().zip(frame) {
+        *r = i64::from(scale) * i64::from(l);
+    }
+    let mut bound = 0;
     for entry in entries {
         let members = table.members_of(entry.check);
         let multiplier = i64::from(entry.multiplier);
-        extra += multiplier * (members.len() as i64 - 2);
-        for (place, &member) in members.iter().enumerate() {
-            let inside = i64::from(entry.mask >> place & 1);
-            reduced[usize::from(member)] += multiplier * (2 * inside - 1);
+        bound += multiplier * (members.len() as i64 - 2);
+        let mut set = entry.mask;
+        for &member in members {
+            // All ones for a member outside the set, whose multiplier is subtracted.
+            let outside = i64::from(set & 1) - 1;
+            reduced[place(member)] += (multiplier ^ outside) - outside;
+            set >>= 1;
         }
     }
-    extra + reduced.iter().map(|r| r.abs()).sum::<i64>()
+    bound + reduced.iter().map(|r| r.abs()).sum::<i64>()
 }
 
 /// The first check with an odd number of ones.

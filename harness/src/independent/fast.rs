@@ -5,7 +5,7 @@ use super::certificate::{bound, cuts, write};
 use super::input::agreement;
 use super::limits::{DEGREE_LIMIT, ROUND_LIMIT, SIZE_LIMIT, UNIT};
 use super::multiplier::{least, MEMBER};
-use super::table::Table;
+use super::table::{place, Table};
 use crate::decoder::{Buffers, Record};
 
 /// Shift of the bits' reciprocals: quotients matter up to U, so totals to 2^17, and degrees to 2^5.
@@ -54,11 +54,6 @@ pub fn run(table: &Table, frame: &[i16], mut record: Record, wanted: u32, mut le
     record
 }
 
-#[inline(always)]
-fn place(member: u16) -> usize {
-    usize::from(member) & (SIZE_LIMIT - 1)
-}
-
 impl Bits {
     fn new(table: &Table, frame: &[i16], copies: &[i32], offsets: &[i32]) -> Bits {
         let zero = [0; SIZE_LIMIT];
@@ -102,7 +97,7 @@ fn pass(table: &Table, bits: &mut Bits, lent: &mut Buffers) -> bool {
             multipliers: &mut lent.multipliers[run.checks.clone()],
             masks: &mut lent.masks[run.checks.clone()],
         };
-        broken |= with_degree!(run.degree(), part.relax(bits));
+        broken |= with_degree!(run.degree, part.relax(bits));
     }
     broken >= 0
 }

@@ -18,14 +18,15 @@ pub struct Table {
 
 /// Checks one after another of equal degree.
 pub struct Run {
+    pub degree: usize,
     pub checks: Range<usize>,
     pub edges: Range<usize>,
 }
 
-impl Run {
-    pub fn degree(&self) -> usize {
-        self.edges.len() / self.checks.len()
-    }
+/// A member as an index into a full-sized array, which then needs no bounds check.
+#[inline(always)]
+pub fn place(member: u16) -> usize {
+    usize::from(member) & (SIZE_LIMIT - 1)
 }
 
 pub fn u16_at(bytes: &[u8], place: usize) -> u16 {
@@ -43,11 +44,9 @@ impl Table {
         }
         let bodies = code[4 + 4 * checks..].chunks_exact(2);
         let members: Vec<u16> = bodies.map(|pair| u16_at(pair, 0)).collect();
-        let mut table = Table { bits, starts, members, degrees: Vec::new(), runs: Vec::new() };
-        table.test_members()?;
-        table.count_degrees()?;
-        table.find_runs();
-        Ok(table)
+        let degrees = degrees(bits, &starts, &members)?;
+        let runs = runs(&starts);
+        Ok(Table { bits, starts, members, degrees, runs })
     }
 
     pub fn checks(&self) -> usize {
@@ -64,7 +63,7 @@ impl Table {
 
     /// The edges of each check, in order.
     pub fn rows(&self) -> impl Iterator<Item = Range<usize>> + '_ {
-        self.starts.windows(2).map(|pair| usize::from(pair[0])..usize::from(pair[1]))
+        rows(&self.starts)
     }
 
     pub fn row(&self, check: usize) -> Range<usize> {
@@ -74,43 +73,47 @@ impl Table {
     pub fn members_of(&self, check: usize) -> &[u16] {
         &self.members[self.row(check)]
     }
-
-    fn test_members(&self) -> Result<(), Refusal> {
-        for row in self.rows() {
-            let members = &self.members[row];
-            let ascending = members.windows(2).all(|pair| pair[0] < pair[1]);
-            // Ascending members are all below n if the last is.
-            if !ascending || usize::from(members[members.len() - 1]) >= self.bits {
-                return Err(Refusal::FILE_MEMBER);
-            }
-        }
-        Ok(())
-    }
-
-    fn count_degrees(&mut self) -> Result<(), Refusal> {
-        self.degrees = vec![0; self.bits];
-        for &member in &self.members {
-            self.degrees[usize::from(member)] += 1;
-        }
-        let fits = |&degree: &u16| (1..=DEGREE_LIMIT).contains(&usize::from(degree));
-        self.degrees.iter().all(fits).then_some(()).ok_or(Refusal::FILE_BIT)
-    }
 }
 
-impl Table {
-    fn find_runs(&mut self) {
-        let mut runs: Vec<Run> = Vec::new();
-        for (check, edges) in self.rows().enumerate() {
-            match runs.last_mut() {
-                Some(run) if run.degree() == edges.len() => {
-                    run.checks.end = check + 1;
-                    run.edges.end = edges.end;
-                }
-                _ => runs.push(Run { checks: check..check + 1, edges }),
-            }
+fn rows(starts: &[u16]) -> impl Iterator<Item = Range<usize>> + '_ {
+    starts.windows(2).map(|pair| usize::from(pair[0])..usize::from(pair[1]))
+}
+
+/// The number of edges of each bit; tests all members before it (6), then all bits (7).
+fn degrees(bits: usize, starts: &[u16], members: &[u16]) -> Result<Vec<u16>, Refusal> {
+    let mut degrees = [0; SIZE_LIMIT];
+    // Becomes negative at the first wrong member.
+    let mut room = 0;
+    for row in rows(starts) {
+        let mut last = -1;
+        for &member in &members[row] {
+            room |= i32::from(member) - last - 1;
+            last = i32::from(member);
+            degrees[place(member)] += 1;
         }
-        self.runs = runs;
+        // Ascending members are all below n if the last is.
+        room |= bits as i32 - 1 - last;
     }
+    if room < 0 {
+        return Err(Refusal::FILE_MEMBER);
+    }
+    let degrees = &degrees[..bits];
+    let fits = |&degree: &u16| (1..=DEGREE_LIMIT as u16).contains(&degree);
+    degrees.iter().all(fits).then(|| degrees.to_vec()).ok_or(Refusal::FILE_BIT)
+}
+
+fn runs(starts: &[u16]) -> Vec<Run> {
+    let mut runs: Vec<Run> = Vec::new();
+    for (check, edges) in rows(starts).enumerate() {
+        match runs.last_mut() {
+            Some(run) if run.degree == edges.len() => {
+                run.checks.end = check + 1;
+                run.edges.end = edges.end;
+            }
+            _ => runs.push(Run { degree: edges.len(), checks: check..check + 1, edges }),
+        }
+    }
+    runs
 }
 
 fn sizes(code: &[u8]) -> Result<(usize, usize), Refusal> {
