@@ -1,6 +1,7 @@
 //! Measures the proved decoder against one written independently of it, from the documents alone.
 
 pub mod cases;
+pub mod clock;
 pub mod decoder;
 pub mod ffi;
 pub mod gen;

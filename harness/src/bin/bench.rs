@@ -1,6 +1,7 @@
 //! bench: the proved decoder beside the independent one, on the same inputs in one process.
 //! bench count DECODER ROUNDS: one call for so many rounds on one frame, for counting instructions.
 
+use harness::clock::cpu_nanoseconds;
 use harness::decoder::{Decoder, Record, Verdict};
 use harness::gen::state::{Shape, State};
 use harness::gen::{code, frame, rng::Rng};
@@ -8,7 +9,6 @@ use harness::independent::limits::{certificate_length, ROUND_LIMIT};
 use harness::independent::Independent;
 use harness::proved::Proved;
 use std::process::ExitCode;
-use std::time::Instant;
 
 const DECODERS: [&dyn Decoder; 2] = [&Proved, &Independent];
 const SEED: u64 = 2026;
@@ -53,9 +53,9 @@ impl Bench {
     /// A run of at most so many rounds in one call. Buffers are cleared first, outside the time taken.
     fn run(&self, decoder: &dyn Decoder, frame: &[i16], wanted: u32) -> (f64, Record, State) {
         let mut state = State::zeroed(&self.shape);
-        let begun = Instant::now();
+        let begun = cpu_nanoseconds();
         let called = decoder.rounds(&self.code, frame, Record::FRESH, wanted, state.lend_all());
-        let nanoseconds = begun.elapsed().as_nanos() as f64;
+        let nanoseconds = cpu_nanoseconds() - begun;
         assert_eq!(called.refusal, None);
         (nanoseconds, called.record, state)
     }
@@ -73,7 +73,7 @@ impl Bench {
 
     /// Nanoseconds of judging the certificates of all certified frames.
     fn judge_all(&self, decoder: &dyn Decoder, certified: &[(&[i16], State)]) -> f64 {
-        let begun = Instant::now();
+        let begun = cpu_nanoseconds();
         for (frame, state) in certified {
             let certificate = state.certificate.lent();
             let entries = usize::from(u16::from_le_bytes([certificate[0], certificate[1]]));
@@ -81,7 +81,7 @@ impl Bench {
             let verdict = decoder.judge(&self.code, frame, state.word.lent(), certificate);
             assert_eq!(verdict, Ok(Verdict::Certified));
         }
-        begun.elapsed().as_nanos() as f64
+        cpu_nanoseconds() - begun
     }
 
     fn certified(&self) -> Vec<(&[i16], State)> {
@@ -175,7 +175,7 @@ fn main() -> ExitCode {
             let bench = Bench::new(MAIN, FRAMES);
             println!("(3, 6)-regular, n {}, E {}, seed {SEED}", bench.shape.bits, bench.shape.edges);
             println!("frames gaussian-like, gain {GAIN}, deviation {DEVIATION}, clipped to 8191");
-            println!("medians of {REPETITIONS} repetitions, taken in turns");
+            println!("processor time, medians of {REPETITIONS} repetitions taken in turns");
             rounds_and_frames(&bench);
             judging(&bench);
             growth();

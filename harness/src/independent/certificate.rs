@@ -60,7 +60,7 @@ fn test_entry(table: &Table, before: Option<&Entry>, entry: &Entry) -> Result<()
 pub fn bound(table: &Table, frame: &[i16], scale: u16, entries: impl Iterator<Item = Entry>) -> i64 {
     let mut reduced = [0; SIZE_LIMIT];
     for (r, &l) in reduced.iter_mut().zip(frame) {
-        *r = i64::from(scale) * i64::from(l);
+        *r = i64::from(i32::from(scale) * i32::from(l));
     }
     let mut bound = 0;
     for entry in entries {
@@ -80,8 +80,10 @@ pub fn bound(table: &Table, frame: &[i16], scale: u16, entries: impl Iterator<It
 
 /// The first check with an odd number of ones.
 fn broken_check(table: &Table, word: &[u8]) -> Option<usize> {
+    let mut ones = [0; SIZE_LIMIT];
+    ones[..table.bits].copy_from_slice(word);
     let odd = |row: Range<usize>| {
-        table.members[row].iter().fold(0, |odd, &member| odd ^ word[usize::from(member)]) == 1
+        table.members[row].iter().fold(0, |odd, &member| odd ^ ones[place(member)]) == 1
     };
     table.rows().position(odd)
 }

@@ -25,7 +25,8 @@ pub fn test_point(table: &Table, spins: &[i32]) -> Result<(), Refusal> {
 
 /// The sum of the frame's numbers, added where the bit is 0 and subtracted where it is 1.
 pub fn agreement(frame: &[i16], word: &[u8]) -> i64 {
-    frame.iter().zip(word).map(|(&l, &bit)| i64::from(l) * (1 - 2 * i64::from(bit))).sum()
+    let signed = |(&l, &bit): (&i16, &u8)| i32::from(l) * (1 - 2 * i32::from(bit));
+    i64::from(frame.iter().zip(word).map(signed).sum::<i32>())
 }
 
 pub fn agreement_of(code: &[u8], frame: &[i16], word: &[u8]) -> Result<i64, Refusal> {
