@@ -81,7 +81,8 @@ fn certificate(entries: &[(u16, u32, u32)]) -> Vec<u8> {
 #[test]
 fn certificates() {
     let (frame, word) = ([4000, 4000, -2000], [0, 0, 0]);
-    let refused = |entries: &[(u16, u32, u32)], number| judge_refused(&frame, &word, &certificate(entries), number);
+    let refused =
+        |entries: &[(u16, u32, u32)], number| judge_refused(&frame, &word, &certificate(entries), number);
     judge_refused(&frame, &word, &[0, 0, 1], 10);
     judge_refused(&frame, &word, &[1, 0, 1, 0], 10);
     judge_refused(&frame, &word, &[0, 0, 0, 0], 11);

@@ -85,8 +85,8 @@ impl Draft {
 fn entry(rng: &mut Rng, table: &Table, large: bool) -> Entry {
     let check = rng.below(table.checks());
     let degree = table.row(check).len() as u32;
-    let mut mask = rng.next() as u32 & (u32::MAX >> (32 - degree));
-    if mask.count_ones() % 2 == 0 {
+    let mut mask = rng.draw() as u32 & (u32::MAX >> (32 - degree));
+    if mask.count_ones().is_multiple_of(2) {
         mask ^= 1 << rng.below(degree as usize);
     }
     let multiplier = if large { MULTIPLIER_LIMIT } else { rng.between(1, 6000) as u32 };

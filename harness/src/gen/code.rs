@@ -136,8 +136,13 @@ pub fn at_limits(rng: &mut Rng) -> Vec<u8> {
         3 => bytes_of(SIZE_LIMIT, &chain(SIZE_LIMIT)),
         // Every check and every bit of degree 32, and as many edges as there may be.
         4 => bytes_of(256, &(0..256).map(|first| wheel(first, 256, 32)).collect::<Vec<_>>()),
-        5 => bytes_of(SIZE_LIMIT, &(0..SIZE_LIMIT).map(|first| wheel(first, SIZE_LIMIT, 4)).collect::<Vec<_>>()),
-        6 => bytes_of(SIZE_LIMIT, &(0..64).map(|row| (32 * row..32 * row + 32).collect()).collect::<Vec<_>>()),
+        5 => bytes_of(
+            SIZE_LIMIT,
+            &(0..SIZE_LIMIT).map(|first| wheel(first, SIZE_LIMIT, 4)).collect::<Vec<_>>(),
+        ),
+        6 => {
+            bytes_of(SIZE_LIMIT, &(0..64).map(|row| (32 * row..32 * row + 32).collect()).collect::<Vec<_>>())
+        }
         _ => bytes_of(64, &(0..SIZE_LIMIT).map(|row| vec![(row % 64) as u16]).collect::<Vec<_>>()),
     }
 }

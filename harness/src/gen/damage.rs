@@ -18,7 +18,7 @@ pub fn damage(rng: &mut Rng, code: &mut Vec<u8>) {
 
 fn once(rng: &mut Rng, code: &mut Vec<u8>) {
     if code.len() < 10 {
-        return code.push(rng.next() as u8);
+        return code.push(rng.draw() as u8);
     }
     match rng.below(10) {
         0 => code.truncate(rng.below(4)),

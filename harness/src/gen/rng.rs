@@ -10,10 +10,10 @@ impl Rng {
     /// A source of its own for case `index` of a seeded series.
     pub fn of_case(seed: u64, index: u64) -> Rng {
         let mut rng = Rng(seed ^ index.wrapping_mul(0xd134_2543_de82_ef95));
-        Rng(rng.next())
+        Rng(rng.draw())
     }
 
-    pub fn next(&mut self) -> u64 {
+    pub fn draw(&mut self) -> u64 {
         self.0 = self.0.wrapping_add(0x9e37_79b9_7f4a_7c15);
         let mut x = self.0;
         x = (x ^ (x >> 30)).wrapping_mul(0xbf58_476d_1ce4_e5b9);
@@ -23,7 +23,7 @@ impl Rng {
 
     /// From 0 to `limit` − 1.
     pub fn below(&mut self, limit: usize) -> usize {
-        (u128::from(self.next()) * limit as u128 >> 64) as usize
+        ((u128::from(self.draw()) * limit as u128) >> 64) as usize
     }
 
     /// From `low` to `high`, both included.
@@ -47,7 +47,7 @@ impl Rng {
 
     /// About gaussian with mean 0 and deviation 1: a sum of twelve uniform numbers.
     pub fn gaussian(&mut self) -> f64 {
-        let uniform = |rng: &mut Rng| (rng.next() >> 11) as f64 / (1u64 << 53) as f64;
+        let uniform = |rng: &mut Rng| (rng.draw() >> 11) as f64 / (1u64 << 53) as f64;
         (0..12).map(|_| uniform(self)).sum::<f64>() - 6.0
     }
 

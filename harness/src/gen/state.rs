@@ -18,7 +18,7 @@ impl<T: Copy> Guarded<T> {
         Guarded { whole: (0..length + 2 * GUARD).map(|_| fill()).collect() }
     }
 
-    pub fn len(&self) -> usize {
+    fn len(&self) -> usize {
         self.whole.len() - 2 * GUARD
     }
 
@@ -91,7 +91,7 @@ impl State {
     /// Buffers of anything, some longer than a call needs.
     pub fn random(rng: &mut Rng, shape: &Shape) -> State {
         let lengths = shape.lengths().map(|length| length + rng.pick(&[0, 0, 1, 9]));
-        State::filled(lengths, || rng.next())
+        State::filled(lengths, || rng.draw())
     }
 
     pub fn lengths(&self) -> Lengths {
@@ -125,7 +125,8 @@ impl State {
         for edge in 0..shape.edges {
             let extreme = edgy && rng.one_in(2);
             self.copies.lent_mut()[edge] = if extreme { rng.pick(&[-UNIT, UNIT]) } else { rng.signed(UNIT) };
-            self.offsets.lent_mut()[edge] = if extreme { rng.pick(&[-limit, limit]) } else { rng.signed(reach) };
+            self.offsets.lent_mut()[edge] =
+                if extreme { rng.pick(&[-limit, limit]) } else { rng.signed(reach) };
         }
     }
 

@@ -18,14 +18,7 @@ pub fn start(code: &[u8], copies: &mut [i32], offsets: &mut [i32]) -> Result<Rec
     Ok(Record::FRESH)
 }
 
-pub fn rounds(
-    code: &[u8],
-    frame: &[i16],
-    record: Record,
-    wanted: u32,
-    lent: Buffers,
-    run: Rounds,
-) -> Called {
+pub fn rounds(code: &[u8], frame: &[i16], record: Record, wanted: u32, lent: Buffers, run: Rounds) -> Called {
     match admit(code, frame, record, wanted, &lent) {
         Ok(table) => Called::done(run(&table, frame, record, wanted, exact(&table, lent))),
         Err(refusal) => Called::refused(refusal, record),

@@ -47,7 +47,7 @@ fn test_entry(table: &Table, before: Option<&Entry>, entry: &Entry) -> Result<()
     }
     let degree = table.row(entry.check).len();
     let inside = u64::from(entry.mask) < 1 << degree;
-    if entry.mask.count_ones() % 2 == 0 || !inside {
+    if entry.mask.count_ones().is_multiple_of(2) || !inside {
         return Err(Refusal::ENTRY_MASK);
     }
     match before {
@@ -82,9 +82,8 @@ pub fn bound(table: &Table, frame: &[i16], scale: u16, entries: impl Iterator<It
 fn broken_check(table: &Table, word: &[u8]) -> Option<usize> {
     let mut ones = [0; SIZE_LIMIT];
     ones[..table.bits].copy_from_slice(word);
-    let odd = |row: Range<usize>| {
-        table.members[row].iter().fold(0, |odd, &member| odd ^ ones[place(member)]) == 1
-    };
+    let odd =
+        |row: Range<usize>| table.members[row].iter().fold(0, |odd, &member| odd ^ ones[place(member)]) == 1;
     table.rows().position(odd)
 }
 
@@ -106,8 +105,11 @@ pub fn judge(code: &[u8], frame: &[i16], word: &[u8], certificate: &[u8]) -> Res
 /// A round's cuts, in check order.
 pub fn cuts<'a>(multipliers: &'a [u32], masks: &'a [u32]) -> impl Iterator<Item = Entry> + 'a {
     let all = multipliers.iter().zip(masks).enumerate();
-    all.filter(|(_, (&multiplier, _))| multiplier != 0)
-        .map(|(check, (&multiplier, &mask))| Entry { check, multiplier, mask })
+    all.filter(|(_, (&multiplier, _))| multiplier != 0).map(|(check, (&multiplier, &mask))| Entry {
+        check,
+        multiplier,
+        mask,
+    })
 }
 
 /// Writes a round's cuts as a certificate of scale 1; bytes past it stay.

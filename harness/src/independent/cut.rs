@@ -5,44 +5,24 @@ use super::limits::{FACET, UNIT};
 use super::table::Table;
 use crate::decoder::Refusal;
 
-/// What the known method needs of a check's clipped values.
-pub struct Sizes {
-    /// Sum of the absolute values.
-    pub sum: i32,
-    /// The least absolute value.
-    pub least: i32,
-    /// Whether the number of negative values is odd.
-    pub odd: bool,
-    pub degree: i32,
-}
-
-impl Sizes {
-    /// The method's set has the left side Σ (U − |s|), plus twice the least if a member changes sides.
-    #[inline(always)]
-    pub fn has_cut(&self) -> bool {
-        let change = if self.odd { 0 } else { 2 * self.least };
-        self.degree * UNIT - self.sum + change < FACET
-    }
-}
-
 /// The odd set which the values, from −U to U, violate; 0 if they violate none.
 pub fn mask_of(values: impl Iterator<Item = i32>) -> u32 {
-    let (mut negative, mut nearest) = (0u32, 0);
-    let mut sizes = Sizes { sum: 0, least: UNIT + 1, odd: false, degree: 0 };
+    let (mut mask, mut left, mut least, mut nearest) = (0u32, 0, UNIT + 1, 0);
     for (place, value) in values.enumerate() {
-        negative |= u32::from(value < 0) << place;
-        sizes.sum += value.abs();
-        sizes.degree += 1;
-        if value.abs() < sizes.least {
-            sizes.least = value.abs();
-            nearest = place;
+        mask |= u32::from(value < 0) << place;
+        left += UNIT - value.abs();
+        if value.abs() < least {
+            (least, nearest) = (value.abs(), place);
         }
     }
-    sizes.odd = negative.count_ones() % 2 == 1;
-    match (sizes.has_cut(), sizes.odd) {
-        (false, _) => 0,
-        (true, true) => negative,
-        (true, false) => negative ^ 1 << nearest,
+    if mask.count_ones() % 2 == 0 {
+        mask ^= 1 << nearest;
+        left += 2 * least;
+    }
+    if left < FACET {
+        mask
+    } else {
+        0
     }
 }
 

@@ -1,5 +1,5 @@
-//! The rounds as a receiver would run them: bit totals are kept up by the pass over the checks, which
-//! visits each edge once where no parity inequality is violated.
+//! The rounds as a receiver would run them. The pass over the checks looks at each edge, finds cut and
+//! multiplier of the check in one, and stores the edge, adding it to its bit's total of the next round.
 
 use super::certificate::{bound, cuts, write};
 use super::input::agreement;

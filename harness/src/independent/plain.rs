@@ -83,7 +83,11 @@ fn moved(values: &[i32], mask: u32, multiplier: i32, place: usize) -> i32 {
 fn meets(values: &[i32], mask: u32, multiplier: i32) -> bool {
     let term = |place| {
         let z = moved(values, mask, multiplier, place);
-        if in_set(mask, place) { UNIT + z } else { UNIT - z }
+        if in_set(mask, place) {
+            UNIT + z
+        } else {
+            UNIT - z
+        }
     };
     (0..values.len()).map(term).sum::<i32>() >= FACET
 }

@@ -44,7 +44,10 @@ impl Table {
         }
         let bodies = code[4 + 4 * checks..].chunks_exact(2);
         let members: Vec<u16> = bodies.map(|pair| u16_at(pair, 0)).collect();
-        let degrees = degrees(bits, &starts, &members)?;
+        if !members_sound(bits, &starts, &members) {
+            return Err(Refusal::FILE_MEMBER);
+        }
+        let degrees = degrees(bits, &members)?;
         let runs = runs(&starts);
         Ok(Table { bits, starts, members, degrees, runs })
     }
@@ -79,27 +82,29 @@ fn rows(starts: &[u16]) -> impl Iterator<Item = Range<usize>> + '_ {
     starts.windows(2).map(|pair| usize::from(pair[0])..usize::from(pair[1]))
 }
 
-/// The number of edges of each bit; tests all members before it (6), then all bits (7).
-fn degrees(bits: usize, starts: &[u16], members: &[u16]) -> Result<Vec<u16>, Refusal> {
+/// Whether members ascend within checks and are bits. Passes over all edges at once are vectorised.
+fn members_sound(bits: usize, starts: &[u16], members: &[u16]) -> bool {
+    let descends = |(before, member): (&u16, &u16)| u16::from(before >= member);
+    let descents: u16 = members.iter().zip(&members[1..]).map(descends).sum();
+    // A check may begin with a smaller member than the last one's; no other descent is allowed.
+    let inner_starts = starts[1..starts.len() - 1].iter().map(|&start| usize::from(start));
+    let at_starts: u16 = inner_starts.map(|start| descends((&members[start - 1], &members[start]))).sum();
+    let largest = members.iter().fold(0, |largest, &member| largest.max(member));
+    descents == at_starts && usize::from(largest) < bits
+}
+
+/// The number of edges of each bit.
+fn degrees(bits: usize, members: &[u16]) -> Result<Vec<u16>, Refusal> {
     let mut degrees = [0; SIZE_LIMIT];
-    // Becomes negative at the first wrong member.
-    let mut room = 0;
-    for row in rows(starts) {
-        let mut last = -1;
-        for &member in &members[row] {
-            room |= i32::from(member) - last - 1;
-            last = i32::from(member);
-            degrees[place(member)] += 1;
-        }
-        // Ascending members are all below n if the last is.
-        room |= bits as i32 - 1 - last;
-    }
-    if room < 0 {
-        return Err(Refusal::FILE_MEMBER);
+    for &member in members {
+        degrees[place(member)] += 1;
     }
     let degrees = &degrees[..bits];
-    let fits = |&degree: &u16| (1..=DEGREE_LIMIT as u16).contains(&degree);
-    degrees.iter().all(fits).then(|| degrees.to_vec()).ok_or(Refusal::FILE_BIT)
+    let wrong = |&degree: &u16| !(1..=DEGREE_LIMIT as u16).contains(&degree);
+    if degrees.iter().fold(false, |any, degree| any | wrong(degree)) {
+        return Err(Refusal::FILE_BIT);
+    }
+    Ok(degrees.to_vec())
 }
 
 fn runs(starts: &[u16]) -> Vec<Run> {
@@ -130,22 +135,18 @@ fn sizes(code: &[u8]) -> Result<(usize, usize), Refusal> {
 
 /// Every count is tested before any start.
 fn starts(contents: &[u8]) -> Result<Vec<u16>, Refusal> {
-    let count = |entry: &[u8]| usize::from(u16_at(entry, 2));
-    if !contents.chunks_exact(4).all(|entry| (1..=DEGREE_LIMIT).contains(&count(entry))) {
-        return Err(Refusal::FILE_COUNT);
+    let mut starts = vec![0; contents.len() / 4 + 1];
+    let (mut counts_sound, mut starts_sound, mut next) = (true, true, 0);
+    for (entry, after) in contents.chunks_exact(4).zip(&mut starts[1..]) {
+        let count = usize::from(u16_at(entry, 2));
+        counts_sound &= count.wrapping_sub(1) < DEGREE_LIMIT;
+        starts_sound &= usize::from(u16_at(entry, 0)) == next;
+        next += count;
+        *after = next as u16;
     }
-    let mut starts = Vec::with_capacity(contents.len() / 4 + 1);
-    let mut next = 0;
-    for entry in contents.chunks_exact(4) {
-        if usize::from(u16_at(entry, 0)) != next {
-            return Err(Refusal::FILE_START);
-        }
-        starts.push(next as u16);
-        next += count(entry);
-        if next > EDGE_LIMIT {
-            return Err(Refusal::FILE_START);
-        }
+    match (counts_sound, starts_sound && next <= EDGE_LIMIT) {
+        (false, _) => Err(Refusal::FILE_COUNT),
+        (true, false) => Err(Refusal::FILE_START),
+        (true, true) => Ok(starts),
     }
-    starts.push(next as u16);
-    Ok(starts)
 }

@@ -18,9 +18,8 @@ fn cut_search_is_exact() {
             let signed = |k: usize| if mask >> k & 1 == 1 { values[k] } else { -values[k] };
             (0..degree).map(|k| UNIT + signed(k)).sum()
         };
-        let violated: Vec<u32> = (0..1u32 << degree)
-            .filter(|mask| mask.count_ones() % 2 == 1 && left(*mask) < 2 * UNIT)
-            .collect();
+        let violated: Vec<u32> =
+            (0..1u32 << degree).filter(|mask| mask.count_ones() % 2 == 1 && left(*mask) < 2 * UNIT).collect();
         let found = mask_of(values.iter().copied());
         assert_eq!(violated, if found == 0 { vec![] } else { vec![found] }, "{values:?}");
     }
