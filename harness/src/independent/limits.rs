@@ -16,6 +16,8 @@ pub const OFFSET_STEP: i32 = 8_192;
 pub const ENTRY_LIMIT: usize = 4_096;
 pub const SCALE_LIMIT: u16 = 1_023;
 pub const MULTIPLIER_LIMIT: u32 = 16_777_215;
+/// No round's multiplier is greater, since an offset is at most a step for each round done.
+pub const GREATEST_MULTIPLIER: i32 = OFFSET_STEP * ROUND_LIMIT as i32;
 
 /// Bytes of a certificate with that many entries.
 pub const fn certificate_length(entries: usize) -> usize {

@@ -3,7 +3,7 @@
 use super::certificate::{bound, cuts, write};
 use super::cut::mask_of;
 use super::input::agreement;
-use super::limits::{FACET, MULTIPLIER_LIMIT, ROUND_LIMIT, UNIT};
+use super::limits::{FACET, GREATEST_MULTIPLIER, MULTIPLIER_LIMIT, ROUND_LIMIT, UNIT};
 use super::table::Table;
 use crate::decoder::{Buffers, Record};
 
@@ -60,8 +60,8 @@ fn relax(table: &Table, check: usize, lent: &mut Buffers) {
     let values: Vec<i32> = edge_spins.zip(&lent.offsets[row.clone()]).map(|(spin, y)| spin + y).collect();
     let mask = mask_of(values.iter().map(|&v| clip(v)));
     let multiplier = if mask == 0 { 0 } else { least_multiplier(&values, mask) };
-    // The offsets' limits keep a multiplier to half of this; so no call is refused with 44.
-    assert!(multiplier <= MULTIPLIER_LIMIT as i32, "multiplier {multiplier}");
+    // So no call is refused with 44.
+    assert!(multiplier <= GREATEST_MULTIPLIER, "multiplier {multiplier}");
     for (place, edge) in row.enumerate() {
         lent.copies[edge] = moved(&values, mask, multiplier, place);
         lent.offsets[edge] = values[place] - lent.copies[edge];
