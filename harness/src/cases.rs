@@ -1,0 +1,89 @@
+//! Cases: one call, or a list of calls on the same buffers, put to several decoders at once.
+
+pub mod compare;
+pub mod make;
+
+use crate::decoder::{Called, Record, Refusal, Sizes, Verdict};
+use crate::gen::state::{Lengths, State};
+
+pub enum Case {
+    Table { code: Vec<u8> },
+    Cut { code: Vec<u8>, point: Vec<i32>, check: usize },
+    Judge { code: Vec<u8>, frame: Vec<i16>, word: Vec<u8>, certificate: Vec<u8> },
+    Agreement { code: Vec<u8>, frame: Vec<i16>, word: Vec<u8> },
+    Run(Box<Run>),
+}
+
+/// A list of calls for rounds, after a start or on a half-done run.
+pub struct Run {
+    pub code: Vec<u8>,
+    pub frame: Vec<i16>,
+    pub record: Record,
+    pub state: State,
+    /// What is lent to a start, if the list begins with one; only copies and offsets count.
+    pub start: Option<Lengths>,
+    pub calls: Vec<(u32, Lengths)>,
+}
+
+impl Case {
+    pub fn kind(&self) -> &'static str {
+        match self {
+            Case::Table { .. } => "table",
+            Case::Cut { .. } => "cut",
+            Case::Judge { .. } => "judge",
+            Case::Agreement { .. } => "agreement",
+            Case::Run(_) => "run",
+        }
+    }
+}
+
+#[derive(Clone, Copy, Debug, PartialEq, Eq)]
+pub enum Answer {
+    Table(Result<Sizes, Refusal>),
+    Cut(Result<Option<u32>, Refusal>),
+    Judge(Result<Verdict, Refusal>),
+    Agreement(Result<i64, Refusal>),
+    Start(Result<Record, Refusal>),
+    Rounds(Called),
+}
+
+impl Answer {
+    /// The call and its kind of answer, for the tally.
+    pub fn label(&self) -> (&'static str, String) {
+        match self {
+            Answer::Table(answer) => ("table", word_for(answer, |_| "accepted")),
+            Answer::Cut(answer) => ("cut", word_for(answer, |cut| cut.map_or("none", |_| "cut"))),
+            Answer::Judge(answer) => ("judge", word_for(answer, verdict_word)),
+            Answer::Agreement(answer) => ("agreement", word_for(answer, |_| "answered")),
+            Answer::Start(answer) => ("start", word_for(answer, |_| "started")),
+            Answer::Rounds(called) => {
+                let answer = called.refusal.map_or(Ok(called.record), Err);
+                ("rounds", word_for(&answer, status_word))
+            }
+        }
+    }
+}
+
+fn word_for<T: Copy>(answer: &Result<T, Refusal>, word: impl Fn(T) -> &'static str) -> String {
+    match answer {
+        Ok(value) => word(*value).into(),
+        Err(refusal) => format!("{refusal:?}"),
+    }
+}
+
+fn verdict_word(verdict: Verdict) -> &'static str {
+    match verdict {
+        Verdict::Broken(_) => "broken check",
+        Verdict::Certified => "certified",
+        Verdict::Gap(_) => "gap",
+    }
+}
+
+fn status_word(record: Record) -> &'static str {
+    match record.status {
+        Record::RUNNING => "running",
+        Record::CERTIFIED => "certified",
+        Record::SPENT => "spent",
+        _ => "another status",
+    }
+}

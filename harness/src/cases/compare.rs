@@ -1,0 +1,103 @@
+//! The same case to every decoder: answers, records and whole buffers must be equal.
+
+use super::{Answer, Case, Run};
+use crate::decoder::{Decoder, Record};
+use crate::gen::state::State;
+use std::collections::BTreeMap;
+
+/// How often each call gave each kind of answer.
+pub type Tally = BTreeMap<(&'static str, String), u64>;
+
+/// Puts a case to all decoders. Says what differs from the first one's, if anything does.
+pub fn compare(decoders: &[&dyn Decoder], case: &Case, tally: &mut Tally) -> Result<(), String> {
+    match case {
+        Case::Run(run) => compare_run(decoders, run, tally),
+        _ => {
+            let answers: Vec<Answer> = decoders.iter().map(|decoder| single(*decoder, case)).collect();
+            agree(decoders, &answers, tally)
+        }
+    }
+}
+
+fn agree(decoders: &[&dyn Decoder], answers: &[Answer], tally: &mut Tally) -> Result<(), String> {
+    *tally.entry(answers[0].label()).or_default() += 1;
+    match answers.iter().position(|answer| *answer != answers[0]) {
+        None => Ok(()),
+        Some(k) => {
+            let (first, other) = (decoders[0].name(), decoders[k].name());
+            Err(format!("{first} answers {:?}, {other} answers {:?}", answers[0], answers[k]))
+        }
+    }
+}
+
+fn single(decoder: &dyn Decoder, case: &Case) -> Answer {
+    match case {
+        Case::Table { code } => Answer::Table(decoder.check_table(code)),
+        Case::Cut { code, point, check } => Answer::Cut(decoder.search_cut(code, point, *check)),
+        Case::Judge { code, frame, word, certificate } => {
+            Answer::Judge(decoder.judge(code, frame, word, certificate))
+        }
+        Case::Agreement { code, frame, word } => Answer::Agreement(decoder.agreement(code, frame, word)),
+        Case::Run(_) => unreachable!("a run is a list of calls"),
+    }
+}
+
+/// One decoder's side of a list of calls.
+struct Side<'a> {
+    decoder: &'a dyn Decoder,
+    record: Record,
+    state: State,
+}
+
+impl Side<'_> {
+    fn start(&mut self, run: &Run, lengths: &[usize; 7]) -> Answer {
+        let lent = self.state.lend(lengths);
+        let answer = self.decoder.start(&run.code, lent.copies, lent.offsets);
+        self.record = answer.unwrap_or(self.record);
+        Answer::Start(answer)
+    }
+
+    fn call(&mut self, run: &Run, wanted: u32, lengths: &[usize; 7]) -> Answer {
+        let lent = self.state.lend(lengths);
+        let called = self.decoder.rounds(&run.code, &run.frame, self.record, wanted, lent);
+        self.record = called.record;
+        Answer::Rounds(called)
+    }
+}
+
+fn compare_run(decoders: &[&dyn Decoder], run: &Run, tally: &mut Tally) -> Result<(), String> {
+    let new = |decoder| Side { decoder, record: run.record, state: run.state.clone() };
+    let mut sides: Vec<Side> = decoders.iter().copied().map(new).collect();
+    if let Some(lengths) = &run.start {
+        let answers: Vec<Answer> = sides.iter_mut().map(|side| side.start(run, lengths)).collect();
+        agree(decoders, &answers, tally)?;
+        same_buffers(&sides).map_err(|what| format!("after the start, {what}"))?;
+    }
+    for (place, (wanted, lengths)) in run.calls.iter().enumerate() {
+        let answers: Vec<Answer> = sides.iter_mut().map(|side| side.call(run, *wanted, lengths)).collect();
+        agree(decoders, &answers, tally).map_err(|what| format!("call {place}: {what}"))?;
+        same_buffers(&sides).map_err(|what| format!("after call {place}, {what}"))?;
+    }
+    Ok(())
+}
+
+/// Whole buffers, with what was not lent and the guards.
+fn same_buffers(sides: &[Side]) -> Result<(), String> {
+    let first = &sides[0];
+    for other in &sides[1..] {
+        let (a, b) = (&first.state, &other.state);
+        let differs = [
+            ("spins", a.spins != b.spins),
+            ("copies", a.copies != b.copies),
+            ("offsets", a.offsets != b.offsets),
+            ("multipliers", a.multipliers != b.multipliers),
+            ("masks", a.masks != b.masks),
+            ("word", a.word != b.word),
+            ("certificate", a.certificate != b.certificate),
+        ];
+        if let Some((buffer, _)) = differs.iter().find(|(_, differs)| *differs) {
+            return Err(format!("{buffer} of {} and {} differ", first.decoder.name(), other.decoder.name()));
+        }
+    }
+    Ok(())
+}

@@ -1,0 +1,147 @@
+//! Makes the cases of a seeded series.
+
+use super::{Case, Run};
+use crate::decoder::Record;
+use crate::gen::certificate::{self, Draft};
+use crate::gen::rng::Rng;
+use crate::gen::state::{lent_lengths, Shape, State};
+use crate::gen::{code, damage, frame};
+use crate::independent::limits::ROUND_LIMIT;
+use crate::independent::table::Table;
+
+/// Edges times rounds of a usual case; few are longer.
+const USUAL_WORK: usize = 60_000;
+
+pub fn case(rng: &mut Rng) -> Case {
+    let sound = code::any(rng);
+    let shape = Shape::of(&sound).expect("a sound code");
+    let mut code = sound.clone();
+    if rng.one_in(12) {
+        damage::damage(rng, &mut code);
+    }
+    match rng.below(20) {
+        0..=1 => table(rng, code),
+        2..=4 => cut(rng, code, &shape),
+        5..=8 => judge(rng, code, &sound),
+        9 => agreement(rng, code, &shape),
+        10..=15 => Case::Run(Box::new(fresh(rng, code, &shape))),
+        _ => Case::Run(Box::new(half_done(rng, code, &shape))),
+    }
+}
+
+fn table(rng: &mut Rng, mut code: Vec<u8>) -> Case {
+    if !rng.one_in(4) {
+        damage::damage(rng, &mut code);
+    }
+    Case::Table { code }
+}
+
+fn cut(rng: &mut Rng, code: Vec<u8>, shape: &Shape) -> Case {
+    let mut point = frame::point(rng, shape.bits);
+    if rng.one_in(12) {
+        frame::damage_point(rng, &mut point);
+    }
+    let check = if rng.one_in(12) {
+        rng.pick(&[shape.checks, shape.checks + 1, 65_536, usize::MAX])
+    } else {
+        rng.below(shape.checks)
+    };
+    Case::Cut { code, point, check }
+}
+
+fn any_frame(rng: &mut Rng, shape: &Shape) -> Vec<i16> {
+    let mut numbers = frame::valid(rng, shape.bits);
+    if rng.one_in(16) {
+        frame::damage(rng, &mut numbers);
+    }
+    numbers
+}
+
+fn agreement(rng: &mut Rng, code: Vec<u8>, shape: &Shape) -> Case {
+    let frame = any_frame(rng, shape);
+    let mut word = frame::word(rng, shape.bits);
+    if rng.one_in(4) {
+        frame::damage_word(rng, &mut word);
+    }
+    Case::Agreement { code, frame, word }
+}
+
+/// A certificate from a run, edited or not, or a random one; with the run's word or another.
+fn judge(rng: &mut Rng, code: Vec<u8>, sound: &[u8]) -> Case {
+    let table = Table::parse(sound).expect("a sound code");
+    let mut frame = frame::valid(rng, table.bits);
+    let rounds = (USUAL_WORK / table.edges()).clamp(1, ROUND_LIMIT as usize) as u32;
+    let (mut draft, certified) = Draft::of_run(sound, &frame, rounds);
+    if rng.one_in(4) {
+        draft = Draft::random(rng, &table);
+    } else if rng.one_in(2) {
+        draft.rescale(rng);
+    }
+    if rng.one_in(2) {
+        draft.edit_entry(rng, &table);
+    }
+    let mut certificate = draft.bytes();
+    if rng.one_in(10) {
+        certificate::damage(rng, &mut certificate);
+    }
+    let mut word = certified.unwrap_or_else(|| vec![0; table.bits]);
+    if rng.one_in(8) {
+        frame::damage_word(rng, &mut word);
+    }
+    if rng.one_in(20) {
+        frame::damage(rng, &mut frame);
+    }
+    Case::Judge { code, frame, word, certificate }
+}
+
+/// Rounds wanted: from none to more than there may be, kept short on large codes but for a few.
+fn wanted(rng: &mut Rng, shape: &Shape) -> u32 {
+    let some = rng.between(0, 60) as u32;
+    let beyond = rng.between(ROUND_LIMIT as usize + 1, 5000) as u32;
+    let choice = match rng.below(40) {
+        0..=1 => 0,
+        2..=13 => 1,
+        14..=17 => 2,
+        18..=33 => some,
+        34..=37 => ROUND_LIMIT,
+        38 => beyond,
+        _ => rng.pick(&[ROUND_LIMIT + 1, u32::MAX, 1 << 16]),
+    };
+    let usual = (USUAL_WORK / shape.edges).max(1) as u32;
+    if choice <= ROUND_LIMIT && choice > usual && !rng.one_in(40) {
+        usual
+    } else {
+        choice
+    }
+}
+
+fn calls(rng: &mut Rng, shape: &Shape, state: &State) -> Vec<(u32, [usize; 7])> {
+    let count = rng.between(1, 5);
+    (0..count).map(|_| (wanted(rng, shape), lent_lengths(rng, shape, state))).collect()
+}
+
+/// A list of calls from a start, each handed what the last one left.
+fn fresh(rng: &mut Rng, code: Vec<u8>, shape: &Shape) -> Run {
+    let frame = any_frame(rng, shape);
+    let state = State::random(rng, shape);
+    let start = Some(lent_lengths(rng, shape, &state));
+    let calls = calls(rng, shape, &state);
+    // Refused, the start leaves this record to the calls.
+    let record = Record { rounds: 7, status: Record::SPENT };
+    Run { code, frame, record, state, start, calls }
+}
+
+/// A list of calls on a run that some other program claims to have begun.
+fn half_done(rng: &mut Rng, code: Vec<u8>, shape: &Shape) -> Run {
+    let frame = any_frame(rng, shape);
+    let mut state = State::random(rng, shape);
+    let any = rng.below(ROUND_LIMIT as usize) as u32;
+    let rounds = rng.pick(&[0, 1, 3, any, any, ROUND_LIMIT - 4, ROUND_LIMIT - 1]);
+    let mut record = Record { rounds, status: Record::RUNNING };
+    state.half_done(rng, shape, rounds);
+    for _ in 0..rng.pick(&[0, 0, 0, 1, 1, 2]) {
+        state.overstep(rng, shape, &mut record);
+    }
+    let calls = calls(rng, shape, &state);
+    Run { code, frame, record, state, start: None, calls }
+}

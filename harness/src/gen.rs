@@ -1,0 +1,8 @@
+//! Seeded inputs of every kind that the documents tell apart.
+
+pub mod certificate;
+pub mod code;
+pub mod damage;
+pub mod frame;
+pub mod rng;
+pub mod state;

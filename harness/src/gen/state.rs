@@ -1,0 +1,159 @@
+//! Lent buffers with guards, and half-done runs.
+
+use super::rng::Rng;
+use crate::decoder::{Buffers, Record, Refusal};
+use crate::independent::limits::{certificate_length, OFFSET_STEP, ROUND_LIMIT, UNIT};
+use crate::independent::table::Table;
+
+/// Elements on each side of what may be lent; no call may touch them.
+const GUARD: usize = 4;
+
+#[derive(Clone, PartialEq, Eq)]
+pub struct Guarded<T> {
+    whole: Vec<T>,
+}
+
+impl<T: Copy> Guarded<T> {
+    fn new(length: usize, mut fill: impl FnMut() -> T) -> Guarded<T> {
+        Guarded { whole: (0..length + 2 * GUARD).map(|_| fill()).collect() }
+    }
+
+    fn len(&self) -> usize {
+        self.whole.len() - 2 * GUARD
+    }
+
+    pub fn lent(&self) -> &[T] {
+        &self.whole[GUARD..GUARD + self.len()]
+    }
+
+    pub fn lent_mut(&mut self) -> &mut [T] {
+        let length = self.len();
+        self.first(length)
+    }
+
+    fn first(&mut self, length: usize) -> &mut [T] {
+        &mut self.whole[GUARD..GUARD + length]
+    }
+}
+
+/// The sizes that a table's buffers depend on.
+#[derive(Clone, Copy)]
+pub struct Shape {
+    pub bits: usize,
+    pub checks: usize,
+    pub edges: usize,
+}
+
+impl Shape {
+    pub fn of(code: &[u8]) -> Result<Shape, Refusal> {
+        let table = Table::parse(code)?;
+        Ok(Shape { bits: table.bits, checks: table.checks(), edges: table.edges() })
+    }
+
+    /// The lengths a call needs: spins, copies, offsets, multipliers, masks, word, certificate.
+    pub fn lengths(&self) -> Lengths {
+        let Shape { bits, checks, edges } = *self;
+        [bits, edges, edges, checks, checks, bits, certificate_length(checks)]
+    }
+}
+
+/// How much of each buffer is lent, in the order of `State`.
+pub type Lengths = [usize; 7];
+
+#[derive(Clone, PartialEq, Eq)]
+pub struct State {
+    pub spins: Guarded<i32>,
+    pub copies: Guarded<i32>,
+    pub offsets: Guarded<i32>,
+    pub multipliers: Guarded<u32>,
+    pub masks: Guarded<u32>,
+    pub word: Guarded<u8>,
+    pub certificate: Guarded<u8>,
+}
+
+impl State {
+    fn filled(lengths: Lengths, mut fill: impl FnMut() -> u64) -> State {
+        State {
+            spins: Guarded::new(lengths[0], || fill() as i32),
+            copies: Guarded::new(lengths[1], || fill() as i32),
+            offsets: Guarded::new(lengths[2], || fill() as i32),
+            multipliers: Guarded::new(lengths[3], || fill() as u32),
+            masks: Guarded::new(lengths[4], || fill() as u32),
+            word: Guarded::new(lengths[5], || fill() as u8),
+            certificate: Guarded::new(lengths[6], || fill() as u8),
+        }
+    }
+
+    pub fn zeroed(shape: &Shape) -> State {
+        State::filled(shape.lengths(), || 0)
+    }
+
+    /// Buffers of anything, some longer than a call needs.
+    pub fn random(rng: &mut Rng, shape: &Shape) -> State {
+        let lengths = shape.lengths().map(|length| length + rng.pick(&[0, 0, 1, 9]));
+        State::filled(lengths, || rng.draw())
+    }
+
+    pub fn lengths(&self) -> Lengths {
+        let edges = [self.copies.len(), self.offsets.len()];
+        let checks = [self.multipliers.len(), self.masks.len()];
+        [self.spins.len(), edges[0], edges[1], checks[0], checks[1], self.word.len(), self.certificate.len()]
+    }
+
+    pub fn lend(&mut self, lengths: &Lengths) -> Buffers<'_> {
+        Buffers {
+            spins: self.spins.first(lengths[0]),
+            copies: self.copies.first(lengths[1]),
+            offsets: self.offsets.first(lengths[2]),
+            multipliers: self.multipliers.first(lengths[3]),
+            masks: self.masks.first(lengths[4]),
+            word: self.word.first(lengths[5]),
+            certificate: self.certificate.first(lengths[6]),
+        }
+    }
+
+    pub fn lend_all(&mut self) -> Buffers<'_> {
+        let lengths = self.lengths();
+        self.lend(&lengths)
+    }
+
+    /// Copies and offsets as a run of so many rounds may leave them.
+    pub fn half_done(&mut self, rng: &mut Rng, shape: &Shape, rounds: u32) {
+        let limit = OFFSET_STEP * rounds.min(ROUND_LIMIT) as i32;
+        let reach = rng.pick(&[limit.min(300), limit.min(3 * UNIT), limit]);
+        let edgy = rng.one_in(3);
+        for edge in 0..shape.edges {
+            let extreme = edgy && rng.one_in(2);
+            self.copies.lent_mut()[edge] = if extreme { rng.pick(&[-UNIT, UNIT]) } else { rng.signed(UNIT) };
+            self.offsets.lent_mut()[edge] =
+                if extreme { rng.pick(&[-limit, limit]) } else { rng.signed(reach) };
+        }
+    }
+
+    /// One thing beyond the limits of a half-done run (43), or something that only looks like it.
+    pub fn overstep(&mut self, rng: &mut Rng, shape: &Shape, record: &mut Record) {
+        let limit = OFFSET_STEP * record.rounds.min(ROUND_LIMIT) as i32;
+        let edge = rng.below(shape.edges);
+        match rng.below(8) {
+            0 => self.copies.lent_mut()[edge] = rng.pick(&[-UNIT - 1, UNIT + 1, i32::MIN, i32::MAX]),
+            1 => self.offsets.lent_mut()[edge] = rng.pick(&[-limit - 1, limit + 1, i32::MIN, i32::MAX]),
+            2 => record.rounds = rng.pick(&[ROUND_LIMIT, ROUND_LIMIT + 1, u32::MAX, 1 << 19, 1 << 31]),
+            3 => record.status = Record::CERTIFIED,
+            4 => record.status = Record::SPENT,
+            5 => record.status = rng.pick(&[3, 4, 256, u32::MAX]),
+            6 => self.copies.lent_mut().last_mut().into_iter().for_each(|last| *last = i32::MAX),
+            _ => self.offsets.lent_mut().last_mut().into_iter().for_each(|last| *last = i32::MIN),
+        }
+    }
+}
+
+/// What is lent in one call: mostly all that is needed or more, now and then too little of one buffer.
+pub fn lent_lengths(rng: &mut Rng, shape: &Shape, state: &State) -> Lengths {
+    let (needed, there) = (shape.lengths(), state.lengths());
+    let mut lengths = if rng.one_in(2) { there } else { needed };
+    if rng.one_in(12) {
+        let short = rng.below(lengths.len());
+        lengths[short] = if rng.one_in(3) { rng.below(needed[short]) } else { needed[short] - 1 };
+    }
+    lengths
+}

@@ -1,0 +1,217 @@
+//! The rounds as a receiver would run them. The pass over the checks looks at each edge, finds cut and
+//! multiplier of the check in one, and stores the edge, adding it to its bit's total of the next round.
+
+use super::certificate::{bound, cuts, write};
+use super::input::agreement;
+use super::limits::{DEGREE_LIMIT, ROUND_LIMIT, SIZE_LIMIT, UNIT};
+use super::multiplier::{least, MEMBER};
+use super::table::{place, Table};
+use crate::decoder::{Buffers, Record};
+
+/// Shift of the bits' reciprocals: quotients matter up to U, so totals to 2^17, and degrees to 2^5.
+const SHIFT: u32 = 23;
+
+/// Per-bit state. Full-sized, so that a masked member needs no bounds check.
+struct Bits {
+    /// Frame number plus z − y over the bit's edges, gathered for the next round.
+    totals: [i32; SIZE_LIMIT],
+    spins: [i32; SIZE_LIMIT],
+    /// ⌊2^SHIFT / degree⌋ + 1.
+    reciprocals: [u32; SIZE_LIMIT],
+}
+
+/// Calls a method for a constant degree, so that its loops have a known length.
+macro_rules! with_degree {
+    ($degree:expr, $part:ident.$method:ident($($argument:expr),*)) => {
+        with_degree!(@ $degree, $part, $method, ($($argument),*),
+            1 2 3 4 5 6 7 8 9 10 11 12 13 14 15 16 17 18 19 20 21 22 23 24 25 26 27 28 29 30 31 32)
+    };
+    (@ $degree:expr, $part:ident, $method:ident, $arguments:tt, $($d:literal)*) => {
+        match $degree {
+            $($d => $part.$method::<$d> $arguments,)*
+            _ => unreachable!("a degree is from 1 to {DEGREE_LIMIT}"),
+        }
+    };
+}
+
+pub fn run(table: &Table, frame: &[i16], mut record: Record, wanted: u32, mut lent: Buffers) -> Record {
+    if wanted == 0 {
+        return record;
+    }
+    let last = ROUND_LIMIT.min(record.rounds + wanted);
+    let mut bits = Bits::new(table, frame, lent.copies, lent.offsets);
+    while record.status == Record::RUNNING && record.rounds < last {
+        let no_zero = bits.take_spins(frame);
+        let met = pass(table, &mut bits, &mut lent);
+        record.rounds += 1;
+        if no_zero && met && certifies(table, frame, &bits, &mut lent) {
+            record.status = Record::CERTIFIED;
+        } else if record.rounds == ROUND_LIMIT {
+            record.status = Record::SPENT;
+        }
+    }
+    lent.spins.copy_from_slice(&bits.spins[..table.bits]);
+    record
+}
+
+impl Bits {
+    fn new(table: &Table, frame: &[i16], copies: &[i32], offsets: &[i32]) -> Bits {
+        let zero = [0; SIZE_LIMIT];
+        let mut bits = Bits { totals: zero, spins: zero, reciprocals: [0; SIZE_LIMIT] };
+        for (reciprocal, &degree) in bits.reciprocals.iter_mut().zip(&table.degrees) {
+            *reciprocal = (1 << SHIFT) / u32::from(degree) + 1;
+        }
+        for (total, &l) in bits.totals.iter_mut().zip(frame) {
+            *total = i32::from(l);
+        }
+        for ((&member, z), y) in table.members.iter().zip(copies).zip(offsets) {
+            bits.totals[place(member)] += z - y;
+        }
+        bits
+    }
+
+    /// Turns totals into spins, and begins the next totals. Answers whether no spin is 0.
+    fn take_spins(&mut self, frame: &[i16]) -> bool {
+        let mut no_zero = true;
+        let bits = self.totals.iter_mut().zip(&mut self.spins).zip(&self.reciprocals).zip(frame);
+        for (((total, spin), &reciprocal), &l) in bits {
+            let size = (u64::from(total.unsigned_abs()) * u64::from(reciprocal)) >> SHIFT;
+            let clipped = (size as i32).min(UNIT);
+            let side = *total >> 31;
+            *spin = (clipped ^ side) - side;
+            no_zero &= clipped != 0;
+            *total = i32::from(l);
+        }
+        no_zero
+    }
+}
+
+/// Steps 2 and 3 on all checks. Answers whether the spins' signs meet them all.
+fn pass(table: &Table, bits: &mut Bits, lent: &mut Buffers) -> bool {
+    let mut broken = 0;
+    for run in &table.runs {
+        let part = Part {
+            members: &table.members[run.edges.clone()],
+            copies: &mut lent.copies[run.edges.clone()],
+            offsets: &mut lent.offsets[run.edges.clone()],
+            multipliers: &mut lent.multipliers[run.checks.clone()],
+            masks: &mut lent.masks[run.checks.clone()],
+        };
+        broken |= with_degree!(run.degree, part.relax(bits));
+    }
+    broken >= 0
+}
+
+/// The checks of a run of equal degrees, and their edges.
+struct Part<'a> {
+    members: &'a [u16],
+    copies: &'a mut [i32],
+    offsets: &'a mut [i32],
+    multipliers: &'a mut [u32],
+    masks: &'a mut [u32],
+}
+
+impl Part<'_> {
+    /// Answers a negative number if the spins have an odd number of ones on some check.
+    fn relax<const D: usize>(self, bits: &mut Bits) -> i32 {
+        let mut broken = 0;
+        let members = self.members.as_chunks::<D>().0.iter();
+        let copies = self.copies.as_chunks_mut::<D>().0.iter_mut();
+        let offsets = self.offsets.as_chunks_mut::<D>().0.iter_mut();
+        let cuts = self.multipliers.iter_mut().zip(self.masks);
+        for (((members, copies), offsets), (multiplier, mask)) in members.zip(copies).zip(offsets).zip(cuts) {
+            let seen = look(bits, members, offsets);
+            broken |= seen.spin_signs;
+            // The last round's multiplier is mostly near.
+            let b = least(&seen.shares, seen.change(), *multiplier);
+            let turned = seen.turned();
+            move_copies(bits, members, copies, offsets, &seen, b, turned);
+            *multiplier = b as u32;
+            *mask = if b == 0 { 0 } else { seen.negative ^ turned };
+        }
+        broken
+    }
+}
+
+/// What one look at a check's values tells.
+struct Seen<const D: usize> {
+    values: [i32; D],
+    /// U − |v|, and a member each.
+    shares: [i64; D],
+    /// The least |v|, times 32, plus its place.
+    nearest: u32,
+    /// The members with v below 0.
+    negative: u32,
+    /// Negative if an odd number of the values is, and of the spins.
+    signs: i32,
+    spin_signs: i32,
+}
+
+/// Works out v = spin + y. From the last member to the first, so that the mask comes out in order.
+#[inline(always)]
+fn look<const D: usize>(bits: &Bits, members: &[u16; D], offsets: &[i32; D]) -> Seen<D> {
+    let (mut nearest, mut negative, mut signs, mut spin_signs) = (u32::MAX, 0, 0, 0);
+    let (mut values, mut shares) = ([0; D], [0; D]);
+    for k in (0..D).rev() {
+        let spin = bits.spins[place(members[k])];
+        let v = spin + offsets[k];
+        values[k] = v;
+        shares[k] = i64::from(UNIT - v.abs()) + MEMBER;
+        nearest = nearest.min(v.unsigned_abs() << 5 | k as u32);
+        negative = negative << 1 | v as u32 >> 31;
+        signs ^= v;
+        spin_signs ^= spin;
+    }
+    Seen { values, shares, nearest, negative, signs, spin_signs }
+}
+
+impl<const D: usize> Seen<D> {
+    /// What the member that changes sides adds to the inequality's left side.
+    #[inline(always)]
+    fn change(&self) -> i32 {
+        (self.nearest >> 5 << 1) as i32 & !(self.signs >> 31)
+    }
+
+    /// The member that changes sides, as a mask.
+    #[inline(always)]
+    fn turned(&self) -> u32 {
+        1 << (self.nearest & 31) & !(self.signs >> 31) as u32
+    }
+}
+
+/// Moves each value toward 0 by b, the turned one away from it, and clips; stores copies, offsets and
+/// totals.
+#[inline(always)]
+fn move_copies<const D: usize>(
+    bits: &mut Bits,
+    members: &[u16; D],
+    copies: &mut [i32; D],
+    offsets: &mut [i32; D],
+    seen: &Seen<D>,
+    b: i32,
+    turned: u32,
+) {
+    for k in 0..D {
+        let v = seen.values[k];
+        let b = if turned >> k & 1 == 1 { -b } else { b };
+        let side = v >> 31;
+        let outward = UNIT - (seen.shares[k] as i32 + b).max(0);
+        let z = (outward ^ side) - side;
+        copies[k] = z;
+        offsets[k] = v - z;
+        bits.totals[place(members[k])] += 2 * z - v;
+    }
+}
+
+/// Whether this round's multipliers prove the candidate; if so, word and certificate are written.
+#[cold]
+fn certifies(table: &Table, frame: &[i16], bits: &Bits, lent: &mut Buffers) -> bool {
+    let word: Vec<u8> = bits.spins[..table.bits].iter().map(|&spin| u8::from(spin < 0)).collect();
+    let bound = bound(table, frame, 1, cuts(lent.multipliers, lent.masks));
+    let certified = bound == agreement(frame, &word);
+    if certified {
+        lent.word.copy_from_slice(&word);
+        write(lent.multipliers, lent.masks, lent.certificate);
+    }
+    certified
+}

@@ -1,0 +1,64 @@
+//! The cut search and the projection against the paper's own words.
+
+use super::cut::mask_of;
+use super::limits::UNIT;
+use super::multiplier::{least, MEMBER};
+use super::plain::least_multiplier;
+use crate::gen::rng::Rng;
+
+/// The search's answer is the one odd set whose inequality fails, found by trying them all.
+#[test]
+fn cut_search_is_exact() {
+    let mut rng = Rng::new(1);
+    for _ in 0..4_000 {
+        let degree = 1 + rng.below(8);
+        let reach = [3, 400, UNIT][rng.below(3)];
+        let values: Vec<i32> = (0..degree).map(|_| spin_near(&mut rng, reach)).collect();
+        let left = |mask: u32| -> i32 {
+            let signed = |k: usize| if mask >> k & 1 == 1 { values[k] } else { -values[k] };
+            (0..degree).map(|k| UNIT + signed(k)).sum()
+        };
+        let violated: Vec<u32> =
+            (0..1u32 << degree).filter(|mask| mask.count_ones() % 2 == 1 && left(*mask) < 2 * UNIT).collect();
+        let found = mask_of(values.iter().copied());
+        assert_eq!(violated, if found == 0 { vec![] } else { vec![found] }, "{values:?}");
+    }
+}
+
+/// A spin near 0 or near ±U.
+fn spin_near(rng: &mut Rng, reach: i32) -> i32 {
+    let small = rng.signed(reach);
+    match rng.below(3) {
+        0 => small,
+        1 => UNIT - small.abs(),
+        _ => small.abs() - UNIT,
+    }
+}
+
+#[test]
+fn projection_is_the_least_multiplier() {
+    let mut rng = Rng::new(2);
+    let mut cuts = 0;
+    for _ in 0..20_000 {
+        let (short, long) = (projected::<5>(&mut rng), projected::<32>(&mut rng));
+        cuts += u32::from(short) + u32::from(long);
+    }
+    assert!(cuts > 4_000, "{cuts}");
+}
+
+/// Compares both ways to the multiplier on random values; answers whether there was a cut.
+fn projected<const D: usize>(rng: &mut Rng) -> bool {
+    let reach = rng.pick(&[UNIT, 3 * UNIT, 8_380_000]);
+    let far = rng.one_in(4);
+    let value = |_| if far { rng.signed(reach) } else { spin_near(rng, reach / 8) };
+    let values: [i32; D] = std::array::from_fn(value);
+    let negative = values.iter().filter(|v| **v < 0).count();
+    let nearest = values.iter().map(|v| v.abs()).min().unwrap();
+    let change = if negative % 2 == 0 { 2 * nearest } else { 0 };
+    let shares = values.map(|v| i64::from(UNIT - v.abs()) + MEMBER);
+    let mask = mask_of(values.iter().map(|v| *v.clamp(&-UNIT, &UNIT)));
+    let expected = if mask == 0 { 0 } else { least_multiplier(&values, mask) };
+    let guess = rng.pick(&[0, 1, expected as u32, 5_000, u32::MAX]);
+    assert_eq!(least(&shares, change, guess), expected, "{values:?}");
+    mask != 0
+}

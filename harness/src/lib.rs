@@ -1,0 +1,9 @@
+//! Measures the proved decoder against one written independently of it, from the documents alone.
+
+pub mod cases;
+pub mod clock;
+pub mod decoder;
+pub mod ffi;
+pub mod gen;
+pub mod independent;
+pub mod proved;

@@ -1,0 +1,32 @@
+//! A small seeded series of cases to the proved decoder, the independent one and the plain one.
+
+use harness::cases::compare::{compare, Tally};
+use harness::cases::make;
+use harness::decoder::Decoder;
+use harness::gen::rng::Rng;
+use harness::independent::{Independent, Plain};
+use harness::proved::Proved;
+
+fn series(decoders: &[&dyn Decoder], seed: u64, count: u64) -> Tally {
+    let mut tally = Tally::new();
+    for index in 0..count {
+        let case = make::case(&mut Rng::of_case(seed, index));
+        if let Err(what) = compare(decoders, &case, &mut tally) {
+            panic!("seed {seed} case {index} ({}): {what}", case.kind());
+        }
+    }
+    tally
+}
+
+#[test]
+fn fast_rounds_are_the_plain_ones() {
+    let tally = series(&[&Plain, &Independent], 1, 20_000);
+    for answer in ["running", "certified", "spent"] {
+        assert!(tally[&("rounds", answer.to_string())] >= 100, "{answer}");
+    }
+}
+
+#[test]
+fn proved_decoder_is_the_independent_one() {
+    series(&[&Independent, &Proved], 2, 20_000);
+}

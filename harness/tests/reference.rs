@@ -1,0 +1,134 @@
+//! Document 01's reference frames, on every decoder.
+
+use harness::decoder::{Called, Decoder, Record, Refusal, Verdict};
+use harness::gen::code::{bytes_of, three_bits};
+use harness::gen::state::{Shape, State};
+use harness::independent::limits::UNIT;
+use harness::independent::{Independent, Plain};
+use harness::proved::Proved;
+
+const ALL: [&dyn Decoder; 3] = [&Independent, &Plain, &Proved];
+
+fn fresh(code: &[u8]) -> State {
+    State::zeroed(&Shape::of(code).unwrap())
+}
+
+/// Starts a run and asks for one round at a time.
+fn after(decoder: &dyn Decoder, code: &[u8], frame: &[i16], rounds: u32) -> (Record, State) {
+    let mut state = fresh(code);
+    let lent = state.lend_all();
+    let mut record = decoder.start(code, lent.copies, lent.offsets).unwrap();
+    for _ in 0..rounds {
+        let called = decoder.rounds(code, frame, record, 1, state.lend_all());
+        assert_eq!(called.refusal, None);
+        record = called.record;
+    }
+    (record, state)
+}
+
+#[test]
+fn three_bit_frame() {
+    let (code, frame) = (three_bits(), [4000, 4000, -2000]);
+    for decoder in ALL {
+        let (record, state) = after(decoder, &code, &frame, 1);
+        assert_eq!(record, Record { rounds: 1, status: Record::RUNNING });
+        assert_eq!(state.spins.lent(), [4000, 4000, -2000]);
+        assert_eq!(state.multipliers.lent(), [1968]);
+        assert_eq!(state.copies.lent(), [2032, 2032, -32]);
+        let (_, state) = after(decoder, &code, &frame, 2);
+        assert_eq!(state.multipliers.lent(), [3334]);
+        assert_eq!(state.copies.lent(), [2698, 2698, 1302]);
+        let (record, state) = after(decoder, &code, &frame, 3);
+        assert_eq!(record, Record { rounds: 3, status: Record::CERTIFIED });
+        assert_eq!(state.spins.lent(), [3364, 3364, 2636]);
+        assert_eq!(state.multipliers.lent(), [3333]);
+        assert_eq!(state.word.lent(), [0, 0, 0]);
+        assert_eq!(state.certificate.lent(), [1, 0, 1, 0, 0, 0, 5, 13, 0, 0, 4, 0, 0, 0]);
+        assert_eq!(decoder.agreement(&code, &frame, state.word.lent()), Ok(6000));
+    }
+}
+
+#[test]
+fn negated_three_bit_frame() {
+    for decoder in ALL {
+        let (record, state) = after(decoder, &three_bits(), &[-4000, -4000, -2000], 3);
+        assert_eq!(record, Record { rounds: 3, status: Record::CERTIFIED });
+        assert_eq!(state.word.lent(), [1, 1, 0]);
+        assert_eq!((state.multipliers.lent(), state.masks.lent()), (&[3333][..], &[7][..]));
+    }
+}
+
+#[test]
+fn one_bit_frame() {
+    let code = bytes_of(1, &[vec![0]]);
+    for decoder in ALL {
+        let (record, state) = after(decoder, &code, &[-5], 2);
+        assert_eq!(record, Record { rounds: 2, status: Record::CERTIFIED });
+        assert_eq!((state.word.lent(), state.multipliers.lent()), (&[0][..], &[4101][..]));
+        // Bound −5 and agreement −5.
+        assert_eq!(decoder.agreement(&code, &[-5], &[0]), Ok(-5));
+        let verdict = decoder.judge(&code, &[-5], &[0], state.certificate.lent());
+        assert_eq!(verdict, Ok(Verdict::Certified));
+    }
+}
+
+#[test]
+fn frames_of_the_report() {
+    for decoder in ALL {
+        let code = three_bits();
+        let mut state = fresh(&code);
+        let called = decoder.rounds(&code, &[10, 10, 10], Record::FRESH, 1024, state.lend_all());
+        assert_eq!(called, Called::done(Record { rounds: 1, status: Record::CERTIFIED }));
+        assert_eq!(state.certificate.lent()[..4], [0, 0, 1, 0]);
+        let mut state = fresh(&code);
+        let called = decoder.rounds(&code, &[0, 0, 0], Record::FRESH, 1024, state.lend_all());
+        assert_eq!(called, Called::done(Record { rounds: 1024, status: Record::SPENT }));
+    }
+}
+
+#[test]
+fn gaps_of_the_three_bit_frame() {
+    for (multiplier, verdict) in [
+        (1999u32, Verdict::Gap(2)),
+        (2000, Verdict::Certified),
+        (4000, Verdict::Certified),
+        (4001, Verdict::Gap(4)),
+    ] {
+        let mut certificate = vec![1, 0, 1, 0, 0, 0];
+        certificate.extend(multiplier.to_le_bytes());
+        certificate.extend(4u32.to_le_bytes());
+        let (code, frame) = (three_bits(), [4000, 4000, -2000]);
+        for decoder in ALL {
+            assert_eq!(decoder.judge(&code, &frame, &[0, 0, 0], &certificate), Ok(verdict));
+            assert_eq!(decoder.judge(&code, &frame, &[1, 0, 0], &certificate), Ok(Verdict::Broken(0)));
+        }
+    }
+}
+
+#[test]
+fn cuts_of_degree_three() {
+    let code = three_bits();
+    for decoder in ALL {
+        assert_eq!(decoder.search_cut(&code, &[1365, 1365, -1366], 0), Ok(None));
+        assert_eq!(decoder.search_cut(&code, &[1365, 1365, -1367], 0), Ok(Some(4)));
+        assert_eq!(decoder.search_cut(&code, &[0, 0, UNIT + 1], 1), Err(Refusal::POINT));
+        assert_eq!(decoder.search_cut(&code, &[0, 0, 0], 1), Err(Refusal::REQUEST));
+    }
+}
+
+/// One bit in three checks of one member, resumed where the offsets' limit is exact: no multiplier is
+/// larger, so 44 can't occur.
+#[test]
+fn greatest_multiplier() {
+    let code = bytes_of(1, &[vec![0], vec![0], vec![0]]);
+    let far = 8_192 * 1_023;
+    for decoder in ALL {
+        let mut state = fresh(&code);
+        state.copies.lent_mut().copy_from_slice(&[-UNIT, -UNIT, -UNIT]);
+        state.offsets.lent_mut().copy_from_slice(&[-far, far, far]);
+        let record = Record { rounds: 1_023, status: Record::RUNNING };
+        let called = decoder.rounds(&code, &[0], record, 1, state.lend_all());
+        assert_eq!(called, Called::done(Record { rounds: 1_024, status: Record::SPENT }));
+        assert_eq!(state.multipliers.lent()[0], 8_388_608);
+    }
+}

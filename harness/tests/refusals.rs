@@ -1,0 +1,200 @@
+//! Worked refusals at their edges, and their order, on every decoder.
+
+use harness::decoder::{Called, Decoder, Record, Refusal, Sizes, Verdict};
+use harness::gen::code::{bytes_of, three_bits};
+use harness::gen::state::{Shape, State};
+use harness::independent::{Independent, Plain};
+use harness::proved::Proved;
+
+const ALL: [&dyn Decoder; 3] = [&Independent, &Plain, &Proved];
+
+fn set(code: &[u8], place: usize, value: u16) -> Vec<u8> {
+    let mut code = code.to_vec();
+    code[place..place + 2].copy_from_slice(&value.to_le_bytes());
+    code
+}
+
+fn table_refused(code: &[u8], number: u32) {
+    for decoder in ALL {
+        assert_eq!(decoder.check_table(code), Err(Refusal(number)), "{}", decoder.name());
+    }
+}
+
+/// Two checks, on bits 0, 1 and on bits 1, 2. Starts are at bytes 4 and 8, counts at 6 and 10,
+/// members from 12 on.
+fn chain() -> Vec<u8> {
+    bytes_of(3, &[vec![0, 1], vec![1, 2]])
+}
+
+#[test]
+fn code_files() {
+    for decoder in ALL {
+        assert_eq!(decoder.check_table(&chain()), Ok(Sizes { bits: 3, checks: 2, edges: 4 }));
+    }
+    let code = chain();
+    table_refused(&[], 1);
+    table_refused(&code[..3], 1);
+    table_refused(&set(&code, 0, 0), 2);
+    table_refused(&set(&code, 2, 2049), 2);
+    table_refused(&set(&code, 6, 0), 3);
+    table_refused(&set(&code, 10, 33), 3);
+    table_refused(&set(&code, 4, 1), 4);
+    table_refused(&set(&code, 8, 1), 4);
+    table_refused(&code[..code.len() - 1], 5);
+    table_refused(&set(&code, 12, 1), 6);
+    table_refused(&set(&code, 18, 3), 6);
+    table_refused(&set(&code, 0, 4), 7);
+    table_refused(&bytes_of(1, &vec![vec![0]; 33]), 7);
+}
+
+#[test]
+fn code_files_in_order() {
+    let code = chain();
+    // Contents that don't fit come before a wrong count, and a wrong count before a wrong start.
+    table_refused(&set(&code, 6, 0)[..11], 5);
+    table_refused(&set(&set(&code, 4, 9), 10, 0), 3);
+    // Too many edges are refused though the bodies are missing.
+    let large = bytes_of(2048, &vec![(0..32).collect(); 257]);
+    table_refused(&large[..4 + 4 * 257], 4);
+    // A wrong member in the last check comes before a bit without checks.
+    table_refused(&set(&set(&code, 0, 4), 18, 1), 6);
+}
+
+fn judge_refused(frame: &[i16], word: &[u8], certificate: &[u8], number: u32) {
+    for decoder in ALL {
+        let verdict = decoder.judge(&three_bits(), frame, word, certificate);
+        assert_eq!(verdict, Err(Refusal(number)), "{}", decoder.name());
+    }
+}
+
+/// A certificate of scale 1 for three bits.
+fn certificate(entries: &[(u16, u32, u32)]) -> Vec<u8> {
+    let mut bytes = vec![entries.len() as u8, 0, 1, 0];
+    for (check, multiplier, _) in entries {
+        bytes.extend(check.to_le_bytes());
+        bytes.extend(multiplier.to_le_bytes());
+    }
+    bytes.extend(entries.iter().flat_map(|(_, _, mask)| mask.to_le_bytes()));
+    bytes
+}
+
+#[test]
+fn certificates() {
+    let (frame, word) = ([4000, 4000, -2000], [0, 0, 0]);
+    let refused =
+        |entries: &[(u16, u32, u32)], number| judge_refused(&frame, &word, &certificate(entries), number);
+    judge_refused(&frame, &word, &[0, 0, 1], 10);
+    judge_refused(&frame, &word, &[1, 0, 1, 0], 10);
+    judge_refused(&frame, &word, &[0, 0, 0, 0], 11);
+    judge_refused(&frame, &word, &[0, 0, 0, 4], 11);
+    refused(&[(1, 5, 1)], 12);
+    refused(&[(0, 0, 1)], 12);
+    refused(&[(0, 16_777_216, 1)], 12);
+    refused(&[(0, 5, 3)], 13);
+    refused(&[(0, 5, 8)], 13);
+    refused(&[(0, 5, 2), (0, 5, 2)], 14);
+    refused(&[(0, 5, 2), (0, 5, 1)], 14);
+    // Entry by entry: 14 of the second comes before 12 of the third.
+    refused(&[(0, 5, 2), (0, 5, 1), (9, 5, 1)], 14);
+    refused(&[(0, 5, 2), (9, 5, 1), (0, 5, 1)], 12);
+    // One too many entries, of a fitting length.
+    let mut long = vec![0; 4 + 10 * 4097];
+    (long[0], long[1]) = (0x01, 0x10);
+    judge_refused(&frame, &word, &long, 10);
+}
+
+#[test]
+fn frames_and_words() {
+    let sound = certificate(&[]);
+    judge_refused(&[1, 1], &[0, 0, 0], &sound, 8);
+    judge_refused(&[1, 1, 8192], &[0, 0, 0], &sound, 9);
+    judge_refused(&[1, 1, i16::MIN], &[0, 0], &[], 9);
+    judge_refused(&[1, 1, -8191], &[0, 0], &[], 15);
+    judge_refused(&[1, 1, 8191], &[0, 0, 2], &[], 15);
+    let whole = certificate(&[(0, 1, 1), (0, 1, 7)]);
+    for decoder in ALL {
+        let verdict = decoder.judge(&three_bits(), &[1, 1, 1], &[1, 1, 1], &whole);
+        assert_eq!(verdict, Ok(Verdict::Broken(0)));
+    }
+}
+
+/// At degree 32 every bit of a mask is a member.
+#[test]
+fn full_mask() {
+    let code = bytes_of(32, &[(0..32).collect()]);
+    for decoder in ALL {
+        let judge = |mask| decoder.judge(&code, &[1; 32], &[0; 32], &certificate(&[(0, 1, mask)]));
+        assert_eq!(judge(1 << 31), Ok(Verdict::Certified));
+        assert_eq!(judge(u32::MAX), Err(Refusal::ENTRY_MASK));
+    }
+}
+
+/// A call on three bits; `change` edits record, wanted and buffers before it.
+fn call(number: u32, change: impl Fn(&mut Record, &mut u32, &mut State, &mut [usize; 7])) {
+    for decoder in ALL {
+        let mut state = State::zeroed(&Shape::of(&three_bits()).unwrap());
+        let (mut record, mut wanted) = (Record::FRESH, 1);
+        let mut lengths = state.lengths();
+        change(&mut record, &mut wanted, &mut state, &mut lengths);
+        let before = state.clone();
+        let called = decoder.rounds(&three_bits(), &[40, 40, -20], record, wanted, state.lend(&lengths));
+        if number == 0 {
+            assert_eq!(called.refusal, None, "{}", decoder.name());
+        } else {
+            assert_eq!(called, Called::refused(Refusal(number), record), "{}", decoder.name());
+            assert!(state == before, "{}", decoder.name());
+        }
+    }
+}
+
+#[test]
+fn calls() {
+    call(0, |_, wanted, _, _| *wanted = 0);
+    call(17, |_, wanted, _, _| *wanted = 1025);
+    for buffer in 0..7 {
+        call(41, |_, _, _, lengths| lengths[buffer] -= 1);
+    }
+    call(42, |record, _, _, _| record.status = Record::CERTIFIED);
+    call(42, |record, wanted, _, _| (record.status, *wanted) = (Record::SPENT, 0));
+    call(43, |record, wanted, _, _| (record.rounds, *wanted) = (1024, 0));
+    call(43, |record, _, _, _| record.rounds = u32::MAX);
+    call(43, |record, _, _, _| record.status = 3);
+    call(43, |_, _, state, _| state.copies.lent_mut()[2] = -4097);
+    call(43, |_, _, state, _| state.offsets.lent_mut()[0] = 1);
+    call(0, |record, _, state, _| {
+        record.rounds = 1023;
+        state.offsets.lent_mut()[0] = -8192 * 1023;
+        state.copies.lent_mut()[0] = -4096;
+    });
+    call(43, |record, _, state, _| {
+        record.rounds = 1023;
+        state.offsets.lent_mut()[0] = -8192 * 1023 - 1;
+    });
+}
+
+#[test]
+fn calls_in_order() {
+    call(17, |record, wanted, _, lengths| {
+        (record.status, *wanted) = (Record::SPENT, u32::MAX);
+        lengths[0] = 0;
+    });
+    call(41, |record, _, _, lengths| {
+        record.status = Record::SPENT;
+        lengths[6] -= 1;
+    });
+    call(42, |record, _, state, _| {
+        *record = Record { rounds: 5000, status: Record::CERTIFIED };
+        state.copies.lent_mut()[0] = i32::MIN;
+    });
+}
+
+#[test]
+fn starts() {
+    for decoder in ALL {
+        let (mut copies, mut offsets) = ([7; 4], [7; 4]);
+        let start = decoder.start(&three_bits(), &mut copies[..2], &mut offsets);
+        assert_eq!((start, copies, offsets), (Err(Refusal::BUFFER), [7; 4], [7; 4]));
+        let start = decoder.start(&three_bits(), &mut copies, &mut offsets);
+        assert_eq!((start, copies, offsets), (Ok(Record::FRESH), [0, 0, 0, 7], [0, 0, 0, 7]));
+    }
+}
