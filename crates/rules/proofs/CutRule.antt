@@ -6,7 +6,7 @@ use mathlib.Core.Logic.{_⊎_, inl, inr, _↔_}
 use mathlib.Core.List.{List, [], _∷_}
 use mathlib.Core.Option.{Option, some, none}
 use Prim.Native.Nat.{ℕ, _*_}
-use lib.IntN.{ℤ, pos, negℤ, _+ℤ_}
+use lib.IntN.{ℤ, pos, negℤ, _+ℤ_, +ℤ-idr}
 use lib.Signed.{_<ℤ_, ltZ}
 use Rattle.integers.specs.Linear.{lin, arithZ, _⩽_, Within, lt-ltZ}
 use Rattle.integers.specs.Sum.{AllWithin}
@@ -26,9 +26,6 @@ pair-tf u x l r k = simp lin (omega arithZ)
 
 pair-ft : (u : ℕ) (x l r k : ℤ) → k ⩽ l +ℤ r → pos (2 * u) +ℤ k ⩽ ((pos u +ℤ negℤ x) +ℤ l) +ℤ ((pos u +ℤ x) +ℤ r)
 pair-ft u x l r k = simp lin (omega arithZ)
-
-add-zero : (k : ℤ) → k +ℤ pos 0 ≡ k
-add-zero k = simp lin (omega arithZ)
 
 up-from : (k l : ℤ) (u : ℕ) → pos (2 * u) +ℤ k ⩽ l → k ⩽ l
 up-from k l u = simp lin (omega arithZ)
@@ -57,8 +54,8 @@ sum-unlike u (x ∷ ss) [] τ w h k e = absurd h
 sum-unlike u (x ∷ ss) (s ∷ σ) [] w h k e = absurd k
 sum-unlike u (x ∷ ss) (true ∷ σ) (true ∷ τ) w h k e = pair-same u true x (left u σ ss) (left u τ ss) (pos (2 * u)) (w .0) (sum-unlike u ss σ τ (w .1) h k (not-inj (odd σ) (not (odd τ)) e))
 sum-unlike u (x ∷ ss) (false ∷ σ) (false ∷ τ) w h k e = pair-same u false x (left u σ ss) (left u τ ss) (pos (2 * u)) (w .0) (sum-unlike u ss σ τ (w .1) h k e)
-sum-unlike u (x ∷ ss) (true ∷ σ) (false ∷ τ) w h k e = rw (add-zero (pos (2 * u))) at (pair-tf u x (left u σ ss) (left u τ ss) (pos 0) (sum-nonneg u ss σ τ (w .1) h k))
-sum-unlike u (x ∷ ss) (false ∷ σ) (true ∷ τ) w h k e = rw (add-zero (pos (2 * u))) at (pair-ft u x (left u σ ss) (left u τ ss) (pos 0) (sum-nonneg u ss σ τ (w .1) h k))
+sum-unlike u (x ∷ ss) (true ∷ σ) (false ∷ τ) w h k e = rw (+ℤ-idr (pos (2 * u))) at (pair-tf u x (left u σ ss) (left u τ ss) (pos 0) (sum-nonneg u ss σ τ (w .1) h k))
+sum-unlike u (x ∷ ss) (false ∷ σ) (true ∷ τ) w h k e = rw (+ℤ-idr (pos (2 * u))) at (pair-ft u x (left u σ ss) (left u τ ss) (pos 0) (sum-nonneg u ss σ τ (w .1) h k))
 
 -- of like parity and not the same: they differ in two places
 pub sum-like : (u : ℕ) (ss : List ℤ) (σ τ : List Bool) → AllWithin u ss → Alike σ ss → Alike τ ss → odd σ ≡ odd τ

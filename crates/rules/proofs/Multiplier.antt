@@ -2,8 +2,9 @@
 use mathlib.Core.Path.{_≡_, refl, sym, _∙_, ap, ap₂, subst}
 use mathlib.Core.Bool.{Bool, true, false, true≢false, false≢true}
 use mathlib.Core.List.{List, [], _∷_}
-use Prim.Native.Nat.{ℕ, zero, suc, _+_, _*_, _^_, _≤_, _<_}
+use Prim.Native.Nat.{ℕ, suc, _+_, _*_, _^_, _≤_, _<_}
 use native.Mathlib.Omega.{arith}
+use native.Mathlib.Nat.{le-of-suc-le-suc, lt-of-not-le}
 use native.Mathlib.Decide.{decLe}
 use lib.IntN.{ℤ, pos, negℤ, _+ℤ_}
 use lib.Signed.{_<ℤ_, ltZ}
@@ -95,28 +96,19 @@ multiplier-least u m ts vs o k w h l = record { meets = t .fails; none-less = λ
     t = last-turns (short u ts vs) 24 0 (lt-ltZ (left u ts (moves u 0 ts vs)) (pos (2 * u)) (subst (λ z. left u ts z <ℤ pos (2 * u)) (sym (moves-zero u ts vs k)) l))
         (far-met u m (0 + 2 ^ 24) ts vs o k w (omega arith))
 
-    past : (r s : ℕ) → ¬ (suc r ≤ s) → s ≤ r
-    past r s f = omega arith
-
     go : Dec (suc (lastWhere (short u ts vs) 24 0) ≤ u + m) → suc (lastWhere (short u ts vs) 24 0) ≤ u + m
     go (yes p) = p
-    go (no f) = absurd (true≢false (sym (t .holds) ∙ far-met u m (lastWhere (short u ts vs) 24 0) ts vs o k w (past (lastWhere (short u ts vs) 24 0) (u + m) f)))
+    go (no f) = absurd (true≢false (sym (t .holds) ∙ far-met u m (lastWhere (short u ts vs) 24 0) ts vs o k w (le-of-suc-le-suc (lt-of-not-le f))))
 
 -- a search of any kind that ends where the test turns has found it
 pub multiplier-unique : (u m : ℕ) (ts : List Bool) (vs : List ℤ) (b : ℕ) → Least u m ts vs → short u ts vs b ≡ true → short u ts vs (suc b) ≡ false → suc b ≡ multiplier u ts vs
 multiplier-unique u m ts vs b h lo hi = go (decLe (suc b) (multiplier u ts vs)) (decLe (multiplier u ts vs) (suc b))
   where
     after : ¬ (suc b ≤ multiplier u ts vs) → ⊥
-    after f = true≢false (sym (short-mono u ts vs (multiplier u ts vs) b (past b (multiplier u ts vs) f) lo) ∙ h .meets)
-      where
-        past : (b n : ℕ) → ¬ (suc b ≤ n) → n ≤ b
-        past b n f = omega arith
+    after f = true≢false (sym (short-mono u ts vs (multiplier u ts vs) b (le-of-suc-le-suc (lt-of-not-le f)) lo) ∙ h .meets)
 
     before : ¬ (multiplier u ts vs ≤ suc b) → ⊥
-    before f = true≢false (sym (h .none-less (suc b) (past b (multiplier u ts vs) f)) ∙ hi)
-      where
-        past : (b n : ℕ) → ¬ (n ≤ suc b) → suc b < n
-        past b n f = omega arith
+    before f = true≢false (sym (h .none-less (suc b) (lt-of-not-le f)) ∙ hi)
 
     go : Dec (suc b ≤ multiplier u ts vs) → Dec (multiplier u ts vs ≤ suc b) → suc b ≡ multiplier u ts vs
     go (yes p) (yes q) = omega arith

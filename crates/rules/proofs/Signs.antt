@@ -1,11 +1,11 @@
 -- Laws of bits and signs: a codeword turns the numbers under its ones, and each set on a check with them. Assumes nothing.
 use mathlib.Core.Path.{_≡_, refl, sym, _∙_, ap, ap₂}
 use mathlib.Core.Bool.{Bool, true, false, not}
-use mathlib.Core.List.{List, [], _∷_, _++_}
+use mathlib.Core.List.{List, [], _∷_}
 use Prim.Native.Nat.{ℕ, zero, suc}
 use native.Mathlib.Omega.{arith}
 use lib.ListN.{length, getD}
-use lib.IntN.{ℤ, pos, negsuc, negℤ, _+ℤ_, _-ℤ_, negℤ-negℤ}
+use lib.IntN.{ℤ, pos, _+ℤ_, _-ℤ_, negℤ-negℤ}
 use Rattle.integers.specs.Linear.{lin, arithZ, Within}
 use Rattle.integers.specs.Sum.{AllWithin}
 use Rattle.integers.specs.Clip.{clipZ, clip-neg}
