@@ -1,6 +1,6 @@
--- Counting on: the k places from i, the first of them and the rest. Assumes nothing.
+-- Counting on: the k places from i, the first of them and the rest; what is left of m from j on. Assumes nothing.
 use mathlib.Core.Path.{_≡_}
-use Prim.Native.Nat.{ℕ, suc, _+_, _≤_, _<_}
+use Prim.Native.Nat.{ℕ, suc, _+_, _-_, _≤_, _<_}
 use native.Mathlib.Omega.{arith}
 
 pub first-in : (i k n : ℕ) → i + suc k ≤ n → i < n
@@ -8,6 +8,9 @@ first-in i k n h = omega arith
 
 pub rest-in : (i k n : ℕ) → i + suc k ≤ n → i + 1 + k ≤ n
 rest-in i k n h = omega arith
+
+pub left-more : (j m : ℕ) → j < m → m - j ≡ suc (m - (j + 1))
+left-more j m h = omega arith
 
 -- a place j from i on: there is none among no places, and if it is not i it is among the rest
 pub none-left : (i j : ℕ) → i ≤ j → j < i + 0 → ⊥

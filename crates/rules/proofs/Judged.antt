@@ -7,6 +7,7 @@ use mathlib.Core.List.{List, [], _∷_}
 use mathlib.Core.Option.{Option, some, none}
 use Prim.Native.Nat.{ℕ, zero, suc, _*_, _≤_, _<_}
 use native.Mathlib.Omega.{arith}
+use native.Mathlib.Nat.{le-of-suc-le-suc, not-suc-le-zero}
 use lib.Dec.{leb, ltb, eqb}
 use borrow.Author.Tests.{ltb-true, eqb-true}
 use lib.ListN.{length, getD}
@@ -120,15 +121,15 @@ items-placed t p (i ∷ is) a b e =
     ((q .0, r .0), r .1)
 
 pub members-below : (n : ℕ) (cs : List (List ℕ)) (j : ℕ) → j < length cs → AllBelow n cs → Below n (getD cs j [])
-members-below n [] j h b = absurd (omega arith)
+members-below n [] j h b = absurd (not-suc-le-zero h)
 members-below n (ms ∷ cs) zero h b = b .0
-members-below n (ms ∷ cs) (suc j) h b = members-below n cs j (omega arith) (b .1)
+members-below n (ms ∷ cs) (suc j) h b = members-below n cs j (le-of-suc-le-suc h) (b .1)
 
 keeps-at : (d : ℕ) (f : ℕ → ℤ) (cs : List (List ℕ)) (j : ℕ) → j < length cs → Keeps d f cs → (vs : List Bool) → odd vs ≡ true → Alike vs (getD cs j [])
     → pos (2 * d) ⩽ left d vs (valuesAt f (getD cs j []))
-keeps-at d f [] j h k = absurd (omega arith)
+keeps-at d f [] j h k = absurd (not-suc-le-zero h)
 keeps-at d f (ms ∷ cs) zero h k = k .0
-keeps-at d f (ms ∷ cs) (suc j) h k = keeps-at d f cs j (omega arith) (k .1)
+keeps-at d f (ms ∷ cs) (suc j) h k = keeps-at d f cs j (le-of-suc-le-suc h) (k .1)
 
 item-kept : (t : Table) (d : ℕ) (f : ℕ → ℤ) (i : Item) → AllBelow (t .bits) (t .checks) → Keeps d f (t .checks) → Placed t i → Kept (t .bits) d f (rowAt t i)
 item-kept t d f i b k p = record {

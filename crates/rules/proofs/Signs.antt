@@ -35,6 +35,10 @@ pub ⊕-zero : (a : Bool) → a ⊕ false ≡ a
 ⊕-zero true = refl
 ⊕-zero false = refl
 
+pub ⊕-true : (a : Bool) → a ⊕ true ≡ not a
+⊕-true true = refl
+⊕-true false = refl
+
 pub ⊕-twice : (a b : Bool) → a ⊕ (a ⊕ b) ≡ b
 ⊕-twice true true = refl
 ⊕-twice true false = refl

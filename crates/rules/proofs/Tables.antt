@@ -4,8 +4,9 @@ use mathlib.Core.Bool.{Bool, true, false, _&&_}
 use mathlib.Core.List.{List, [], _∷_}
 use Prim.Native.Nat.{ℕ, zero, suc, _+_, _*_, _≤_, _<_}
 use native.Mathlib.Omega.{arith}
+use native.Mathlib.Nat.{le-of-suc-le-suc, not-suc-le-zero}
 use lib.Dec.{leb, ltb, eqb}
-use lib.ListN.{length}
+use lib.ListN.{length, getD}
 use borrow.Author.Tests.{ltb-true, leb-true, eqb-true, eqb-false}
 use Rattle.integers.specs.Count.{none-left, after-first, before-end}
 use Rattle.rules.specs.Limits.{maxBits, maxChecks, minDegree, maxDegree, maxEdges, maxBitDegree, contentsEnd, fileLength}
@@ -30,6 +31,11 @@ AllAscending (ms ∷ cs) = Ascending 0 ms × AllAscending cs
 abbrev pub Degrees : List (List ℕ) → Type 0
 Degrees [] = Unit {0}
 Degrees (ms ∷ cs) = ((minDegree ≤ length ms) × (length ms ≤ maxDegree)) × Degrees cs
+
+pub degree-at : (cs : List (List ℕ)) (j : ℕ) → j < length cs → Degrees cs → (minDegree ≤ length (getD cs j [])) × (length (getD cs j []) ≤ maxDegree)
+degree-at [] j h d = absurd (not-suc-le-zero h)
+degree-at (ms ∷ cs) zero h d = d .0
+degree-at (ms ∷ cs) (suc j) h d = degree-at cs j (le-of-suc-le-suc h) (d .1)
 
 pub record Sound (t : Table) : Type 0 where
   pub bits : (1 ≤ t .bits) × (t .bits ≤ maxBits)
