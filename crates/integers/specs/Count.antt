@@ -9,6 +9,9 @@ first-in i k n h = omega arith
 pub rest-in : (i k n : ℕ) → i + suc k ≤ n → i + 1 + k ≤ n
 rest-in i k n h = omega arith
 
+pub one-on : (i k : ℕ) → i + 1 + k ≡ i + suc k
+one-on i k = omega arith
+
 pub left-more : (j m : ℕ) → j < m → m - j ≡ suc (m - (j + 1))
 left-more j m h = omega arith
 
