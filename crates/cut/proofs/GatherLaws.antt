@@ -1,21 +1,14 @@
 -- The spins at a check's members: none, one more, all. Assumes nothing.
 use mathlib.Core.Path.{_≡_, refl, sym, _∙_, ap, ap₂}
 use mathlib.Core.List.{List, [], _∷_, _++_, append-assoc}
-use Prim.Native.Nat.{ℕ, zero, suc, _+_, _≤_, _<_}
+use Prim.Native.Nat.{ℕ, suc, _+_, _≤_, _<_}
 use native.Mathlib.Omega.{arith}
-use native.Mathlib.Nat.{le-of-suc-le-suc}
 use native.Mathlib.Numerals.{add-one}
 use lib.ListN.{length, getD, take, drop, set}
 use lib.Seq.{take-suc, drop-cons, set-at, length-take-le, take-all, take-at}
 use lib.IntN.{ℤ, pos}
 use Rattle.rules.specs.Limits.{maxDegree}
 use Rattle.rules.specs.Table.{valuesAt}
-use Rattle.rules.proofs.Duality.{Below}
-
-pub below-at : (n : ℕ) (ms : List ℕ) (k : ℕ) → k < length ms → Below n ms → getD ms k 0 < n
-below-at n [] k h b = absurd (omega arith)
-below-at n (m ∷ ms) zero h b = b .0
-below-at n (m ∷ ms) (suc k) h b = below-at n ms k (le-of-suc-le-suc h) (b .1)
 
 pub values-length : (f : ℕ → ℤ) (ms : List ℕ) → length (valuesAt f ms) ≡ length ms
 values-length f [] = refl

@@ -4,7 +4,6 @@ pub mod SideLaws
 pub mod MaskLaws
 pub mod OfLaws
 pub mod GatherLaws
-pub mod PartLaws
 pub mod ReplyLaws
 pub mod SearchLaws
 pub mod SearchRule

@@ -5,6 +5,7 @@ use mathlib.Core.List.{List, [], _∷_}
 use Prim.Native.Nat.{ℕ, suc, _+_, _*_, _-_, _%_, _^_, _≤_, _<_, min}
 use native.Mathlib.Decide.{decLe}
 use native.Mathlib.Omega.{arith}
+use native.Mathlib.Nat.{min-eq-left, min-le-right, le-min, le-refl, le-trans, le-of-lt, lt-of-not-le}
 use lib.Bits.{bitXor}
 use lib.Count.{ones}
 use lib.Dec.{eqb, ltb}
@@ -93,24 +94,14 @@ take-most : (n : ℕ) (l : List ℤ) → take (min n (length l)) l ≡ take n l
 take-most n l = go (decLe n (length l))
   where
     go : Dec (n ≤ length l) → take (min n (length l)) l ≡ take n l
-    go (yes h) = ap (λ k. take k l) (fewer h)
-      where
-        fewer : n ≤ length l → min n (length l) ≡ n
-        fewer h = omega arith
-    go (no f) = take-all (min n (length l)) l (all f) ∙ sym (take-all n l (more f))
-      where
-        all : ¬ (n ≤ length l) → length l ≤ min n (length l)
-        all f = omega arith
-
-        more : ¬ (n ≤ length l) → length l ≤ n
-        more f = omega arith
+    go (yes h) = ap (λ k. take k l) (min-eq-left h)
+    go (no f) =
+        let more = le-of-lt (lt-of-not-le f) in
+        take-all (min n (length l)) l (le-min more (le-refl (length l))) ∙ sym (take-all n l more)
 
 smallest-most : (u : ℕ) (ss : List ℤ) → smallest u ss ≤ u
 smallest-most u [] = omega arith
-smallest-most u (s ∷ ss) = lower (natAbs s) (smallest u ss) (smallest-most u ss)
-  where
-    lower : (a b : ℕ) → b ≤ u → min a b ≤ u
-    lower a b h = omega arith
+smallest-most u (s ∷ ss) = le-trans (min-le-right (natAbs s) (smallest u ss)) (smallest-most u ss)
 
 place-inside : (ss : List ℤ) (k : ℕ) → Smallest ss k → length ss ≤ maxDegree → k < maxDegree
 place-inside [] k p h = omega arith

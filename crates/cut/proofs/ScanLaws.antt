@@ -4,7 +4,7 @@ use mathlib.Core.Bool.{Bool, true, false, cond}
 use mathlib.Core.List.{List, [], _∷_, _++_}
 use Prim.Native.Nat.{ℕ, suc, _+_, _*_, _^_, _≤_, _<_, min}
 use native.Mathlib.Omega.{arith}
-use native.Mathlib.Nat.{pow-suc}
+use native.Mathlib.Nat.{pow-suc, add-assoc, le-of-lt, min-eq-left, min-eq-right}
 use native.Mathlib.Numerals.{add-one}
 use lib.Dec.{ltb}
 use lib.ListN.{length, take, length-append, List·getD-append}
@@ -71,10 +71,7 @@ sizes-more [] z = swap (natAbs z)
   where
     swap : (n : ℕ) → n + 0 ≡ 0 + n
     swap n = omega arith
-sizes-more (s ∷ ss) z = ap (λ n. natAbs s + n) (sizes-more ss z) ∙ assoc (natAbs s) (sizes ss) (natAbs z)
-  where
-    assoc : (a b c : ℕ) → a + (b + c) ≡ a + b + c
-    assoc a b c = omega arith
+sizes-more (s ∷ ss) z = ap (λ n. natAbs s + n) (sizes-more ss z) ∙ sym (add-assoc (natAbs s) (sizes ss) (natAbs z))
 
 smallest-more : (u : ℕ) (ss : List ℤ) (z : ℤ) → smallest u (ss ++ (z ∷ [])) ≡ min (natAbs z) (smallest u ss)
 smallest-more u [] z = refl
@@ -93,41 +90,29 @@ Holds ss k = (k < length ss) × (natAbs (at ss k) ≡ smallest unit ss)
 last-smallest : (ss : List ℤ) (z : ℤ) → natAbs z ≤ smallest unit ss → Holds (ss ++ (z ∷ [])) (length ss)
 last-smallest ss z h = (
   subst (λ n. length ss < n) (sym (length-more ss z)) (omega arith),
-  ap natAbs (getD-append-seam ss z [] (pos 0)) ∙ lower (natAbs z) (smallest unit ss) h ∙ sym (smallest-more unit ss z),
+  ap natAbs (getD-append-seam ss z [] (pos 0)) ∙ sym (min-eq-left h) ∙ sym (smallest-more unit ss z),
 )
-  where
-    lower : (a b : ℕ) → a ≤ b → a ≡ min a b
-    lower a b h = omega arith
 
 still-smallest : (ss : List ℤ) (z : ℤ) (k : ℕ) → smallest unit ss ≤ natAbs z → Holds ss k → Holds (ss ++ (z ∷ [])) k
 still-smallest ss z k h p = (
   subst (λ n. k < n) (sym (length-more ss z)) (omega (arith, p .0)),
-  ap natAbs (List·getD-append ss (z ∷ []) (pos 0) k (p .0)) ∙ p .1 ∙ upper (natAbs z) (smallest unit ss) h ∙ sym (smallest-more unit ss z),
+  ap natAbs (List·getD-append ss (z ∷ []) (pos 0) k (p .0)) ∙ p .1 ∙ sym (min-eq-right h) ∙ sym (smallest-more unit ss z),
 )
-  where
-    upper : (a b : ℕ) → b ≤ a → b ≡ min a b
-    upper a b h = omega arith
 
 -- the first place stays on a tie
 lowest-more : (ss : List ℤ) (z : ℤ) (k : ℕ) → Within unit z → Smallest ss k → Smallest (ss ++ (z ∷ [])) (cond (ltb (natAbs z) (smallest unit ss)) (length ss) k)
 lowest-more [] z k w e = go (ltb (natAbs z) unit) refl
   where
-    most : natAbs z ≤ unit
-    most = natAbs-≤ z unit w
-
-    same : (a : ℕ) → a ≤ unit → a ≡ min a unit
-    same a h = omega arith
+    same : natAbs z ≡ min (natAbs z) unit
+    same = sym (min-eq-left (natAbs-≤ z unit w))
 
     go : (b : Bool) → ltb (natAbs z) unit ≡ b → Holds (z ∷ []) (cond b 0 k)
-    go true p = (omega arith, same (natAbs z) most)
-    go false p = subst (Holds (z ∷ [])) (sym e) (omega arith, same (natAbs z) most)
+    go true p = (omega arith, same)
+    go false p = subst (Holds (z ∷ [])) (sym e) (omega arith, same)
 lowest-more (s ∷ ss) z k w p = go (ltb (natAbs z) (smallest unit (s ∷ ss))) refl
   where
-    weaken : (a b : ℕ) → a < b → a ≤ b
-    weaken a b h = omega arith
-
     go : (b : Bool) → ltb (natAbs z) (smallest unit (s ∷ ss)) ≡ b → Holds ((s ∷ ss) ++ (z ∷ [])) (cond b (length (s ∷ ss)) k)
-    go true q = last-smallest (s ∷ ss) z (weaken (natAbs z) (smallest unit (s ∷ ss)) (ltb-true (natAbs z) (smallest unit (s ∷ ss)) q))
+    go true q = last-smallest (s ∷ ss) z (le-of-lt (ltb-true (natAbs z) (smallest unit (s ∷ ss)) q))
     go false q = still-smallest (s ∷ ss) z k (ltb-false (natAbs z) (smallest unit (s ∷ ss)) q) p
 
 with-more : (ss : List ℤ) (s : Scan) (z : ℤ) → Within unit z → Scanned ss s → Scanned (ss ++ (z ∷ [])) (withValue s z (length ss))

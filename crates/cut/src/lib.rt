@@ -23,9 +23,10 @@ ghost use Rattle.rules.specs.Limits.{unit, maxDegree};
 ghost use Rattle.rules.specs.Refusal.{replyOf};
 ghost use Rattle.rules.specs.Cut.{cut, cutValues, cutReply};
 ghost use Rattle.rules.specs.Step.{clips};
+ghost use Rattle.table.specs.Held.{Part};
 ghost use Rattle.cut.specs.CutMask.{cutMask};
 ghost use Rattle.cut.specs.Reply.{numbered};
-ghost use Rattle.cut.specs.Search.{PartFits, searchRefusal, tableSearch, maskReply};
+ghost use Rattle.cut.specs.Search.{searchRefusal, tableSearch, maskReply};
 
 // The answer: a refusal's number, none, or the violated set.
 pub enum Found {
@@ -114,7 +115,7 @@ fn search_table(
     spins: &[i32],
     check: usize,
 ) -> Found
-    requires { ⌜ (check < checks → PartFits (now starts) (now members) bits check) ⌝ }
+    requires { ⌜ (check < checks → Part bits (now starts) (now members) check) ⌝ }
     ensures { λ r. ⌜ numbered r ≡ replyOf cutValues (tableSearch (now (starts .entry)) (now (members .entry)) bits checks (now (spins .entry)) check) ⌝ }
 {
     let refused = refusal(bits, checks, spins, check);

@@ -1,12 +1,13 @@
 -- The order of ℤ: total, kept by sums, turned round by negation. Each law is one line of `lin`: cite none of them inside a linear proof, which proves it anew. Assumes nothing.
 use mathlib.Core.Path.{_≡_}
+use mathlib.Core.Bool.{true}
 use mathlib.Core.Logic.{_⊎_, inl, inr}
 use Prim.Native.Nat.{ℕ, _≤_, _<_, _+_}
 use native.Mathlib.Decide.{decLe}
 use native.Mathlib.Omega.{arith}
 use native.Mathlib.Nat.{lt-of-not-le}
 use lib.IntN.{ℤ, pos, negℤ, _+ℤ_, _-ℤ_}
-use lib.Signed.{_≤ℤ_, _<ℤ_}
+use lib.Signed.{_≤ℤ_, _<ℤ_, ltZ}
 use Rattle.integers.specs.Linear.{lin, arithZ, _⩽_, Within, up, dn, le-in, le-out, lt-in, eq-in}
 
 pub le-trans : (a b c : ℤ) → a ⩽ b → b ⩽ c → a ⩽ c
@@ -49,6 +50,13 @@ sub-zero a b = simp lin (omega arithZ)
 
 pub zero-sub : (a : ℤ) → pos 0 -ℤ a ≡ negℤ a
 zero-sub a = simp lin (omega arithZ)
+
+pub le-lt-trans : (a b c : ℤ) → a ⩽ b → b <ℤ c → a <ℤ c
+le-lt-trans a b c = simp lin (omega arithZ)
+
+-- what a test's flag says
+pub ltZ-lt : (a b : ℤ) → ltZ a b ≡ true → a <ℤ b
+ltZ-lt a b = simp lin (omega arithZ)
 
 -- at most, and not equal: less. So `!=` of two numbers that are ordered tells which is the less
 pub lt-of-ne : {a b : ℤ} → a ≤ℤ b → (a ≡ b → ⊥) → a <ℤ b

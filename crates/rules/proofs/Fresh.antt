@@ -76,7 +76,7 @@ module _ (file : List ℕ) (t : Table) (b : Buffers) (f : FreshStart file t b) w
       (zero-length (start file (b .copies) (b .offsets) .offsets) (b .offsets) (at-start .offsets) (at-start .room .1))
 
 -- ---- so it is safe
-zeros-within : (m e : ℕ) → AllWithin m (zeros e)
+pub zeros-within : (m e : ℕ) → AllWithin m (zeros e)
 zeros-within m zero = tt
 zeros-within m (suc e) = (within-zero m, zeros-within m e)
 

@@ -9,7 +9,7 @@ use native.Mathlib.Decide.{decLe}
 use lib.IntN.{ℤ, pos, negℤ, _+ℤ_}
 use lib.Signed.{_<ℤ_, ltZ}
 use Rattle.integers.specs.Linear.{lin, arithZ, _⩽_, Within, lt-ltZ, le-ltZ}
-use Rattle.integers.specs.Order.{neg-mono}
+use Rattle.integers.specs.Order.{neg-mono, le-lt-trans, ltZ-lt}
 use Rattle.integers.specs.Clip.{clipZ, clip-mono, clip-top, clip-bottom}
 use Rattle.integers.specs.Sum.{AllWithin}
 use Rattle.rules.specs.Parity.{side, odd, Alike, left}
@@ -36,11 +36,8 @@ reach-mono u a b [] vs h = record { le = tt }
 reach-mono u a b (t ∷ ts) [] h = record { le = tt }
 reach-mono u a b (t ∷ ts) (v ∷ vs) h = sum-le u (side t (move u a t v)) (side t (move u b t v)) (left u ts (moves u a ts vs)) (left u ts (moves u b ts vs)) (side-mono u a b t v h) (reach-mono u a b ts vs h)
 
-lt-from : (a b : ℤ) (c : ℤ) → a ⩽ b → ltZ b c ≡ true → a <ℤ c
-lt-from a b c = simp lin (omega arithZ)
-
 pub short-mono : (u : ℕ) (ts : List Bool) (vs : List ℤ) (a b : ℕ) → a ≤ b → short u ts vs b ≡ true → short u ts vs a ≡ true
-short-mono u ts vs a b h e = lt-ltZ (left u ts (moves u a ts vs)) (pos (2 * u)) (lt-from (left u ts (moves u a ts vs)) (left u ts (moves u b ts vs)) (pos (2 * u)) (reach-mono u a b ts vs h) e)
+short-mono u ts vs a b h e = lt-ltZ (left u ts (moves u a ts vs)) (pos (2 * u)) (le-lt-trans (left u ts (moves u a ts vs)) (left u ts (moves u b ts vs)) (pos (2 * u)) (reach-mono u a b ts vs h) (ltZ-lt (left u ts (moves u b ts vs)) (pos (2 * u)) e))
 
 -- ---- far out every member is at u
 top-in : (u m b : ℕ) (v : ℤ) → Within m v → u + m ≤ b → pos u ⩽ v +ℤ pos b
