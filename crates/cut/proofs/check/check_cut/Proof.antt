@@ -56,8 +56,7 @@ part-is c =
 
 members-cut-requires : tie.Need-members-cut-requires
 members-cut-requires c κs =
-    let start = c .before .before .before .before .before .before .before in
-    (
+    let start = c .before .before .before .before .before .before .before in (
       subst (λ l. length l ≤ maxDegree) (sym (part-is (c .before))) (subst (λ d. d ≤ maxDegree) (sym (part-length _ _ _ _ (start .pre))) (start .pre .start .degree)),
       subst (Below (length (start .args .spins .now))) (sym (part-is (c .before))) (start .pre .inside),
     )
