@@ -5,11 +5,10 @@ use Prim.Native.Nat.{ℕ, suc, _+_, _*_, _%_, _^_, _≤_, _<_}
 use native.Mathlib.Omega.{arith}
 use native.Mathlib.Nat.{one-mul, pow-suc}
 use lib.Dec.{lit<}
-use lib.IntN.{ℤ, pos, negsuc, natAbs, _-ℤ_}
+use lib.IntN.{ℤ, pos, negsuc, negℤ, natAbs, _-ℤ_, +ℤ-idl}
 use lib.Pow.{shl-exact, pow-mono}
 use lib.Signed.{_≤ℤ_, _<ℤ_}
 use Rattle.integers.specs.Linear.{arithZ}
-use Rattle.integers.specs.Order.{zero-sub}
 use Rattle.integers.specs.Product.{abs-neg}
 use Rattle.rules.specs.Mask.{digit}
 use Rattle.rules.specs.Cut.{isNeg}
@@ -27,7 +26,7 @@ other-bit (pos n) p h = omega arith
 other-bit (negsuc n) p h = absurd (h .le)
 
 pub abs-minus : (x : ℤ) → natAbs (pos 0 -ℤ x) ≡ natAbs x
-abs-minus x = ap natAbs (zero-sub x) ∙ abs-neg x
+abs-minus x = ap natAbs (+ℤ-idl (negℤ x)) ∙ abs-neg x
 
 -- bit k on top of a mask of k bits
 pub bit-above : (t : Bool) (m b k : ℕ) → k < 32 → m < 2 ^ k → b ≡ digit t * 2 ^ k → m + b < 2 ^ 32

@@ -48,9 +48,6 @@ sub-nonneg a b = simp lin (omega arithZ)
 pub sub-zero : (a b : ℤ) → a -ℤ b ≡ pos 0 → a ≡ b
 sub-zero a b = simp lin (omega arithZ)
 
-pub zero-sub : (a : ℤ) → pos 0 -ℤ a ≡ negℤ a
-zero-sub a = simp lin (omega arithZ)
-
 pub le-lt-trans : (a b c : ℤ) → a ⩽ b → b <ℤ c → a <ℤ c
 le-lt-trans a b c = simp lin (omega arithZ)
 

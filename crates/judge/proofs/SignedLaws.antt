@@ -3,12 +3,12 @@ use mathlib.Core.Path.{_≡_, refl, sym, _∙_, ap, ap₂, subst}
 use Prim.Native.Nat.{ℕ, _+_, _*_, _^_, _≤_, _<_}
 use native.Mathlib.Omega.{arith}
 use native.Mathlib.Numerals.{add-one}
-use lib.IntN.{ℤ, pos, negℤ, _+ℤ_, _-ℤ_, _*ℤ_}
+use lib.IntN.{ℤ, pos, negℤ, _+ℤ_, _-ℤ_, _*ℤ_, +ℤ-idl}
 use mir.Syntax.{w64}
 use mir.Val.{SFits, toZ, ofZ}
 use mir.Facts.{toZ-ofZ, toZ-pos}
 use Rattle.integers.specs.Linear.{lin, arithZ, Within}
-use Rattle.integers.specs.Order.{zero-sub, within-zero}
+use Rattle.integers.specs.Order.{within-zero}
 use Rattle.integers.specs.Product.{abs, natAbs-≤, within}
 use Rattle.integers.specs.Machine.{op-fits, prod-fits}
 use Rattle.integers.specs.Sum.{sumTo}
@@ -33,7 +33,7 @@ module _ (x y : ℤ) (e : y ≡ x) where
   neg-fits n w h = subst (λ z. SFits w64 (pos 0 -ℤ z)) (sym e) (opposite-fits n x h w)
 
   pub neg-reads : SFits w64 (pos 0 -ℤ y) → toZ w64 (ofZ w64 (pos 0 -ℤ y)) ≡ negℤ x
-  neg-reads g = toZ-ofZ g ∙ ap (λ z. pos 0 -ℤ z) e ∙ zero-sub x
+  neg-reads g = toZ-ofZ g ∙ ap (λ z. pos 0 -ℤ z) e ∙ +ℤ-idl (negℤ x)
 
 -- ---- a size times a number
 module _ (m n k : ℕ) (x : ℤ) (f : SFits w64 x) (hk : k ≤ m) (small : m < 2 ^ 63) where

@@ -21,7 +21,7 @@ pub digit-half : (v : Bool) (m : ℕ) → (digit v + 2 * m) / 2 ≡ m
 digit-half true m = omega arith
 digit-half false m = omega arith
 
-digit-back : (v : Bool) → eqb (digit v) 1 ≡ v
+pub digit-back : (v : Bool) → eqb (digit v) 1 ≡ v
 digit-back true = refl
 digit-back false = refl
 

@@ -19,7 +19,7 @@ use Rattle.rules.specs.Table.{Table, checksOf}
 use Rattle.rules.specs.Parity.{odd, Alike}
 use Rattle.rules.specs.Mask.{digit, maskOf, setOf, maskRight}
 use Rattle.rules.specs.CodeFile.{inRange, codeFile}
-use Rattle.rules.specs.Input.{eachWithin, onFrame, eachBit, onWord, bitOfByte, bitsOf}
+use Rattle.rules.specs.Input.{eachWithin, onFrame, eachBit, onWord, bitsOf}
 use Rattle.rules.specs.Step.{Entry, inactive, active}
 use Rattle.rules.specs.Bound.{Row, rowsOf}
 use Rattle.rules.specs.Certificate.{cutsIn, certificateOf, Item, membersAt, follows, onItem, onItems, entriesOf, scaleOf, itemsOf, onCertificate, rowsAt}
@@ -27,7 +27,7 @@ use Rattle.rules.specs.Judge.{passes, verdict, judge, weigh}
 use Rattle.rules.specs.Run.{bytesOf, tooLarge}
 use Rattle.rules.proofs.Basics.{or-false}
 use Rattle.rules.proofs.Signs.{alike-length}
-use Rattle.rules.proofs.Masks.{set-mask, mask-below, set-right}
+use Rattle.rules.proofs.Masks.{digit-back, set-mask, mask-below, set-right}
 use Rattle.rules.proofs.AnswerLaws.{must-true, then-of}
 use Rattle.rules.proofs.Tables.{Degrees, Sound, file-sound}
 use Rattle.rules.proofs.Steps.{Proper}
@@ -36,10 +36,6 @@ use Rattle.rules.proofs.Written.{cuts-few, certificate-length, entries-
 use Rattle.rules.proofs.Judged.{meets-none}
 
 -- ---- a word's bytes
-digit-back : (b : Bool) → bitOfByte (digit b) ≡ b
-digit-back true = refl
-digit-back false = refl
-
 pub bits-bytes : (w : List Bool) → bitsOf (bytesOf w) ≡ w
 bits-bytes [] = refl
 bits-bytes (b ∷ w) = ap₂ _∷_ (digit-back b) (bits-bytes w)
