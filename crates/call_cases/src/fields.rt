@@ -1,5 +1,6 @@
 // A record's operation and its fields, little-endian.
 use libc::STDIN_FILENO;
+use stream::i32_of;
 use stream::u16_of;
 ghost use Prim.Native.Nat.{_+_, _≤_};
 ghost use lib.ListN.{length};
@@ -40,18 +41,10 @@ pub(crate) fn u32_at(head: &[u8], at: usize) -> u32
     (low + 65536 * high) as u32
 }
 
-// The number as a signed one: its upper half is negative.
-fn signed(n: u32) -> i32 {
-    if n < 2147483648 {
-        return n as i32;
-    }
-    !((4294967295 - n) as i32)
-}
-
 pub(crate) fn i32_at(head: &[u8], at: usize) -> i32
     requires { ⌜ at + 4 ≤ length (now head) ⌝ }
 {
-    signed(u32_at(head, at))
+    i32_of(u32_at(head, at))
 }
 
 // How many elements are lent: never more than there are.

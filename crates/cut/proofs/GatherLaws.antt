@@ -1,15 +1,13 @@
 -- The spins at a check's members: none, one more, all. Assumes nothing.
 use mathlib.Core.Path.{_≡_, refl, sym, _∙_, ap, ap₂}
 use mathlib.Core.List.{List, [], _∷_, _++_, append-assoc}
-use Prim.Native.Nat.{ℕ, zero, suc, _+_, _≤_, _<_}
+use Prim.Native.Nat.{ℕ, suc, _+_, _≤_, _<_}
 use native.Mathlib.Omega.{arith}
-use native.Mathlib.Nat.{le-of-suc-le-suc}
 use native.Mathlib.Numerals.{add-one}
 use lib.ListN.{length, getD, take, drop, set}
 use lib.Seq.{take-suc, drop-cons, set-at, length-take-le, take-all, take-at}
 use lib.IntN.{ℤ}
 use Rattle.rules.specs.Table.{valuesAt}
-use Rattle.rules.proofs.Duality.{Below}
 
 -- a list that is written place after place: one place more
 pub set-more : {A : Type 0} (front old : List A) (z : A) (i : ℕ) → length front ≡ i → i < length old → set (front ++ drop i old) i z ≡ (front ++ (z ∷ [])) ++ drop (suc i) old
@@ -17,11 +15,6 @@ set-more front old z i e h =
     ap (λ l. set (front ++ l) i z) (drop-cons old i z h)
     ∙ set-at front (getD old i z) (drop (suc i) old) z i e
     ∙ sym (append-assoc front (z ∷ []) (drop (suc i) old))
-
-pub below-at : (n : ℕ) (ms : List ℕ) (k : ℕ) → k < length ms → Below n ms → getD ms k 0 < n
-below-at n [] k h b = absurd (omega arith)
-below-at n (m ∷ ms) zero h b = b .0
-below-at n (m ∷ ms) (suc k) h b = below-at n ms k (le-of-suc-le-suc h) (b .1)
 
 pub values-length : (f : ℕ → ℤ) (ms : List ℕ) → length (valuesAt f ms) ≡ length ms
 values-length f [] = refl

@@ -8,11 +8,11 @@ use native.Mathlib.Omega.{arith}
 use native.Mathlib.Nat.{le-of-suc-le-suc}
 use lib.ListN.{length, set}
 use lib.IntN.{ℤ, pos, negsuc, _+ℤ_, _-ℤ_}
-use lib.Signed.{_≤ℤ_, _<ℤ_, ltZ}
+use lib.Signed.{_≤ℤ_, _<ℤ_, ltZ, ≤ℤ-refl}
 use mir.Syntax.{w32}
 use mir.Val.{SFits}
 use Rattle.integers.specs.Linear.{lin, arithZ, _⩽_, lt-ltZ, le-ltZ}
-use Rattle.integers.specs.Order.{le-refl, le-trans, le-antisym, le-or-lt, le-total}
+use Rattle.integers.specs.Order.{le-trans, le-antisym, le-or-lt, le-total}
 use Rattle.rules.specs.Limits.{unit}
 use Rattle.rules.specs.Cut.{isNeg}
 use Rattle.cut.specs.Heights.{height, higher, highest}
@@ -44,13 +44,13 @@ higher-first a b = go (ltZ a b) refl
   where
     go : (t : Bool) → ltZ a b ≡ t → a ⩽ cond t b a
     go true e = is-above a b e
-    go false e = le-refl a
+    go false e = ≤ℤ-refl a
 
 higher-second : (a b : ℤ) → b ⩽ higher a b
 higher-second a b = go (ltZ a b) refl
   where
     go : (t : Bool) → ltZ a b ≡ t → b ⩽ cond t b a
-    go true e = le-refl b
+    go true e = ≤ℤ-refl b
     go false e = not-above a b e
 
 higher-most : (a b c : ℤ) → a ⩽ c → b ⩽ c → higher a b ⩽ c

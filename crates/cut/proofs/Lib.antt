@@ -6,7 +6,6 @@ pub mod ScanLaws
 pub mod SideLaws
 pub mod MaskLaws
 pub mod SeeLaws
-pub mod PartLaws
 pub mod ReplyLaws
 pub mod SearchLaws
 pub mod SearchRule

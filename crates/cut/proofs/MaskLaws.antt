@@ -13,24 +13,12 @@ use Rattle.rules.specs.Parity.{odd}
 use Rattle.rules.specs.Mask.{maskOf, setOf}
 use Rattle.rules.specs.Cut.{cut}
 use Rattle.rules.proofs.Signs.{alike-length}
-use Rattle.rules.proofs.Masks.{set-mask}
+use Rattle.rules.proofs.Masks.{digit-low, digit-half, set-mask}
 use Rattle.rules.proofs.CutRule.{cut-sound}
 use Rattle.cut.specs.CutMask.{cutMask}
 use Rattle.cut.proofs.SideLaws.{changeSide}
 
 -- ---- a side change flips its bit
-odd-digit : (m : ℕ) → (1 + 2 * m) % 2 ≡ 1
-odd-digit m = omega arith
-
-odd-half : (m : ℕ) → (1 + 2 * m) / 2 ≡ m
-odd-half m = omega arith
-
-even-digit : (m : ℕ) → (0 + 2 * m) % 2 ≡ 0
-even-digit m = omega arith
-
-even-half : (m : ℕ) → (0 + 2 * m) / 2 ≡ m
-even-half m = omega arith
-
 pow-half : (k : ℕ) → 2 ^ suc k / 2 ≡ 2 ^ k
 pow-half k = omega (arith, pow-suc 2 k)
 
@@ -49,19 +37,19 @@ bits m n a b c d p q r s = xor-step m n ∙ ap₂ (λ x y. x * 2 + y) (ap₂ bit
 pub mask-change : (k : ℕ) (ts : List Bool) → k < length ts → bitXor (maskOf ts) (2 ^ k) ≡ maskOf (changeSide k ts)
 mask-change k [] h = absurd (omega arith)
 mask-change zero (true ∷ ts) h =
-    bits (1 + 2 * maskOf ts) 1 (maskOf ts) 0 1 1 (odd-half (maskOf ts)) refl (odd-digit (maskOf ts)) refl
+    bits (1 + 2 * maskOf ts) 1 (maskOf ts) 0 1 1 (digit-half true (maskOf ts)) refl (digit-low true (maskOf ts)) refl
     ∙ ap (λ n. n * 2 + 0) (xor-zero-r (maskOf ts))
     ∙ double (maskOf ts)
 mask-change zero (false ∷ ts) h =
-    bits (0 + 2 * maskOf ts) 1 (maskOf ts) 0 0 1 (even-half (maskOf ts)) refl (even-digit (maskOf ts)) refl
+    bits (0 + 2 * maskOf ts) 1 (maskOf ts) 0 0 1 (digit-half false (maskOf ts)) refl (digit-low false (maskOf ts)) refl
     ∙ ap (λ n. n * 2 + 1) (xor-zero-r (maskOf ts))
     ∙ double-one (maskOf ts)
 mask-change (suc k) (true ∷ ts) h =
-    bits (1 + 2 * maskOf ts) (2 ^ suc k) (maskOf ts) (2 ^ k) 1 0 (odd-half (maskOf ts)) (pow-half k) (odd-digit (maskOf ts)) (pow-even k)
+    bits (1 + 2 * maskOf ts) (2 ^ suc k) (maskOf ts) (2 ^ k) 1 0 (digit-half true (maskOf ts)) (pow-half k) (digit-low true (maskOf ts)) (pow-even k)
     ∙ ap (λ n. n * 2 + 1) (mask-change k ts (le-of-suc-le-suc h))
     ∙ double-one (maskOf (changeSide k ts))
 mask-change (suc k) (false ∷ ts) h =
-    bits (0 + 2 * maskOf ts) (2 ^ suc k) (maskOf ts) (2 ^ k) 0 0 (even-half (maskOf ts)) (pow-half k) (even-digit (maskOf ts)) (pow-even k)
+    bits (0 + 2 * maskOf ts) (2 ^ suc k) (maskOf ts) (2 ^ k) 0 0 (digit-half false (maskOf ts)) (pow-half k) (digit-low false (maskOf ts)) (pow-even k)
     ∙ ap (λ n. n * 2 + 0) (mask-change k ts (le-of-suc-le-suc h))
     ∙ double (maskOf (changeSide k ts))
 

@@ -1,9 +1,8 @@
 -- The reply of a search on a loaded table, in each of its cases. Assumes nothing.
 use mathlib.Core.Path.{_≡_, refl, sym, _∙_, ap, ap₂}
-use mathlib.Core.Bool.{Bool, true, false, cond, _&&_}
+use mathlib.Core.Bool.{true, cond, _&&_}
 use mathlib.Core.List.{List, [], _∷_}
-use Prim.Native.Nat.{ℕ, zero, suc, _≤_, _<_}
-use native.Mathlib.Omega.{arith}
+use Prim.Native.Nat.{ℕ, _≤_, _<_}
 use native.Mathlib.Decide.{ℕ-discrete}
 use lib.Dec.{leb, eqb, ltb}
 use lib.ListN.{length}
@@ -13,16 +12,18 @@ use Rattle.integers.specs.Product.{within}
 use Rattle.integers.specs.Sum.{AllWithin}
 use Rattle.integers.specs.Clip.{clip-mid}
 use Rattle.rules.specs.Limits.{unit}
-use Rattle.rules.specs.Refusal.{gives, Reply, replyOf, pointWrong, askedTooMuch}
+use Rattle.rules.specs.Refusal.{gives, Reply, replyOf, askedTooMuch}
 use Rattle.rules.specs.Table.{at, valuesAt}
 use Rattle.rules.specs.Input.{eachWithin}
 use Rattle.rules.specs.Cut.{cut, cutValues}
 use Rattle.rules.specs.Step.{clips}
 use Rattle.rules.proofs.Basics.{and-both}
 use Rattle.rules.proofs.Optimal.{within-at}
-use Rattle.inputs.specs.Refusals.{pointRefusal, turnedDown}
+use Rattle.table.specs.Held.{partAt}
+use Rattle.inputs.specs.Refusals.{pointRefusal, orElse, turnedDown}
+use Rattle.inputs.proofs.RefusalLaws.{else-refused, else-none, cond-none, reply-refused, reply-passes}
 use Rattle.cut.specs.CutMask.{cutMask}
-use Rattle.cut.specs.Search.{partAt, firstOf, searchRefusal, tableSearch, maskReply}
+use Rattle.cut.specs.Search.{searchRefusal, tableSearch, maskReply}
 use Rattle.cut.proofs.MaskLaws.{mask-none, mask-some}
 
 -- ---- the point
@@ -34,13 +35,9 @@ each-all u (z ∷ zs) e =
 
 pub point-right : (n : ℕ) (s : List ℤ) → pointRefusal n s ≡ 0 → (length s ≡ n) × AllWithin unit s
 unfolding pointRefusal
-point-right n s e = go (eqb (length s) n && eachWithin unit s) refl e
-  where
-    go : (b : Bool) → eqb (length s) n && eachWithin unit s ≡ b → _≡_ {A = ℕ} (cond b 0 pointWrong) 0 → (length s ≡ n) × AllWithin unit s
-    go true p q =
-        let r = and-both (eqb (length s) n) (eachWithin unit s) p in
-        (eqb-true (length s) n (r .0), each-all unit s (r .1))
-    go false p q = absurd (omega arith)
+point-right n s e =
+    let p = and-both (eqb (length s) n) (eachWithin unit s) (cond-none (eqb (length s) n && eachWithin unit s) 0 15 e .0) in
+    (eqb-true (length s) n (p .0), each-all unit s (p .1))
 
 pub values-within : (u : ℕ) (s : List ℤ) (ms : List ℕ) → AllWithin u s → AllWithin u (valuesAt (at s) ms)
 values-within u s [] w = tt
@@ -65,15 +62,11 @@ module _ (n m : ℕ) (s : List ℤ) (j : ℕ) where
   module _ (r : ℕ) (e : r ≡ pointRefusal n s) where
     pub refusal-point : (r ≡ 0 → ⊥) → r ≡ searchRefusal n m s j
     unfolding searchRefusal
-    refusal-point f = go r f ∙ ap (λ i. firstOf i (cond (ltb j m) 0 askedTooMuch)) e
-      where
-        go : (i : ℕ) → (i ≡ 0 → ⊥) → i ≡ firstOf i (cond (ltb j m) 0 askedTooMuch)
-        go zero f = absurd (f refl)
-        go (suc i) f = refl
+    refusal-point f = sym (else-refused r (cond (ltb j m) 0 askedTooMuch) f) ∙ ap (λ i. orElse i (cond (ltb j m) 0 askedTooMuch)) e
 
     point-passes : r ≡ 0 → cond (ltb j m) 0 askedTooMuch ≡ searchRefusal n m s j
     unfolding searchRefusal
-    point-passes z = ap (λ i. firstOf i (cond (ltb j m) 0 askedTooMuch)) (sym z ∙ e)
+    point-passes z = ap (λ i. orElse i (cond (ltb j m) 0 askedTooMuch)) (sym z ∙ e)
 
     pub refusal-check : r ≡ 0 → m ≤ j → askedTooMuch ≡ searchRefusal n m s j
     refusal-check z h = ap (λ b. cond b 0 askedTooMuch) (sym (le-ltb j m h)) ∙ point-passes z
@@ -83,25 +76,23 @@ module _ (n m : ℕ) (s : List ℤ) (j : ℕ) where
 
   pub none-refused : searchRefusal n m s j ≡ 0 → (pointRefusal n s ≡ 0) × (j < m)
   unfolding searchRefusal
-  none-refused e = go (pointRefusal n s) (ltb j m) refl refl e
-    where
-      go : (i : ℕ) (b : Bool) → pointRefusal n s ≡ i → ltb j m ≡ b → firstOf i (cond b 0 askedTooMuch) ≡ 0 → (pointRefusal n s ≡ 0) × (j < m)
-      go zero true p q e = (p, ltb-true j m q)
-      go zero false p q e = absurd (omega arith)
-      go (suc i) b p q e = absurd (omega arith)
+  none-refused e =
+      let p = else-none (pointRefusal n s) (cond (ltb j m) 0 askedTooMuch) e in
+      (p .0, ltb-true j m (cond-none (ltb j m) 0 16 (p .1) .0))
 
   -- ---- the reply
   module _ (starts members : List ℕ) where
-    pub reply-refused : (k : ℕ) → k ≡ searchRefusal n m s j → (k ≡ 0 → ⊥) → record { number = k; values = [] } ≡ replyOf cutValues (tableSearch starts members n m s j)
-    unfolding tableSearch turnedDown replyOf
-    reply-refused zero e f = absurd (f refl)
-    reply-refused (suc k) e f = ap (λ r. replyOf cutValues (turnedDown r (gives (cut unit (valuesAt (at s) (partAt starts members j)))))) e
+    pub search-turned : (k : ℕ) → k ≡ searchRefusal n m s j → (k ≡ 0 → ⊥) → record { number = k; values = [] } ≡ replyOf cutValues (tableSearch starts members n m s j)
+    unfolding tableSearch
+    search-turned k e f =
+        let a = gives (cut unit (valuesAt (at s) (partAt starts members j))) in
+        reply-refused cutValues k a f ∙ ap (λ r. replyOf cutValues (turnedDown r a)) e
 
     pub reply-mask : (r : Reply) (k : ℕ) → searchRefusal n m s j ≡ 0 → k ≡ cutMask (cut unit (clips unit (valuesAt (at s) (partAt starts members j)))) → r ≡ maskReply k
         → r ≡ replyOf cutValues (tableSearch starts members n m s j)
-    unfolding tableSearch turnedDown replyOf
+    unfolding tableSearch replyOf
     reply-mask r k z e q =
         let vs = valuesAt (at s) (partAt starts members j) in
         let same : clips unit vs ≡ vs = clips-same unit vs (values-within unit s (partAt starts members j) (point-right n s (none-refused z .0) .1)) in
         q ∙ ap (λ l. record { number = 0; values = l }) (mask-values unit vs k (e ∙ ap (λ l. cutMask (cut unit l)) same))
-        ∙ ap (λ x. replyOf cutValues (turnedDown x (gives (cut unit vs)))) (sym z)
+        ∙ reply-passes cutValues (searchRefusal n m s j) (gives (cut unit vs)) z

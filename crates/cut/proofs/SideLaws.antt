@@ -10,6 +10,7 @@ use lib.ListN.{length}
 use lib.IntN.{ℤ, pos, negsuc, _+ℤ_, natAbs}
 use lib.Signed.{_<ℤ_, ltZ}
 use Rattle.integers.specs.Linear.{lin, arithZ, _⩽_}
+use Rattle.integers.specs.Order.{ltZ-lt}
 use Rattle.integers.specs.Sum.{AllWithin}
 use Rattle.rules.specs.Table.{at}
 use Rattle.rules.specs.Parity.{_⊕_, side, odd, Alike, left}
@@ -23,15 +24,12 @@ use Rattle.cut.proofs.ScanLaws.{negatives-length}
 no-less : (u : ℕ) (a b : ℤ) → ltZ a (pos (2 * u)) ≡ false → a ⩽ b → b <ℤ pos (2 * u) → ⊥
 no-less u a b = simp lin (omega arithZ)
 
-is-less : (u : ℕ) (a : ℤ) → ltZ a (pos (2 * u)) ≡ true → a <ℤ pos (2 * u)
-is-less u a = simp lin (omega arithZ)
-
 cut-any : (u : ℕ) (ss : List ℤ) (vs : List Bool) → AllWithin u ss → odd vs ≡ true → Alike vs ss → ((ts : List Bool) → odd ts ≡ true → Alike ts ss → left u vs ss ⩽ left u ts ss)
     → cut u ss ≡ keep (ltZ (left u vs ss) (pos (2 * u))) vs
 cut-any u ss vs w o k below = go (ltZ (left u vs ss) (pos (2 * u))) refl
   where
     go : (b : Bool) → ltZ (left u vs ss) (pos (2 * u)) ≡ b → cut u ss ≡ keep b vs
-    go true e = cut-finds u ss vs w (record { isOdd = o; long = k; under = is-less u (left u vs ss) e })
+    go true e = cut-finds u ss vs w (record { isOdd = o; long = k; under = ltZ-lt (left u vs ss) (pos (2 * u)) e })
     go false e = none-cut u ss (λ ts c. no-less u (left u vs ss) (left u ts ss) e (below ts (c .isOdd) (c .long)) (c .under))
 
 -- the negative spins, where they are odd

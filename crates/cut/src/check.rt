@@ -10,8 +10,8 @@ ghost use Rattle.rules.specs.Table.{at, valuesAt};
 ghost use Rattle.rules.specs.Cut.{cut};
 ghost use Rattle.rules.specs.Step.{clips};
 ghost use Rattle.rules.proofs.Duality.{Below};
+ghost use Rattle.table.specs.Held.{partAt, Part};
 ghost use Rattle.cut.specs.CutMask.{cutMask};
-ghost use Rattle.cut.specs.Search.{partAt, PartFits};
 
 // A call, since a cast of the element itself would ask that it fits.
 fn wide(x: u16) -> usize
@@ -47,7 +47,7 @@ fn members_cut(members: &[u16], spins: &[i32]) -> u32
 
 // The cut of check j.
 pub(crate) fn check_cut(starts: &[u16], members: &[u16], spins: &[i32], j: usize) -> u32
-    requires { ⌜ PartFits (now starts) (now members) (length (now spins)) j ⌝ }
+    requires { ⌜ Part (length (now spins)) (now starts) (now members) j ⌝ }
     ensures { λ r. ⌜ r ≡ cutMask (cut unit (clips unit (valuesAt (at (now (spins .entry))) (partAt (now (starts .entry)) (now (members .entry)) j)))) ⌝ }
 {
     let a = wide(starts[j]);

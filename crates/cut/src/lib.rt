@@ -25,10 +25,11 @@ ghost use Rattle.integers.specs.Clip.{clipZ};
 ghost use Rattle.rules.specs.Limits.{unit, maxDegree};
 ghost use Rattle.rules.specs.Refusal.{replyOf};
 ghost use Rattle.rules.specs.Cut.{cutValues, cutReply};
+ghost use Rattle.table.specs.Held.{Part};
 ghost use Rattle.cut.specs.Heights.{seen};
 ghost use Rattle.cut.specs.Scan.{changes, decided};
 ghost use Rattle.cut.specs.Reply.{numbered};
-ghost use Rattle.cut.specs.Search.{PartFits, searchRefusal, tableSearch, maskReply};
+ghost use Rattle.cut.specs.Search.{searchRefusal, tableSearch, maskReply};
 
 // U as a size.
 const UNIT_SIZE: u32 = UNIT as u32;
@@ -165,7 +166,7 @@ fn search_table(
     spins: &[i32],
     check: usize,
 ) -> Found
-    requires { ⌜ (check < checks → PartFits (now starts) (now members) bits check) ⌝ }
+    requires { ⌜ (check < checks → Part bits (now starts) (now members) check) ⌝ }
     ensures { λ r. ⌜ numbered r ≡ replyOf cutValues (tableSearch (now (starts .entry)) (now (members .entry)) bits checks (now (spins .entry)) check) ⌝ }
 {
     let refused = refusal(bits, checks, spins, check);

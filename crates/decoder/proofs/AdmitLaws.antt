@@ -22,11 +22,10 @@ use Rattle.rules.proofs.BufferLaws.{Part, fits-part}
 use Rattle.rules.proofs.AnswerLaws.{refused≢gives, gives-inj, must-gives}
 use Rattle.table.specs.Loaded.{laid, loaded}
 use Rattle.table.proofs.AcceptedLaws.{readable}
-use Rattle.table.proofs.LoadedLaws.{loaded-room}
+use Rattle.table.proofs.LoadedLaws.{laid-reply, loaded-room}
 use Rattle.inputs.specs.Refusals.{frameRefusal, turnedDown}
 use Rattle.inputs.proofs.InputLaws.{frame-law}
 use Rattle.cut.proofs.ReplyLaws.{each-all}
-use Rattle.cut.proofs.SearchLaws.{laid-reply}
 use Rattle.decoder.specs.Admitted.{Sizes, sizesOf, admitsBy, firstState, admissionBy}
 
 -- ---- 41

@@ -1,26 +1,23 @@
 -- The bounds of a half-done run: a number within a limit as the code's two comparisons decide it, and refusal 43. Assumes nothing.
-use mathlib.Core.Path.{_≡_, refl, sym, _∙_, ap, ap₂}
+use mathlib.Core.Path.{_≡_, sym, _∙_, ap, ap₂}
 use mathlib.Core.Bool.{Bool, true, false, _&&_}
 use mathlib.Core.List.{List}
 use Prim.Native.Nat.{ℕ, _*_, _≤_, _<_}
 use lib.Dec.{leb}
-use lib.IntN.{ℤ, pos, negsuc, negℤ, _-ℤ_, natAbs, +ℤ-idl}
+use lib.IntN.{ℤ, pos, negℤ, _-ℤ_, natAbs, +ℤ-idl}
 use lib.Signed.{leZ}
 use borrow.Author.Tests.{lt-ltb, le-ltb}
 use Rattle.integers.specs.Linear.{_⩽_}
+use Rattle.integers.specs.Product.{abs-pos}
 use Rattle.rules.specs.Limits.{unit, roundLimit, offsetPerRound}
 use Rattle.rules.specs.Input.{eachWithin}
 use Rattle.rules.specs.Run.{sound}
 use Rattle.inputs.proofs.RangeLaws.{range-upper, range-lower}
 
-whole : (b : ℤ) → pos 0 ⩽ b → pos (natAbs b) ≡ b
-whole (pos n) h = refl
-whole (negsuc n) h = absurd (h .le)
-
 -- y and d are what the machine reads back from the bits of x and of the limit b, e from those of the limit negated
 module _ (x b y d e : ℤ) (hx : y ≡ x) (hb : d ≡ b) (he : e ≡ pos 0 -ℤ d) (h : pos 0 ⩽ b) where
   upper : d ≡ pos (natAbs b)
-  upper = hb ∙ sym (whole b h)
+  upper = hb ∙ sym (abs-pos b h)
 
   lower : e ≡ negℤ (pos (natAbs b))
   lower = he ∙ +ℤ-idl (negℤ d) ∙ ap negℤ upper

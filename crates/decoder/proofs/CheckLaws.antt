@@ -9,7 +9,7 @@ use Rattle.rules.proofs.Duality.{Below}
 use Rattle.rules.proofs.Judged.{members-below}
 use Rattle.table.specs.Starts.{startsOf}
 use Rattle.table.proofs.StartsLaws.{starts-length, starts-next, check-part}
-use Rattle.cut.proofs.PartLaws.{degree-at}
+use Rattle.rules.proofs.Tables.{degree-at}
 use Rattle.decoder.specs.Layout.{checksFrom, Holds}
 
 module _ (n : ℕ) (ss ms : List ℕ) (h : Holds n ss ms) where

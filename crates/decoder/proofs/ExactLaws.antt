@@ -1,6 +1,6 @@
 -- Buffers that are exactly as long as the table needs: what a round writes takes the place of what was there. Assumes nothing.
 use mathlib.Core.Path.{_≡_, refl, sym, _∙_, ap, ap₂}
-use mathlib.Core.List.{List, _++_}
+use mathlib.Core.List.{List, _++_, append-nil}
 use Prim.Native.Nat.{ℕ}
 use native.Mathlib.Omega.{arith}
 use lib.ListN.{length, take, drop}
@@ -9,7 +9,6 @@ use Rattle.rules.specs.Table.{Table, edgesOf}
 use Rattle.rules.specs.Round.{Round}
 use Rattle.rules.specs.Buffers.{Buffers, lengthsOf, needs, over}
 use Rattle.rules.specs.Run.{multipliersOf, masksOf, overWord, overCertificate, written, stateIn}
-use Rattle.rules.proofs.Basics.{append-nil}
 use Rattle.rules.proofs.BufferLaws.{buffers-eq}
 use Rattle.rules.proofs.RoundSizes.{Sized}
 

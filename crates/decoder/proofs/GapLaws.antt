@@ -18,8 +18,7 @@ use Rattle.rules.specs.Table.{at, edges}
 use Rattle.rules.specs.Parity.{side}
 use Rattle.rules.specs.Mask.{setOf}
 use Rattle.rules.specs.Bound.{Row, weights, price}
-use Rattle.rules.proofs.Duality.{Below}
-use Rattle.cut.proofs.GatherLaws.{below-at}
+use Rattle.rules.proofs.Duality.{Below, below-at}
 use Rattle.decoder.specs.Closing.{withRow, rowsFrom, AllUpTo}
 use Rattle.rules.specs.Scatter.{scatter, scatterRows}
 use Rattle.decoder.specs.Room.{rowOf, Room}

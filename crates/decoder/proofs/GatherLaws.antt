@@ -12,11 +12,11 @@ use lib.Seq.{getD-set-same, getD-set-other, take-all}
 use borrow.Author.Tests.{eqb-true, eqb-false}
 use lib.IntN.{ℤ, pos, _+ℤ_, +ℤ-assoc, +ℤ-comm, +ℤ-idr}
 use Rattle.integers.specs.Linear.{lin, arithZ, Within}
+use Rattle.integers.specs.Order.{within-zero}
 use Rattle.integers.specs.Sum.{AllWithin, pick}
 use Rattle.rules.specs.Table.{degreeOf, at}
 use Rattle.rules.specs.Bound.{gather}
 use Rattle.decoder.specs.Totals.{Gathered}
-use Rattle.decoder.proofs.PlaceLaws.{zero-within}
 
 -- ---- degrees
 add-le : (a x y : ℕ) → x ≤ y → a + x ≤ a + y
@@ -33,8 +33,8 @@ within-one b n true w g = simp lin (omega arithZ)
 within-one b n false w g = simp lin (omega arithZ)
 
 pub gather-within : (b i : ℕ) (ms : List ℕ) (ws : List ℤ) → AllWithin b ws → Within (b * degreeOf i ms) (gather i ms ws)
-gather-within b i ms [] h = zero-within (b * degreeOf i ms)
-gather-within b i [] (w ∷ ws) h = zero-within (b * 0)
+gather-within b i ms [] h = within-zero (b * degreeOf i ms)
+gather-within b i [] (w ∷ ws) h = within-zero (b * 0)
 gather-within b i (m ∷ ms) (w ∷ ws) h = within-one b (degreeOf i ms) (eqb m i) w (gather i ms ws) (h .0) (gather-within b i ms ws (h .1))
 
 -- ---- one edge more

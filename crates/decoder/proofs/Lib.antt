@@ -13,6 +13,7 @@ pub mod PerformLaws
 pub mod CallLaws
 pub mod MaskLaws
 pub mod LiftedLaws
+pub mod SumLaws
 pub mod MultiplierLaws
 pub mod ValueLaws
 pub mod MoveLaws

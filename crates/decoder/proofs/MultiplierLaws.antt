@@ -15,13 +15,14 @@ use mir.Syntax.{w32}
 use mir.Val.{SFits}
 use Rattle.integers.specs.Linear.{lin, arithZ, _⩽_, Within, up, le-out, lt-ltZ}
 use Rattle.integers.specs.Product.{natAbs-≤}
-use Rattle.integers.specs.Sum.{sumZ, sum-within, AllWithin}
+use Rattle.integers.specs.Sum.{AllWithin}
 use Rattle.rules.specs.Parity.{side, left, odd, Alike}
 use Rattle.rules.specs.Step.{clips, moves, short, multiplier}
 use Rattle.rules.proofs.CutRule.{Cuts}
 use Rattle.rules.proofs.Multiplier.{moves-zero, Least, multiplier-least, multiplier-unique}
 use Rattle.cut.specs.Heights.{height, heightsOf, higher, highest}
-use Rattle.decoder.specs.Lifted.{lifted, lifting, tally, sumAt, countAt, Rising, LeastAt}
+use Rattle.decoder.specs.Lifted.{lifted, lifting, tally, sumAt, countAt, sumZ, Rising, LeastAt}
+use Rattle.decoder.proofs.SumLaws.{sum-within}
 use Rattle.decoder.proofs.LiftedLaws.{short-of, met-of, of-short}
 
 -- ---- the first i members

@@ -3,6 +3,7 @@ use mathlib.Core.Path.{_≡_, sym, _∙_, ap, ap₂, subst}
 use mathlib.Core.List.{List, _++_}
 use Prim.Native.Nat.{ℕ, _+_, _*_, _<_}
 use lib.ListN.{length, take, drop}
+use lib.Seq.{length-take-le}
 use lib.IntN.{ℤ}
 use Rattle.integers.specs.Sum.{AllWithin}
 use Rattle.rules.specs.Limits.{frameLimit, roundLimit, offsetPerRound, certificateLength}
@@ -10,7 +11,7 @@ use Rattle.rules.specs.Table.{Table, edges}
 use Rattle.rules.specs.Buffers.{Buffers, lengthsOf, needs, partOf, over}
 use Rattle.rules.specs.Run.{Called, iterate, ranOn}
 use Rattle.rules.specs.Calls.{giveBack}
-use Rattle.rules.proofs.BufferLaws.{Part, part-length, lengths-part, buffers-eq, past-lengths}
+use Rattle.rules.proofs.BufferLaws.{Part, lengths-part, buffers-eq, past-lengths}
 use Rattle.rules.proofs.Runs.{held-start, iterate-held}
 use Rattle.decoder.specs.Layout.{checksFrom, tableOf, Holds}
 use Rattle.decoder.specs.Ready.{offsetLimit, Ready}
@@ -21,7 +22,7 @@ use Rattle.decoder.proofs.RunLaws.{wide-all, offsets-low, same-part}
 
 module _ (n m e : ℕ) (l : List ℤ) (ss ms : List ℕ) (k : ℕ) (b : Buffers) (h : PartsFit n m e l ss ms k b) where
   edges-long : length (edges (checksFrom (take (m + 1) ss) (take e ms))) ≡ e
-  edges-long = ap length (sym (h .holds .members)) ∙ part-length e ms (h .membersRoom)
+  edges-long = ap length (sym (h .holds .members)) ∙ length-take-le e ms (h .membersRoom)
 
   -- what n, m and e need is what the table needs
   needs-are : needsBy n m e ≡ needs (tableOf n (take (m + 1) ss) (take e ms))

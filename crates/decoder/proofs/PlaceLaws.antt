@@ -4,9 +4,8 @@ use mathlib.Core.List.{List, [], _∷_}
 use Prim.Native.Nat.{ℕ, zero, suc, _≤_, _<_}
 use native.Mathlib.Nat.{le-of-suc-le-suc, suc-inj}
 use native.Mathlib.Omega.{arith}
-use lib.ListN.{length, take, replicate}
-use lib.IntN.{ℤ, pos, _-ℤ_}
-use Rattle.integers.specs.Linear.{lin, arithZ, Within}
+use lib.ListN.{length, take}
+use lib.IntN.{ℤ, _-ℤ_}
 use Rattle.integers.specs.Sum.{AllWithin}
 use Rattle.rules.specs.Table.{at}
 use Rattle.rules.specs.Step.{minus}
@@ -14,13 +13,6 @@ use Rattle.rules.specs.Round.{firstOf}
 use Rattle.rules.proofs.Duality.{Below}
 
 -- ---- every element between -b and b
-pub zero-within : (b : ℕ) → Within b (pos 0)
-zero-within b = simp lin (omega arithZ)
-
-pub zeros-within : (b n : ℕ) → AllWithin b (replicate n (pos 0))
-zeros-within b zero = tt
-zeros-within b (suc n) = (zero-within b, zeros-within b n)
-
 pub take-within : (b n : ℕ) (xs : List ℤ) → AllWithin b xs → AllWithin b (take n xs)
 take-within b zero xs h = tt
 take-within b (suc n) [] h = tt

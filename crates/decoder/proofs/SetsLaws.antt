@@ -1,7 +1,7 @@
 -- A loop that writes a slice from some place on: what is left to write is stored by `sets`, so that one store more changes nothing of the whole. General
 -- in the element. Assumes nothing.
 use mathlib.Core.Path.{_≡_, sym, _∙_, ap, ap₂}
-use mathlib.Core.List.{List, [], _∷_, _++_}
+use mathlib.Core.List.{List, [], _∷_, _++_, append-nil}
 use Prim.Native.Nat.{ℕ, suc, _+_, _≤_, _<_}
 use native.Mathlib.Nat.{add-zero, add-suc, suc-add}
 use native.Mathlib.Omega.{arith}
@@ -9,7 +9,6 @@ use native.Mathlib.Numerals.{add-one}
 use lib.ListN.{length, getD, drop, set, drop-of-length-le}
 use lib.Seq.{drop-cons, sets, sets-eq}
 use Rattle.rules.specs.Buffers.{over}
-use Rattle.rules.proofs.Basics.{append-nil}
 
 -- the code's `i + 2` and `i + 3`
 pub two-past : (i : ℕ) → i + 2 ≡ suc (suc i)

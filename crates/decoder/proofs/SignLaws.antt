@@ -15,7 +15,7 @@ use Rattle.rules.specs.Mask.{digit}
 use Rattle.rules.specs.Cut.{isNeg, negatives, keep}
 use Rattle.rules.specs.Round.{bitOf, join, candidate, isZero}
 use Rattle.rules.specs.Run.{bytesOf}
-use Rattle.rules.proofs.Signs.{⊕-zero}
+use Rattle.rules.proofs.Signs.{⊕-zero, ⊕-true}
 use Rattle.decoder.specs.Closing.{metBy}
 use Rattle.decoder.specs.Candidate.{noZero}
 use Rattle.decoder.proofs.SetsLaws.{drop-next, drop-end}
@@ -38,11 +38,7 @@ not-zero (negsuc n) f = refl
 
 -- the parity of the negative numbers, one more
 pub flip-negative : (b : Bool) (x : ℤ) → x <ℤ pos 0 → not b ≡ b ⊕ isNeg x
-flip-negative b x h = flip b ∙ ap (λ t. b ⊕ t) (sym (below-zero x h))
-  where
-    flip : (b : Bool) → not b ≡ b ⊕ true
-    flip true = refl
-    flip false = refl
+flip-negative b x h = sym (⊕-true b) ∙ ap (λ t. b ⊕ t) (sym (below-zero x h))
 
 pub flip-other : (b : Bool) (x : ℤ) → pos 0 ⩽ x → b ≡ b ⊕ isNeg x
 flip-other b x h = sym (⊕-zero b) ∙ ap (λ t. b ⊕ t) (sym (from-zero x h))

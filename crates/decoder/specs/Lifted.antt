@@ -28,6 +28,11 @@ sumAt hs b = tally (lifted b) hs
 unfoldable pub countAt : List ℤ → ℕ → ℕ
 countAt hs b = tally (lifting b) hs
 
+-- all heights together
+abbrev pub sumZ : List ℤ → ℤ
+sumZ [] = pos 0
+sumZ (h ∷ hs) = h +ℤ sumZ hs
+
 -- the heights of a cut, and the greatest of them: lifted to 2U alone, that one meets the inequality
 pub record Rising (hs : List ℤ) (top : ℤ) : Type 0 where
   pub some : 0 < length hs

@@ -6,9 +6,9 @@ ghost use Prim.Native.Nat.{_-_, _*_, _/_, _≤_, min};
 ghost use lib.ListN.{length};
 ghost use lib.IntN.{pos};
 ghost use Rattle.integers.specs.Linear.{Within, up};
-ghost use Rattle.integers.specs.Sum.{sumZ, AllWithin};
+ghost use Rattle.integers.specs.Sum.{AllWithin};
 ghost use Rattle.rules.specs.Limits.{unit};
-ghost use Rattle.decoder.specs.Lifted.{lifted, sumAt, countAt, Rising, LeastAt};
+ghost use Rattle.decoder.specs.Lifted.{lifted, sumAt, countAt, sumZ, Rising, LeastAt};
 
 // "At least 2U."
 const REACH: u32 = 2 * UNIT as u32;

@@ -1,3 +1,4 @@
+pub mod RefusalLaws
 pub mod InputLaws
 pub mod EachLaws
 pub mod RangeLaws

@@ -22,6 +22,11 @@ wordRefusal n w = cond (eqb (length w) n && eachBit w) 0 wordWrong
 unfoldable pub pointRefusal : ℕ → List ℤ → ℕ
 pointRefusal n s = cond (eqb (length s) n && eachWithin unit s) 0 pointWrong
 
+-- the second refusal where the first is none
+abbrev pub orElse : ℕ → ℕ → ℕ
+orElse zero k = k
+orElse (suc j) k = suc j
+
 -- what follows where nothing is turned down
 unfoldable pub turnedDown : {A : Type 0} → ℕ → Answer A → Answer A
 turnedDown zero a = a

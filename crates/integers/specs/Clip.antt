@@ -3,10 +3,10 @@ use mathlib.Core.Path.{_≡_, refl, sym, _∙_, ap}
 use mathlib.Core.Bool.{Bool, true, false, cond}
 use mathlib.Core.Logic.{_⊎_, inl, inr}
 use Prim.Native.Nat.{ℕ}
-use lib.IntN.{ℤ, pos, negℤ}
-use lib.Signed.{_≤ℤ_, _<ℤ_, ltZ}
+use lib.IntN.{ℤ, pos, negℤ, negℤ-negℤ}
+use lib.Signed.{_≤ℤ_, _<ℤ_, ltZ, ≤ℤ-refl}
 use Rattle.integers.specs.Linear.{lin, arithZ, _⩽_, Within, lt-ltZ, le-ltZ, up-neg, dn-neg}
-use Rattle.integers.specs.Order.{le-refl, le-or-lt}
+use Rattle.integers.specs.Order.{le-or-lt, within-low, within-high}
 
 unfoldable pub clipZ : ℕ → ℤ → ℤ
 clipZ n z = cond (ltZ z (negℤ (pos n))) (negℤ (pos n)) (cond (ltZ (pos n) z) (pos n) z)
@@ -58,14 +58,11 @@ neg-above n z = simp lin (omega arithZ)
 neg-inside : (n : ℕ) (z : ℤ) → Within n z → Within n (negℤ z)
 neg-inside n z = simp lin (omega arithZ)
 
-neg-neg : (z : ℤ) → z ≡ negℤ (negℤ z)
-neg-neg z = simp lin (omega arithZ)
-
 pub clip-neg : (n : ℕ) (z : ℤ) → clipZ n (negℤ z) ≡ negℤ (clipZ n z)
 clip-neg n z = go (place n z)
   where
     go : Place n z → clipZ n (negℤ z) ≡ negℤ (clipZ n z)
-    go (below h) = clip-high n (negℤ z) (neg-below n z h) ∙ neg-neg (pos n) ∙ ap negℤ (sym (clip-low n z h))
+    go (below h) = clip-high n (negℤ z) (neg-below n z h) ∙ sym (negℤ-negℤ (pos n)) ∙ ap negℤ (sym (clip-low n z h))
     go (above h) = clip-low n (negℤ z) (neg-above n z h) ∙ ap negℤ (sym (clip-high n z h))
     go (inside h) = clip-mid n (negℤ z) (neg-inside n z h) ∙ ap negℤ (sym (clip-mid n z h))
 
@@ -89,12 +86,6 @@ bot-turn n z = simp lin (omega arithZ)
 pub clip-bottom : (n : ℕ) (z : ℤ) → z ⩽ negℤ (pos n) → negℤ (clipZ n z) ≡ pos n
 clip-bottom n z h = sym (clip-neg n z) ∙ clip-top n (negℤ z) (bot-turn n z h)
 
-mono-low : (n : ℕ) (z : ℤ) → Within n z → negℤ (pos n) ⩽ z
-mono-low n z = simp lin (omega arithZ)
-
-mono-high : (n : ℕ) (z : ℤ) → Within n z → z ⩽ pos n
-mono-high n z = simp lin (omega arithZ)
-
 above-more : (n : ℕ) (a b : ℤ) → a ⩽ b → pos n <ℤ a → pos n <ℤ b
 above-more n a b = simp lin (omega arithZ)
 
@@ -105,8 +96,8 @@ pub clip-mono : (n : ℕ) (a b : ℤ) → a ⩽ b → clipZ n a ⩽ clipZ n b
 clip-mono n a b h = go (place n a) (place n b)
   where
     go : Place n a → Place n b → clipZ n a ⩽ clipZ n b
-    go (below k) q = rw (clip-low n a k) (mono-low n (clipZ n b) (clip-within n b))
-    go (above k) q = rw (clip-high n a k, clip-high n b (above-more n a b h k)) (le-refl (pos n))
-    go (inside k) (below l) = rw (clip-low n a (below-more n a b h l), clip-low n b l) (le-refl (negℤ (pos n)))
-    go (inside k) (above l) = rw (clip-high n b l) (mono-high n (clipZ n a) (clip-within n a))
+    go (below k) q = rw (clip-low n a k) (within-low n (clipZ n b) (clip-within n b))
+    go (above k) q = rw (clip-high n a k, clip-high n b (above-more n a b h k)) (≤ℤ-refl (pos n))
+    go (inside k) (below l) = rw (clip-low n a (below-more n a b h l), clip-low n b l) (≤ℤ-refl (negℤ (pos n)))
+    go (inside k) (above l) = rw (clip-high n b l) (within-high n (clipZ n a) (clip-within n a))
     go (inside k) (inside l) = rw (clip-mid n a k, clip-mid n b l) h

@@ -1,4 +1,5 @@
 pub mod Linear
+pub mod Count
 pub mod Order
 pub mod Product
 pub mod Division

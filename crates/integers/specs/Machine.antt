@@ -1,6 +1,6 @@
 -- What the borrow checker asks of signed code. A signed local holds bits, so its goals speak of what is read back from the bits of a number.
 -- Assumes nothing.
-use mathlib.Core.Path.{_≡_, refl, sym, _∙_, ap, ap₂, subst}
+use mathlib.Core.Path.{_≡_, sym, _∙_, ap, ap₂, subst}
 use mathlib.Core.Logic.{_⊎_, inl, inr}
 use Prim.Native.Nat.{ℕ, suc, _+_, _*_, _/_, _^_, _<_, _≤_}
 use native.Mathlib.Omega.{arith}
@@ -14,7 +14,7 @@ use mir.Val.{SFits, Fits, hbits, bits, toZ, ofZ}
 use mir.ValLaws.{sfits-le}
 use mir.Facts.{toZ-ofZ, fits-natAbs}
 use Rattle.integers.specs.Linear.{up, dn, lin, arithZ, _⩽_, le-out, sfits-up, sfits-dn, back, Within}
-use Rattle.integers.specs.Product.{natAbs-≤, natAbs-*-≤}
+use Rattle.integers.specs.Product.{natAbs-≤, natAbs-*-≤, abs-pos}
 use Rattle.integers.specs.Division.{divZ, quot-is}
 
 -- all that fitting tells, to be listed: `omega (arithZ, known (c .fits .x))`
@@ -66,9 +66,8 @@ pub prod-fits : (w : Width) (m n : ℕ) (a b : ℤ) → m * n < 2 ^ hbits w → 
 prod-fits w m n a b t h k = fits-size w (a *ℤ b) (lt-of-le-of-lt (natAbs-*-≤ a b m n (natAbs-≤ a m h) (natAbs-≤ b n k)) t)
 
 -- what `z / y` asks of i32's where y is at least 1
-pub posZ : (y : ℤ) → pos 1 ⩽ y → pos (natAbs y) ≡ y
-posZ (pos n) h = refl
-posZ (negsuc n) h = absurd (h .le)
+from-one : (y : ℤ) → pos 1 ⩽ y → pos 0 ⩽ y
+from-one y = simp lin (omega arithZ)
 
 pub ofZ-pos : (w : Width) (y : ℤ) → pos 1 ⩽ y → 0 < ofZ w y
 ofZ-pos w (pos n) h = omega (arith, le-out h)
@@ -82,10 +81,10 @@ quot-fits′ w (negsuc n) d h = fits-neg w (suc n / d) (omega (arith, h .sfits, 
     fits-neg w m h = simp lin (omega (arithZ, pow-pos (hbits w)))
 
 pub quot-fits : (w : Width) (z y : ℤ) → SFits w z → pos 1 ⩽ y → SFits w (quotZ z y)
-quot-fits w z y f h = rw (← (posZ y h)) (rw (quot-is z (natAbs y)) (quot-fits′ w z (natAbs y) f))
+quot-fits w z y f h = rw (← (abs-pos y (from-one y h))) (rw (quot-is z (natAbs y)) (quot-fits′ w z (natAbs y) f))
 
 pub quot-div : (z y : ℤ) → pos 1 ⩽ y → quotZ z y ≡ divZ z (natAbs y)
-quot-div z y h = ap (quotZ z) (sym (posZ y h)) ∙ quot-is z (natAbs y)
+quot-div z y h = ap (quotZ z) (sym (abs-pos y (from-one y h))) ∙ quot-is z (natAbs y)
 
 pub rem-fits : (w : Width) (z d : ℤ) → SFits w z → SFits w (remZ z d)
 rem-fits w z d f = sfits-le {y = remZ z d} {z = z} (mag-rem z d) f

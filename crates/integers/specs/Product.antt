@@ -1,14 +1,13 @@
 -- Products on ℤ: the laws of a ring, and how a product stands in the order. Assumes nothing.
 --     simp ring (omega arithZ)    as `simp lin`, with products multiplied out: an equation of ℤ's ring whose monomials have at most two unknown factors
-use mathlib.Core.Path.{_≡_, refl, sym, _∙_, ap, subst}
-use mathlib.Core.List.{List, [], _∷_}
+use mathlib.Core.Path.{_≡_, refl, sym, _∙_, ap}
 use mathlib.Core.Logic.{_↔_}
-use Prim.Native.Nat.{ℕ, zero, suc, _+_, _*_, _^_, _≤_, _<_}
+use Prim.Native.Nat.{ℕ, suc, _+_, _*_, _≤_}
 use native.Mathlib.Omega.{arith}
 use native.Mathlib.Nat.{mul-le-mul-left, mul-le-mul-right, le-trans}
-use lib.IntN.{ℤ, pos, negsuc, negℤ, _+ℤ_, _-ℤ_, _*ℤ_, *ℤ-comm, natAbs}
-use lib.Signed.{_≤ℤ_, _<ℤ_}
-use Rattle.integers.specs.Linear.{up, dn, up-neg, dn-neg, sum-lin, eq-in, le-in, le-out, Lz, lin, arithZ, _⩽_, Within}
+use lib.IntN.{ℤ, pos, negsuc, negℤ, _+ℤ_, _*ℤ_, *ℤ-comm, natAbs}
+use lib.Signed.{_≤ℤ_}
+use Rattle.integers.specs.Linear.{up, dn, up-neg, dn-neg, sum-lin, eq-in, le-in, le-out, lin, arithZ, _⩽_, Within}
 
 pub mul-lin : (x y : ℤ) → up (x *ℤ y) + (up x * dn y + dn x * up y) ≡ dn (x *ℤ y) + (up x * up y + dn x * dn y)
 mul-lin (pos a) (pos b) = omega arith

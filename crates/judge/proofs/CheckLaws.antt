@@ -5,25 +5,21 @@ use mathlib.Core.List.{List, [], _∷_}
 use mathlib.Core.Option.{some, none}
 use Prim.Native.Nat.{ℕ, zero, suc, _+_, _-_, _≤_, _<_}
 use native.Mathlib.Omega.{arith}
+use native.Mathlib.Nat.{sub-eq-zero-of-le}
 use native.Mathlib.Numerals.{add-one}
 use lib.ListN.{length, getD, drop, drop-of-length-le}
 use lib.Seq.{drop-cons}
 use borrow.Author.Tests.{eq-eqb, ne-eqb}
+use Rattle.integers.specs.Count.{left-more}
 use Rattle.rules.specs.Table.{bit, bitsAt}
 use Rattle.rules.specs.Parity.{_⊕_, odd, firstBroken}
 use Rattle.rules.specs.Input.{bitOfByte, bitsOf}
-use Rattle.rules.proofs.Signs.{⊕-assoc, ⊕-zero}
-use Rattle.rules.proofs.Duality.{Below}
-use Rattle.table.proofs.ContentsLaws.{left-more, left-none}
-use Rattle.judge.specs.Held.{partAt, partsFrom}
+use Rattle.rules.proofs.Signs.{⊕-assoc, ⊕-zero, ⊕-true}
+use Rattle.table.specs.Held.{partAt, partsFrom}
 
 -- ---- one bit
-flip-one : (s : Bool) → not s ≡ s ⊕ true
-flip-one true = refl
-flip-one false = refl
-
 pub flips : (s : Bool) (b : ℕ) → b ≡ 1 → not s ≡ s ⊕ bitOfByte b
-flips s b e = flip-one s ∙ ap (λ x. s ⊕ x) (sym (eq-eqb b 1 e))
+flips s b e = sym (⊕-true s) ∙ ap (λ x. s ⊕ x) (sym (eq-eqb b 1 e))
 
 pub stays : (s : Bool) (b : ℕ) → (b ≡ 1 → ⊥) → s ≡ s ⊕ bitOfByte b
 stays s b f = sym (⊕-zero s) ∙ ap (λ x. s ⊕ x) (sym (ne-eqb b 1 f))
@@ -35,17 +31,6 @@ bits-at (b ∷ w) zero = refl
 bits-at (b ∷ w) (suc i) = bits-at w i
 
 -- ---- a check
-pub none-below : (k : ℕ) → k < 0 → ⊥
-none-below k h = omega arith
-
-pub less-before : (j k : ℕ) → suc j < suc k → j < k
-less-before j k h = omega arith
-
-pub member-below : (n : ℕ) (ms : List ℕ) (k : ℕ) → Below n ms → k < length ms → getD ms k 0 < n
-member-below n [] k b h = absurd (none-below k h)
-member-below n (m ∷ ms) zero b h = b .0
-member-below n (m ∷ ms) (suc k) b h = member-below n ms k (b .1) (less-before k (length ms) h)
-
 module _ (word ms : List ℕ) (k : ℕ) (s : Bool) where
   -- s is the sum modulo 2 of the first k members' bits
   pub odd-more : (r : Bool) → k < length ms → r ≡ s ⊕ bitOfByte (getD word (getD ms k 0) 0) → s ⊕ odd (bitsAt (bitsOf word) (drop k ms)) ≡ odd (bitsAt (bitsOf word) ms)
@@ -69,7 +54,7 @@ module _ (starts members : List ℕ) (m j : ℕ) where
 
   pub parts-end : m ≤ j → partsFrom starts members j (m - j) ≡ []
   unfolding partsFrom
-  parts-end h = ap (partsFrom starts members j) (left-none j m h)
+  parts-end h = ap (partsFrom starts members j) (sub-eq-zero-of-le h)
 
   module _ (w : List Bool) where
     broken-at : j < m → firstBroken j w (partsFrom starts members j (m - j))

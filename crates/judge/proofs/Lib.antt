@@ -2,6 +2,5 @@ pub mod SignedLaws
 pub mod CheckLaws
 pub mod RefusalLaws
 pub mod RowLaws
-pub mod HeldLaws
 pub mod StageLaws
 pub mod Certified

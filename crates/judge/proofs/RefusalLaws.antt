@@ -6,10 +6,12 @@ use mathlib.Core.List.{List, [], _∷_}
 use mathlib.Core.Option.{Option, some, none}
 use Prim.Native.Nat.{ℕ, zero, suc, _+_, _-_, _≤_, _<_}
 use native.Mathlib.Omega.{arith}
+use native.Mathlib.Nat.{sub-eq-zero-of-le}
 use native.Mathlib.Numerals.{add-one}
 use lib.Dec.{leb, ltb, eqb}
 use lib.ListN.{length}
 use borrow.Author.Tests.{lt-ltb, le-ltb, eq-eqb, ne-eqb, le-leb, lt-leb, ltb-true, leb-true, eqb-true, eqb-false}
+use Rattle.integers.specs.Count.{none-left, after-first, before-end, left-more}
 use Rattle.rules.specs.Limits.{maxEntries, maxScale, maxMultiplier, certificateLength}
 use Rattle.rules.specs.Refusal.{Answer, must, certificateWrong, scaleRange, entryRange, maskWrong, entryOrder}
 use Rattle.rules.specs.Table.{Table, checksOf}
@@ -18,47 +20,15 @@ use Rattle.rules.specs.CodeFile.{inRange}
 use Rattle.rules.specs.Certificate.{Item, itemAt, itemsAt, membersAt, follows, onItem, onItems, entriesOf, scaleOf, itemsOf, onCertificate}
 use Rattle.rules.proofs.Basics.{and-both}
 use Rattle.rules.proofs.AnswerLaws.{range-both}
-use Rattle.table.proofs.ContentsLaws.{left-more, left-none}
 use Rattle.table.proofs.AnswerLaws.{and-fails, and-holds}
-use Rattle.inputs.specs.Refusals.{turnedDown}
-use Rattle.judge.specs.Refusals.{Long, beforeAt, orElse, itemRefusal, itemsRefusal, certificateRefusal}
+use Rattle.inputs.specs.Refusals.{turnedDown, orElse}
+use Rattle.inputs.proofs.RefusalLaws.{else-none, cond-none, test-number, turned-else}
+use Rattle.judge.specs.Refusals.{Long, beforeAt, itemRefusal, itemsRefusal, certificateRefusal}
 
--- ---- numbers of refusals
-pub else-refused : (j k : ℕ) → (j ≡ 0 → ⊥) → orElse j k ≡ j
-else-refused zero k f = absurd (f refl)
-else-refused (suc j) k f = refl
-
-pub else-next : (j k : ℕ) → j ≡ 0 → orElse j k ≡ k
-else-next j k e = ap (λ x. orElse x k) e
-
-pub else-none : (j k : ℕ) → orElse j k ≡ 0 → (j ≡ 0) × (k ≡ 0)
-else-none zero k e = (refl, e)
-else-none (suc j) k e = absurd (impossible j e)
-  where
-    impossible : (j : ℕ) → suc j ≡ 0 → ⊥
-    impossible j e = omega arith
-
-pub cond-none : (b : Bool) (j k : ℕ) → cond b j (suc k) ≡ 0 → (b ≡ true) × (j ≡ 0)
-cond-none true j k e = (refl, e)
-cond-none false j k e = absurd (impossible k e)
-  where
-    impossible : (k : ℕ) → suc k ≡ 0 → ⊥
-    impossible k e = omega arith
-
+-- ---- one test
 cond-same : (b : Bool) (i j k : ℕ) → (b ≡ true → i ≡ j) → cond b i k ≡ cond b j k
 cond-same true i j k e = e refl
 cond-same false i j k e = refl
-
-module _ {A : Type 0} where
-  test-number : (b : Bool) (k r : ℕ) (a : Answer A) → must b (suc k) (turnedDown r a) ≡ turnedDown (cond b r (suc k)) a
-  unfolding must turnedDown
-  test-number true k r a = refl
-  test-number false k r a = refl
-
-  pub turned-else : (j k : ℕ) (a : Answer A) → turnedDown j (turnedDown k a) ≡ turnedDown (orElse j k) a
-  unfolding turnedDown
-  turned-else zero k a = refl
-  turned-else (suc j) k a = refl
 
 -- ---- one entry, in the numbers that the code has read
 module _ (m : ℕ) (d : ℕ → ℕ) (p : Option Item) (i : Item) (check multiplier : ℕ) (hc : check ≡ i .check) (hm : multiplier ≡ i .multiplier) where
@@ -133,7 +103,7 @@ module _ (m : ℕ) (d : ℕ → ℕ) (bs : List ℕ) (q : ℕ) where
 
   pub items-end : (k : ℕ) → q ≤ k → itemsRefusal m d (beforeAt bs q k) (itemsAt bs q k (q - k)) ≡ 0
   unfolding itemsAt itemsRefusal
-  items-end k h = ap (λ c. itemsRefusal m d (beforeAt bs q k) (itemsAt bs q k c)) (left-none k q h)
+  items-end k h = ap (λ c. itemsRefusal m d (beforeAt bs q k) (itemsAt bs q k c)) (sub-eq-zero-of-le h)
 
   pub items-all : itemsRefusal m d (beforeAt bs q 0) (itemsAt bs q 0 (q - 0)) ≡ itemsRefusal m d (beforeAt bs q 0) (itemsAt bs q 0 q)
   items-all = ap (λ c. itemsRefusal m d (beforeAt bs q 0) (itemsAt bs q 0 c)) (omega arith)
@@ -222,15 +192,6 @@ item-passed m d p i e =
     let both = and-both (ltb (i .check) m) (inRange 1 maxMultiplier (i .multiplier)) (range .0) in
     record { check = ltb-true (i .check) m (both .0); multiplier = range-both 1 maxMultiplier (i .multiplier) (both .1) .1 }
 
-none-left : (i j : ℕ) → i ≤ j → j < i + 0 → ⊥
-none-left i j p q = omega arith
-
-next : (i j : ℕ) → i ≤ j → (i ≡ j → ⊥) → i + 1 ≤ j
-next i j p q = omega arith
-
-before-end : (i j k : ℕ) → j < i + suc k → j < i + 1 + k
-before-end i j k q = omega arith
-
 module _ (m : ℕ) (d : ℕ → ℕ) (bs : List ℕ) (q : ℕ) where
   items-passed : (p : Option Item) (k c : ℕ) → itemsRefusal m d p (itemsAt bs q k c) ≡ 0 → (j : ℕ) → k ≤ j → j < k + c → Entry m (itemAt bs q j)
   unfolding itemsAt itemsRefusal
@@ -241,7 +202,7 @@ module _ (m : ℕ) (d : ℕ → ℕ) (bs : List ℕ) (q : ℕ) where
     where
       go : (b : Bool) → eqb k j ≡ b → Entry m (itemAt bs q k) → (k + 1 ≤ j → Entry m (itemAt bs q j)) → Entry m (itemAt bs q j)
       go true f here rest = subst (λ x. Entry m (itemAt bs q x)) (eqb-true k j f) here
-      go false f here rest = rest (next k j lo (eqb-false k j f))
+      go false f here rest = rest (after-first k j lo (eqb-false k j f))
 
 pub record Passed (m : ℕ) (bs : List ℕ) : Type 0 where
   pub long : Long bs (entriesOf bs)

@@ -1,31 +1,32 @@
 -- Rows put on the reduced numbers one after the other: the numbers that come of it are document 01's, and they stay within their limits. Assumes nothing.
-use mathlib.Core.Path.{_≡_, refl, sym, _∙_, ap, ap₂, subst}
+use mathlib.Core.Path.{_≡_, sym, _∙_, ap, ap₂, subst}
 use mathlib.Core.Bool.{Bool, true, false}
 use mathlib.Core.List.{List, [], _∷_}
 use Prim.Native.Nat.{ℕ, zero, suc, _+_, _*_, _-_, _/_, _%_, _≤_, _<_}
 use native.Mathlib.Omega.{arith}
+use native.Mathlib.Nat.{zero-lt-suc, suc-le-suc-iff, le-add-right, sub-eq-zero-of-le}
 use native.Mathlib.Numerals.{add-one}
 use native.Mathlib.Decide.{ℕ-discrete}
 use lib.Dec.{eqb}
-use lib.ListN.{length, getD, drop, set, length-set}
+use lib.ListN.{length, getD, drop, set}
 use lib.Seq.{drop-cons, getD-set-same, getD-set-other}
-use lib.IntN.{ℤ, pos, negℤ, _+ℤ_, _-ℤ_, _*ℤ_}
-use borrow.Author.Tests.{eq-eqb, ne-eqb}
+use lib.IntN.{ℤ, pos, negℤ, _+ℤ_, _-ℤ_, _*ℤ_, +ℤ-idr}
+use Rattle.integers.specs.Count.{left-more}
+use Rattle.integers.specs.Order.{within-zero, within-wider, within-add}
 use Rattle.integers.specs.Linear.{lin, arithZ, Within}
 use Rattle.integers.specs.Product.{abs, within-*}
-use Rattle.integers.specs.Sum.{sumTo, sumTo-same, add-zero}
+use Rattle.integers.specs.Sum.{sumTo, sumTo-same}
 use Rattle.rules.specs.Limits.{maxDegree, maxMultiplier}
 use Rattle.rules.specs.Table.{at}
 use Rattle.rules.specs.Parity.{side}
 use Rattle.rules.specs.Mask.{setOf}
-use Rattle.rules.specs.Bound.{Row, gather, weights, pull, price, reduced, bound}
+use Rattle.rules.specs.Bound.{Row, weights, pull, price, reduced, bound}
 use Rattle.rules.specs.Scatter.{scatter, scatterRow, scatterRows}
 use Rattle.rules.specs.Certificate.{Item, itemAt, itemsAt}
 use Rattle.rules.proofs.ScatterLaws.{scatter-length, rows-pull}
-use Rattle.table.proofs.ContentsLaws.{left-more, left-none}
-use Rattle.judge.specs.Held.{partAt}
+use Rattle.table.specs.Held.{partAt}
 use Rattle.judge.specs.Rows.{scaledLimit, rowLimit, Scaled, rowIn, rowsIn, rowPrice}
-use Rattle.judge.proofs.SignedLaws.{wider, pos-within}
+use Rattle.judge.proofs.SignedLaws.{pos-within}
 
 -- ---- the numbers
 -- the sum of sizes and the sum of prices make the bound
@@ -40,27 +41,18 @@ bound-is s l r₀ r rs a b len h e ha hb =
 
 -- ---- their limits
 within-set : (m n : ℕ) (ls : List ℤ) (i : ℕ) (x : ℤ) → m ≤ n → Within n x → ((j : ℕ) → Within m (at ls j)) → (j : ℕ) → Within n (at (set ls i x) j)
-within-set m n [] i x h w a j = wider m n (at [] j) h (a j)
+within-set m n [] i x h w a j = within-wider m n (at [] j) h (a j)
 within-set m n (y ∷ ls) zero x h w a zero = w
-within-set m n (y ∷ ls) zero x h w a (suc j) = wider m n (at ls j) h (a (suc j))
-within-set m n (y ∷ ls) (suc i) x h w a zero = wider m n y h (a zero)
+within-set m n (y ∷ ls) zero x h w a (suc j) = within-wider m n (at ls j) h (a (suc j))
+within-set m n (y ∷ ls) (suc i) x h w a zero = within-wider m n y h (a zero)
 within-set m n (y ∷ ls) (suc i) x h w a (suc j) = within-set m n ls i x h w (λ k. a (suc k)) j
-
-none-within : (n : ℕ) → Within n (pos 0)
-none-within n = record { hi = omega arith; lo = omega arith }
-
-more-after : (j k : ℕ) → j < k → suc j < suc k
-more-after j k h = omega arith
-
-first : (k : ℕ) → 0 < suc k
-first k = omega arith
 
 -- past the end a number reads as 0
 pub all-within : (n : ℕ) (ls : List ℤ) → ((i : ℕ) → i < length ls → Within n (at ls i)) → (i : ℕ) → Within n (at ls i)
-all-within n [] h zero = none-within n
-all-within n [] h (suc i) = none-within n
-all-within n (x ∷ ls) h zero = h 0 (first (length ls))
-all-within n (x ∷ ls) h (suc i) = all-within n ls (λ j k. h (suc j) (more-after j (length ls) k)) i
+all-within n [] h zero = within-zero n
+all-within n [] h (suc i) = within-zero n
+all-within n (x ∷ ls) h zero = h 0 (zero-lt-suc (length ls))
+all-within n (x ∷ ls) h (suc i) = all-within n ls (λ j k. h (suc j) (suc-le-suc-iff .1 k)) i
 
 pub side-within : (n b : ℕ) (t : Bool) → b ≤ n → Within n (side t (pos b))
 side-within n b true h = pos-within n b h
@@ -93,21 +85,12 @@ module _ (s : ℕ) (l r : List ℤ) (i : ℕ) (x : ℤ) (hi : i < length r) (e :
 
 -- one member of a check
 module _ (m n : ℕ) (ls : List ℤ) (i : ℕ) (w : ℤ) (hw : Within n w) (h : (j : ℕ) → Within m (at ls j)) where
-  sum-within : (x w : ℤ) → Within m x → Within n w → Within (m + n) (x +ℤ w)
-  sum-within x w = simp lin (omega arithZ)
-
   pub put-within : (j : ℕ) → Within (m + n) (at (set ls i (at ls i +ℤ w)) j)
-  put-within = within-set m (m + n) ls i (at ls i +ℤ w) (omega arith) (sum-within (at ls i) w (h i) hw) h
+  put-within = within-set m (m + n) ls i (at ls i +ℤ w) (le-add-right m n) (within-add m n (at ls i) w (h i) hw) h
 
 scatter-within : (m n b : ℕ) (ms : List ℕ) (ts : List Bool) (ls : List ℤ) → b ≤ n → ((j : ℕ) → Within m (at ls j)) → (j : ℕ) → Within (m + n * length ts) (at (scatter ms (weights b ts) ls) j)
-scatter-within m n b ms [] ls hb h j = wider m (m + n * 0) (at ls j) (same m n) (h j)
-  where
-    same : (m n : ℕ) → m ≤ m + n * 0
-    same m n = omega arith
-scatter-within m n b [] (t ∷ ts) ls hb h j = wider m (m + n * suc (length ts)) (at ls j) (more m (n * suc (length ts))) (h j)
-  where
-    more : (m k : ℕ) → m ≤ m + k
-    more m k = omega arith
+scatter-within m n b ms [] ls hb h j = within-wider m (m + n * 0) (at ls j) (le-add-right m (n * 0)) (h j)
+scatter-within m n b [] (t ∷ ts) ls hb h j = within-wider m (m + n * suc (length ts)) (at ls j) (le-add-right m (n * suc (length ts))) (h j)
 scatter-within m n b (i ∷ ms) (t ∷ ts) ls hb h j =
     subst (λ k. Within k (at (scatter ms (weights b ts) (set ls i (at ls i +ℤ side t (pos b)))) j)) (regroup m n (length ts))
     (scatter-within (m + n) n b ms ts (set ls i (at ls i +ℤ side t (pos b))) hb (put-within m n ls i (side t (pos b)) (side-within n b t hb) h) j)
@@ -125,7 +108,7 @@ module _ (b left k : ℕ) (ms : List ℕ) (ls : List ℤ) where
       ∙ sym (ap₂ (λ l d. scatter l (weights b (setOf d left)) ls) (drop-cons ms k 0 h) (left-more k (length ms) h))
 
   pub scatter-end : length ms ≤ k → scatter (drop k ms) (weights b (setOf (length ms - k) left)) ls ≡ ls
-  scatter-end h = ap (λ d. scatter (drop k ms) (weights b (setOf d left)) ls) (left-none k (length ms) h)
+  scatter-end h = ap (λ d. scatter (drop k ms) (weights b (setOf d left)) ls) (sub-eq-zero-of-le h)
 
 pub scatter-all : (b mask : ℕ) (ms : List ℕ) (ls : List ℤ) → scatter (drop 0 ms) (weights b (setOf (length ms - 0) mask)) ls ≡ scatter ms (weights b (setOf (length ms) mask)) ls
 scatter-all b mask ms ls = let e : length ms - 0 ≡ length ms = omega arith in ap (λ d. scatter ms (weights b (setOf d mask)) ls) e
@@ -138,7 +121,7 @@ module _ (starts members bs : List ℕ) (q k : ℕ) where
 
   pub rows-end : q ≤ k → rowsIn starts members (itemsAt bs q k (q - k)) ≡ []
   unfolding itemsAt
-  rows-end h = ap (λ c. rowsIn starts members (itemsAt bs q k c)) (left-none k q h)
+  rows-end h = ap (λ c. rowsIn starts members (itemsAt bs q k c)) (sub-eq-zero-of-le h)
 
 pub rows-all : (starts members bs : List ℕ) (q : ℕ) → rowsIn starts members (itemsAt bs q 0 (q - 0)) ≡ rowsIn starts members (itemsAt bs q 0 q)
 rows-all starts members bs q = ap (λ c. rowsIn starts members (itemsAt bs q 0 c)) (omega arith)
@@ -161,13 +144,13 @@ pub price-none : (p q : ℤ) → p ≡ q → pos 0 +ℤ p ≡ q
 price-none p q = simp lin (omega arithZ)
 
 pub price-end : (t p : ℤ) (rows : List Row) → rows ≡ [] → t +ℤ price rows ≡ p → t ≡ p
-price-end t p rows e i = add-zero t ∙ ap (λ rs. t +ℤ price rs) (sym e) ∙ i
+price-end t p rows e i = sym (+ℤ-idr t) ∙ ap (λ rs. t +ℤ price rs) (sym e) ∙ i
 
 -- what one row adds, and its price
 module _ (r : Row) (hs : length (r .set) ≡ length (r .members)) (hd : length (r .members) ≤ maxDegree) (hb : r .multiplier ≤ maxMultiplier) where
   pub row-within : (m : ℕ) (ls : List ℤ) → ((j : ℕ) → Within m (at ls j)) → (j : ℕ) → Within (m + rowLimit) (at (scatterRow r ls) j)
   row-within m ls h j =
-      wider (m + maxMultiplier * length (r .set)) (m + rowLimit) (at (scatterRow r ls) j) (omega arith) (scatter-within m maxMultiplier (r .multiplier) (r .members) (r .set) ls hb h j)
+      within-wider (m + maxMultiplier * length (r .set)) (m + rowLimit) (at (scatterRow r ls) j) (omega arith) (scatter-within m maxMultiplier (r .multiplier) (r .members) (r .set) ls hb h j)
 
   pub price-within : Within rowLimit (rowPrice r)
   price-within = within-* maxMultiplier maxDegree (pos (r .multiplier)) (pos (length (r .members)) -ℤ pos 2) (pos-within maxMultiplier (r .multiplier) hb) (less (length (r .members)) hd)

@@ -3,11 +3,12 @@ use mathlib.Core.Path.{_≡_, refl, sym, _∙_, ap, ap₂, subst}
 use Prim.Native.Nat.{ℕ, _+_, _*_, _^_, _≤_, _<_}
 use native.Mathlib.Omega.{arith}
 use native.Mathlib.Numerals.{add-one}
-use lib.IntN.{ℤ, pos, negℤ, _+ℤ_, _-ℤ_, _*ℤ_}
+use lib.IntN.{ℤ, pos, negℤ, _+ℤ_, _-ℤ_, _*ℤ_, +ℤ-idl}
 use mir.Syntax.{w64}
 use mir.Val.{SFits, toZ, ofZ}
 use mir.Facts.{toZ-ofZ, toZ-pos}
 use Rattle.integers.specs.Linear.{lin, arithZ, Within}
+use Rattle.integers.specs.Order.{within-zero}
 use Rattle.integers.specs.Product.{abs, natAbs-≤, within}
 use Rattle.integers.specs.Machine.{op-fits, prod-fits}
 use Rattle.integers.specs.Sum.{sumTo}
@@ -19,16 +20,10 @@ sized {n} e h = (e, subst (Within n) (sym e) h)
 pub abs-within : (n : ℕ) (x : ℤ) → Within n x → Within n (abs x)
 abs-within n x h = within n (abs x) (natAbs-≤ x n h)
 
-pub wider : (m n : ℕ) (x : ℤ) → m ≤ n → Within m x → Within n x
-wider m n x h w = record { hi = omega arith; lo = omega arith }
-
 pub pos-within : (n k : ℕ) → k ≤ n → Within n (pos k)
 pos-within n k h = record { hi = h; lo = omega arith }
 
 -- ---- negated
-zero-less : (x : ℤ) → pos 0 -ℤ x ≡ negℤ x
-zero-less x = simp lin (omega arithZ)
-
 opposite-fits : (n : ℕ) (x : ℤ) → n < 2 ^ 63 → Within n x → SFits w64 (pos 0 -ℤ x)
 opposite-fits n x = simp lin (omega arithZ)
 
@@ -38,7 +33,7 @@ module _ (x y : ℤ) (e : y ≡ x) where
   neg-fits n w h = subst (λ z. SFits w64 (pos 0 -ℤ z)) (sym e) (opposite-fits n x h w)
 
   pub neg-reads : SFits w64 (pos 0 -ℤ y) → toZ w64 (ofZ w64 (pos 0 -ℤ y)) ≡ negℤ x
-  neg-reads g = toZ-ofZ g ∙ ap (λ z. pos 0 -ℤ z) e ∙ zero-less x
+  neg-reads g = toZ-ofZ g ∙ ap (λ z. pos 0 -ℤ z) e ∙ +ℤ-idl (negℤ x)
 
 -- ---- a size times a number
 module _ (m n k : ℕ) (x : ℤ) (f : SFits w64 x) (hk : k ≤ m) (small : m < 2 ^ 63) where
@@ -65,9 +60,6 @@ module _ (m n : ℕ) (x y : ℤ) (f : SFits w64 x) (g : SFits w64 y) (room : m +
   pub less-reads : toZ w64 (ofZ w64 (toZ w64 (ofZ w64 x) -ℤ toZ w64 (ofZ w64 y))) ≡ x -ℤ y
   less-reads = toZ-ofZ less-fits ∙ ap₂ _-ℤ_ (toZ-ofZ f) (toZ-ofZ g)
 
-pub plus-within : (m n : ℕ) (x y : ℤ) → Within m x → Within n y → Within (m + n) (x +ℤ y)
-plus-within m n x y = simp lin (omega arithZ)
-
 -- ---- a sum of k numbers, each between −b and b, in the bits t
 abbrev pub Summed : ℕ → ℕ → ℕ → ℤ → Type 0
 Summed b k t s = (toZ w64 t ≡ s) × Within (b * k) (toZ w64 t)
@@ -89,7 +81,7 @@ module _ (b k t : ℕ) (x s : ℤ) (f : SFits w64 x) (room : b * (k + 1) < 2 ^ 6
   summed-more s′ e = (reads ∙ ap (λ z. z +ℤ x) (h .0) ∙ sym e, subst (Within (b * (k + 1))) (sym reads) (add-within b k (toZ w64 t) x (h .1) w))
 
 pub summed-none : (b : ℕ) → Summed b 0 0 (pos 0)
-summed-none b = (refl, record { hi = omega arith; lo = omega arith })
+summed-none b = (refl, within-zero (b * 0))
 
 pub sum-next : (f : ℕ → ℤ) (k : ℕ) → sumTo (k + 1) f ≡ sumTo k f +ℤ f k
 sum-next f k = ap (λ n. sumTo n f) (add-one k)

@@ -11,6 +11,7 @@ use lib.IntN.{ℤ, pos, negsuc}
 use borrow.Author.Tests.{eqb-true}
 use mir.Syntax.{w64}
 use mir.Val.{ofZ}
+use Rattle.integers.specs.Count.{first-in, rest-in}
 use Rattle.rules.specs.Limits.{frameLimit}
 use Rattle.rules.specs.Refusal.{Answer, refused, gives, then, replyOf, frameRange}
 use Rattle.rules.specs.Table.{Table, checksOf}
@@ -24,29 +25,16 @@ use Rattle.rules.specs.Certificate.{Item, itemAt, itemsAt, membersAt, entriesOf
 use Rattle.rules.specs.Judge.{passes, misses, weigh, verdict, verdictValues, judge, judgeReply, syndrome, syndromeValues, agreementOf}
 use Rattle.rules.proofs.Basics.{and-both}
 use Rattle.rules.proofs.AnswerLaws.{then-of}
-use Rattle.inputs.specs.Refusals.{frameRefusal, wordRefusal, turnedDown}
+use Rattle.inputs.specs.Refusals.{frameRefusal, wordRefusal, turnedDown, orElse}
 use Rattle.inputs.proofs.InputLaws.{frame-law, word-law}
-use Rattle.judge.specs.Held.{degreeAt, partsFrom, tableIn, Held}
-use Rattle.judge.specs.Refusals.{orElse, certificateRefusal}
+use Rattle.table.specs.Held.{degreeAt, partsFrom, tableIn, Held}
+use Rattle.judge.specs.Refusals.{certificateRefusal}
 use Rattle.judge.specs.Rows.{rowIn, rowsIn, AllPlaced}
 use Rattle.judge.specs.Stages.{verdictOn, judgeOn, syndromeOn, agreementOn, Unrefused}
 use Rattle.judge.specs.Reply.{agreementValues}
-use Rattle.judge.proofs.HeldLaws.{parts-length, parts-at, part-length}
-use Rattle.judge.proofs.RefusalLaws.{else-none, cond-none, turned-else, certificate-law, Passed}
-
--- ---- a refusal's number in front of an answer
-module _ {A : Type 0} (f : A → List ℤ) (k : ℕ) (a : Answer A) where
-  refused-reply : (j : ℕ) → (j ≡ 0 → ⊥) → record { number = j; values = [] } ≡ replyOf f (turnedDown j a)
-  unfolding turnedDown replyOf
-  refused-reply zero h = absurd (h refl)
-  refused-reply (suc j) h = refl
-
-  pub reply-refused : (k ≡ 0 → ⊥) → record { number = k; values = [] } ≡ replyOf f (turnedDown k a)
-  reply-refused h = refused-reply k h
-
-  pub reply-passes : k ≡ 0 → replyOf f a ≡ replyOf f (turnedDown k a)
-  unfolding turnedDown
-  reply-passes e = ap (λ j. replyOf f (turnedDown j a)) (sym e)
+use Rattle.table.proofs.HeldLaws.{parts-length, parts-at, part-length}
+use Rattle.inputs.proofs.RefusalLaws.{else-none, cond-none, turned-else, reply-refused, reply-passes}
+use Rattle.judge.proofs.RefusalLaws.{certificate-law, Passed}
 
 -- ---- what is not refused
 frame-long : (n : ℕ) (l : List ℤ) → frameRefusal n l ≡ 0 → length l ≡ n
@@ -106,18 +94,12 @@ module _ (n m : ℕ) (starts members : List ℕ) (held : Held n m starts members
 row-is : (n m : ℕ) (starts members : List ℕ) (i : Item) → i .check < m → rowIn starts members i ≡ rowAt (tableIn n m starts members) i
 row-is n m starts members i h = ap (λ ms. record { members = ms; multiplier = i .multiplier; set = setOf (length ms) (i .mask) }) (sym (parts-at starts members m (i .check) h))
 
-before-last : (k c q : ℕ) → k + suc c ≤ q → k < q
-before-last k c q h = omega arith
-
-one-on : (k c q : ℕ) → k + suc c ≤ q → k + 1 + c ≤ q
-one-on k c q h = omega arith
-
 rows-from : (n m : ℕ) (starts members bs : List ℕ) (q : ℕ) → ((k : ℕ) → k < q → itemAt bs q k .check < m) → (k c : ℕ) → k + c ≤ q
     → rowsIn starts members (itemsAt bs q k c) ≡ rowsAt (tableIn n m starts members) (itemsAt bs q k c)
 unfolding itemsAt
 rows-from n m starts members bs q h k zero g = refl
 rows-from n m starts members bs q h k (suc c) g =
-    ap₂ _∷_ (row-is n m starts members (itemAt bs q k) (h k (before-last k c q g))) (rows-from n m starts members bs q h (k + 1) c (one-on k c q g))
+    ap₂ _∷_ (row-is n m starts members (itemAt bs q k) (h k (first-in k c q g))) (rows-from n m starts members bs q h (k + 1) c (rest-in k c q g))
 
 zero-gap : (g : ℤ) → (ofZ w64 g ≡ 0 → ⊥) → isZero g ≡ false
 zero-gap (pos zero) f = absurd (f refl)

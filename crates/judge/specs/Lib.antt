@@ -1,4 +1,3 @@
-pub mod Held
 pub mod Refusals
 pub mod Rows
 pub mod Stages

@@ -12,6 +12,7 @@ use Rattle.rules.specs.Refusal.{certificateWrong, scaleRange, entryRange, maskW
 use Rattle.rules.specs.Mask.{maskRight}
 use Rattle.rules.specs.CodeFile.{inRange}
 use Rattle.rules.specs.Certificate.{Item, itemAt, follows, entriesOf, scaleOf, itemsOf}
+use Rattle.inputs.specs.Refusals.{orElse}
 
 -- as long as its q entries ask
 pub record Long (bs : List ℕ) (q : ℕ) : Type 0 where
@@ -27,11 +28,6 @@ pub record Listed (bs : List ℕ) (q k : ℕ) : Type 0 where
 abbrev pub beforeAt : List ℕ → ℕ → ℕ → Option Item
 beforeAt bs q zero = none
 beforeAt bs q (suc k) = some (itemAt bs q k)
-
--- the second refusal where the first is none
-abbrev pub orElse : ℕ → ℕ → ℕ
-orElse zero k = k
-orElse (suc j) k = suc j
 
 -- m checks, d their degrees, p the entry before
 unfoldable pub itemRefusal : ℕ → (ℕ → ℕ) → Option Item → Item → ℕ

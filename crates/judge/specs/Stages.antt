@@ -11,7 +11,7 @@ use Rattle.rules.specs.Input.{onFrame, onWord, bitsOf}
 use Rattle.rules.specs.Certificate.{onCertificate, scaleOf, itemsOf, rowsAt}
 use Rattle.rules.specs.Judge.{Verdict, verdict}
 use Rattle.inputs.specs.Refusals.{frameRefusal, wordRefusal, turnedDown}
-use Rattle.judge.specs.Held.{degreeAt}
+use Rattle.table.specs.Held.{degreeAt}
 use Rattle.judge.specs.Refusals.{certificateRefusal}
 
 abbrev pub verdictOn : Table → List ℤ → List ℕ → List ℕ → Verdict

@@ -6,7 +6,7 @@ ghost use Rattle.rules.specs.Table.{bitsAt};
 ghost use Rattle.rules.specs.Parity.{_⊕_, odd, firstBroken};
 ghost use Rattle.rules.specs.Input.{bitOfByte, bitsOf};
 ghost use Rattle.rules.proofs.Duality.{Below};
-ghost use Rattle.judge.specs.Held.{Held, partsFrom};
+ghost use Rattle.table.specs.Held.{Held, partsFrom};
 ghost use Rattle.judge.specs.Reply.{foundIn};
 
 // A check's number, or none.

@@ -7,16 +7,16 @@ use super::limits::MAX_ENTRIES;
 use super::limits::MAX_MULTIPLIER;
 use super::limits::MAX_SCALE;
 use super::limits::SCALE_RANGE;
-use super::numbers::in_range;
-use super::numbers::u16_at;
 use super::numbers::u32_at;
 use super::starts::degree;
+use table::numbers::in_range;
+use table::numbers::u16_at;
 ghost use mathlib.Core.Path.{_≡_};
 ghost use Prim.Native.Nat.{_≤_, _<_};
 ghost use Rattle.rules.specs.Limits.{maxDegree};
 ghost use Rattle.rules.specs.Mask.{maskRight};
 ghost use Rattle.rules.specs.Certificate.{itemAt, itemsAt, follows};
-ghost use Rattle.judge.specs.Held.{Ordered, degreeAt};
+ghost use Rattle.table.specs.Held.{Ordered, degreeAt};
 ghost use Rattle.judge.specs.Refusals.{Long, Listed, beforeAt, itemRefusal, itemsRefusal, certificateRefusal};
 
 // Entry k's check number.

@@ -1,20 +1,11 @@
-// The 16-bit and 32-bit numbers of a certificate, and the test of a range.
+// The 32-bit numbers of a certificate.
+use table::numbers::u16_at;
 ghost use mathlib.Core.Path.{_≡_};
 ghost use Prim.Native.Nat.{_+_, _<_};
 ghost use lib.ListN.{length};
-ghost use Rattle.rules.specs.Bytes.{u16At, u32At};
-ghost use Rattle.rules.specs.CodeFile.{inRange};
+ghost use Rattle.rules.specs.Bytes.{u32At};
 
 // The number at byte `at`: "file numbers are little-endian".
-pub(crate) fn u16_at(bytes: &[u8], at: usize) -> usize
-    requires { ⌜ at + 1 < length (now bytes) ⌝ }
-    ensures { λ r. ⌜ (r ≡ u16At (now (bytes .entry)) at) × (r < 65536) ⌝ }
-{
-    let low = bytes[at] as usize;
-    let high = bytes[at + 1] as usize;
-    low + 256 * high
-}
-
 pub(crate) fn u32_at(bytes: &[u8], at: usize) -> u32
     requires { ⌜ at + 3 < length (now bytes) ⌝ }
     ensures { λ r. ⌜ r ≡ u32At (now (bytes .entry)) at ⌝ }
@@ -22,11 +13,4 @@ pub(crate) fn u32_at(bytes: &[u8], at: usize) -> u32
     let low = u16_at(bytes, at);
     let high = u16_at(bytes, at + 2);
     (low + 65536 * high) as u32
-}
-
-// x is from lo to hi.
-pub(crate) fn in_range(lo: usize, hi: usize, x: usize) -> bool
-    ensures { λ r. ⌜ r ≡ inRange lo hi x ⌝ }
-{
-    lo <= x && x <= hi
 }

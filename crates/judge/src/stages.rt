@@ -13,9 +13,9 @@ ghost use Prim.Native.Nat.{_≤_};
 ghost use Rattle.rules.specs.Limits.{maxBits};
 ghost use Rattle.rules.specs.Refusal.{gives, replyOf};
 ghost use Rattle.rules.specs.Judge.{verdictValues, syndromeValues};
-ghost use Rattle.inputs.specs.Refusals.{frameRefusal, wordRefusal};
-ghost use Rattle.judge.specs.Held.{Held, Ordered, degreeAt, tableIn};
-ghost use Rattle.judge.specs.Refusals.{orElse, certificateRefusal};
+ghost use Rattle.inputs.specs.Refusals.{frameRefusal, wordRefusal, orElse};
+ghost use Rattle.table.specs.Held.{Held, Ordered, degreeAt, tableIn};
+ghost use Rattle.judge.specs.Refusals.{certificateRefusal};
 ghost use Rattle.judge.specs.Reply.{numbered, parityReply, agreedReply, agreementValues};
 ghost use Rattle.judge.specs.Stages.{verdictOn, judgeOn, syndromeOn, agreementOn, Unrefused};
 

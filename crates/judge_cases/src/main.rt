@@ -7,12 +7,11 @@
 use judge::Agreed;
 use judge::Parity;
 use judge::Verdict;
-use libc::STDIN_FILENO;
 use libc::STDOUT_FILENO;
-ghost use Prim.Native.Nat.{_+_, _*_, _≤_, _<_};
-ghost use lib.IntN.{pos};
-ghost use lib.ListN.{length};
-ghost use lib.Signed.{_≤ℤ_};
+use stream::print_number;
+use stream::print_signed;
+use stream::read_i16_part;
+use stream::read_part;
 
 const CODE_LIMIT: usize = 30000;
 
@@ -21,105 +20,6 @@ const FRAME_LIMIT: usize = 4096;
 const WORD_LIMIT: usize = 4096;
 
 const CERTIFICATE_LIMIT: usize = 50000;
-
-// What no 32-bit number is: the record is longer than it may be, or cut short.
-const NOT_WHOLE: usize = 0x1_0000_0000;
-
-fn wide(x: u8) -> usize
-    ensures { λ r. ⌜ r ≤ 255 ⌝ }
-{
-    x as usize
-}
-
-// The 16-bit number at byte `at`, little-endian.
-fn number_at(bytes: &[u8], at: usize) -> usize
-    requires { ⌜ at + 2 ≤ length (now bytes) ⌝ }
-    ensures { λ r. ⌜ r < 65536 ⌝ }
-{
-    wide(bytes[at]) + 256 * wide(bytes[at + 1])
-}
-
-// The number as a signed one: its upper half is negative.
-fn signed(n: usize) -> i16
-    requires { ⌜ n < 65536 ⌝ }
-{
-    if n < 32768 {
-        return n as i16;
-    }
-    !((65535 - n) as i16)
-}
-
-fn read_number() -> usize {
-    let mut head = [0u8; 4];
-    if io::read_full(STDIN_FILENO, &mut head) < 4 {
-        return NOT_WHOLE;
-    }
-    number_at(&head, 0) + 65536 * number_at(&head, 2)
-}
-
-// The length of the part that is read: a code file, a word or a certificate.
-fn read_part(part: &mut [u8]) -> usize {
-    let size = read_number();
-    if part.len() < size {
-        return NOT_WHOLE;
-    }
-    if io::read_full(STDIN_FILENO, &mut part[..size]) < size {
-        return NOT_WHOLE;
-    }
-    size
-}
-
-fn decode(bytes: &[u8], frame: &mut [i16], count: usize)
-    requires { ⌜ (2 * count ≤ length (now bytes)) × (count ≤ length (now frame)) ⌝ }
-{
-    let mut i: usize = 0;
-    while i < count {
-        frame[i] = signed(number_at(bytes, 2 * i));
-        i += 1;
-    }
-}
-
-// The count of the frame numbers that are read, by way of their bytes.
-fn read_by(bytes: &mut [u8], frame: &mut [i16]) -> usize {
-    let count = read_number();
-    if frame.len() < count {
-        return NOT_WHOLE;
-    }
-    if bytes.len() / 2 < count {
-        return NOT_WHOLE;
-    }
-    let size = 2 * count;
-    if io::read_full(STDIN_FILENO, &mut bytes[..size]) < size {
-        return NOT_WHOLE;
-    }
-    decode(bytes, frame, count);
-    count
-}
-
-fn read_frame(frame: &mut [i16]) -> usize {
-    let mut bytes = [0u8; 2 * FRAME_LIMIT];
-    read_by(&mut bytes, frame)
-}
-
-fn print_number(label: &[u8], n: u64) {
-    io::write_all(STDOUT_FILENO, label);
-    io::print_decimal(STDOUT_FILENO, n);
-}
-
-fn bare(x: i64) -> u64
-    requires { ⌜ pos 0 ≤ℤ x ⌝ }
-    ensures { λ r. ⌜ r < 9223372036854775808 ⌝ }
-{
-    x as u64
-}
-
-fn print_signed(x: i64) {
-    if x < 0 {
-        print_number(b"-", bare(-(x + 1)) + 1);
-    } else {
-        print_number(b"", bare(x));
-    }
-}
 
 fn print_verdict(answer: Verdict) {
     match answer {
@@ -183,7 +83,7 @@ fn with_frame(code: &[u8], frame: &[i16]) -> bool {
 
 fn with_code(code: &[u8]) -> bool {
     let mut frame = [0i16; FRAME_LIMIT];
-    let count = read_frame(&mut frame);
+    let count = read_i16_part(&mut frame);
     if FRAME_LIMIT < count {
         return false;
     }

@@ -4,7 +4,6 @@ mod code;
 
 use code::FILE_LIMIT;
 use code::read_code;
-use code::u16_at;
 use decoder::Called;
 use decoder::Outcome;
 use decoder::Record;
@@ -17,6 +16,7 @@ use table::Checked;
 use table::limits::MAX_BITS;
 use table::limits::MAX_CHECKS;
 use table::limits::MAX_EDGES;
+use table::numbers::u16_at;
 ghost use Prim.Native.Nat.{_≤_};
 ghost use lib.ListN.{length};
 
@@ -63,9 +63,7 @@ fn print_agreement(agreement: Agreed) {
 }
 
 // "After certified: rounds, agreement, cuts": the cuts are the certificate's q.
-fn print_certified(code: &[u8], frame: &[i16], rounds: u32, word: &[u8], certificate: &[u8])
-    requires { ⌜ 2 ≤ length (now certificate) ⌝ }
-{
+fn print_certified(code: &[u8], frame: &[i16], rounds: u32, word: &[u8], certificate: &[u8]) {
     print_number(b" certified ", rounds as u64);
     print_agreement(judge::agreement(code, frame, word));
     print_number(b" ", u16_at(certificate, 0) as u64);

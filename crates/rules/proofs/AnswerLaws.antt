@@ -1,11 +1,9 @@
 -- An answer has passed every test in front of it. Assumes nothing.
 use mathlib.Core.Path.{_≡_, refl, ap}
-use mathlib.Core.Bool.{Bool, true, false, _&&_}
-use mathlib.Core.List.{List}
+use mathlib.Core.Bool.{Bool, true, false}
 use Prim.Native.Nat.{ℕ, _≤_}
 use native.Mathlib.Omega.{arith}
 use lib.Dec.{leb}
-use lib.IntN.{ℤ}
 use borrow.Author.Tests.{leb-true}
 use Rattle.rules.specs.Refusal.{Answer, refused, gives, must, then}
 use Rattle.rules.specs.CodeFile.{inRange}

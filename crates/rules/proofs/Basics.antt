@@ -1,9 +1,8 @@
--- Small facts on Bool, Option and lists. Assumes nothing.
-use mathlib.Core.Path.{_≡_, refl, sym, ap}
+-- Small facts on Bool and Option. Assumes nothing.
+use mathlib.Core.Path.{_≡_, refl, sym}
 use mathlib.Core.Bool.{Bool, true, false, not, _&&_, _||_, false≢true, true≢false}
-use mathlib.Core.List.{List, [], _∷_, _++_}
 use mathlib.Core.Option.{Option, some, none}
-use Prim.Native.Nat.{ℕ, zero, suc}
+use Prim.Native.Nat.{ℕ}
 use native.Mathlib.Omega.{arith}
 
 pub none≢some : {A : Type 0} {a : A} → _≡_ {A = Option A} none (some a) → ⊥
@@ -25,7 +24,3 @@ not-inj true true e = refl
 not-inj true false e = sym e
 not-inj false true e = sym e
 not-inj false false e = refl
-
-pub append-nil : {A : Type 0} (xs : List A) → xs ++ [] ≡ xs
-append-nil [] = refl
-append-nil (x ∷ xs) = ap (λ z. x ∷ z) (append-nil xs)

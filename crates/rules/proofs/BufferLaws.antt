@@ -1,21 +1,19 @@
 -- Laws of lent buffers: a part that is long enough is as good as the whole, and what is past the stated lengths stays. Assumes nothing.
-use mathlib.Core.Path.{_≡_, refl, sym, _∙_, ap, ap₂, subst}
-use mathlib.Core.Bool.{Bool, true, false, _&&_}
-use mathlib.Core.List.{List, [], _∷_, _++_}
-use Prim.Native.Nat.{ℕ, zero, suc, _+_, _-_, _≤_, min}
+use mathlib.Core.Path.{_≡_, refl, sym, _∙_, ap, subst}
+use mathlib.Core.Bool.{true, _&&_}
+use mathlib.Core.List.{List, [], _∷_, _++_, append-nil}
+use Prim.Native.Nat.{ℕ, zero, suc, _+_, _-_, _≤_}
 use native.Mathlib.Omega.{arith}
+use native.Mathlib.Nat.{le-of-suc-le-suc, le-trans, add-sub-of-le}
 use lib.Dec.{leb}
-use borrow.Author.Tests.{leb-true, le-leb}
-use lib.ListN.{length, take, drop, length-take, length-drop, length-append}
-use lib.Seq.{take-all, drop-nil, take-at, drop-drop}
+use borrow.Author.Tests.{leb-true}
+use lib.ListN.{length, take, drop, length-drop, length-append, take-append-drop, drop-of-length-le}
+use lib.Seq.{length-take-le, take-all, take-at, drop-drop}
 use lib.IntN.{ℤ}
 use Rattle.rules.specs.Buffers.{Buffers, Lengths, lengthsOf, fits, partOf, over, overAll}
-use Rattle.rules.proofs.Basics.{and-both, append-nil}
+use Rattle.rules.proofs.Basics.{and-both}
 
 -- ---- one list
-less : {a b : ℕ} → suc a ≤ suc b → a ≤ b
-less h = omega arith
-
 -- a part given back unchanged
 over-part : {A : Type 0} (k : ℕ) (l : List A) → over (take k l) l ≡ l
 over-part zero l = refl
@@ -27,29 +25,21 @@ pub take-over : {A : Type 0} (k : ℕ) (new old : List A) → length new ≡ k �
 take-over k new old e = take-at new (drop (length new) old) k e
 
 pub over-length : {A : Type 0} (new old : List A) → length new ≤ length old → length (over new old) ≡ length old
-over-length new old h = length-append new (drop (length new) old) ∙ ap (λ n. length new + n) (length-drop (length new) old) ∙ back (length new) (length old) h
-  where
-    back : (a b : ℕ) → a ≤ b → a + (b - a) ≡ b
-    back a b h = omega arith
+over-length new old h = length-append new (drop (length new) old) ∙ ap (λ n. length new + n) (length-drop (length new) old) ∙ add-sub-of-le h
 
 -- writing to a part is the part of writing to the whole
 pub over-take : {A : Type 0} (n : ℕ) (new old : List A) → length new ≤ n → over new (take n old) ≡ take n (over new old)
 over-take n [] old h = refl
 over-take zero (x ∷ new) old h = absurd (omega arith)
-over-take (suc n) (x ∷ new) [] h = ap (λ z. x ∷ z) (append-nil new ∙ sym (take-all n new (less h)) ∙ ap (take n) (sym (append-nil new)))
-over-take (suc n) (x ∷ new) (y ∷ old) h = ap (λ z. x ∷ z) (over-take n new old (less h))
-
-drop-all : {A : Type 0} (n : ℕ) (l : List A) → length l ≤ n → drop n l ≡ []
-drop-all n [] h = drop-nil n
-drop-all zero (x ∷ l) h = absurd (omega arith)
-drop-all (suc n) (x ∷ l) h = drop-all n l (less h)
+over-take (suc n) (x ∷ new) [] h = ap (λ z. x ∷ z) (append-nil new ∙ sym (take-all n new (le-of-suc-le-suc h)) ∙ ap (take n) (sym (append-nil new)))
+over-take (suc n) (x ∷ new) (y ∷ old) h = ap (λ z. x ∷ z) (over-take n new old (le-of-suc-le-suc h))
 
 -- what is past a write stays
 over-drop : {A : Type 0} (n : ℕ) (new old : List A) → length new ≤ n → drop n (over new old) ≡ drop n old
 over-drop n [] old h = refl
 over-drop zero (x ∷ new) old h = absurd (omega arith)
-over-drop (suc n) (x ∷ new) [] h = ap (drop n) (append-nil new) ∙ drop-all n new (less h)
-over-drop (suc n) (x ∷ new) (y ∷ old) h = over-drop n new old (less h)
+over-drop (suc n) (x ∷ new) [] h = ap (drop n) (append-nil new) ∙ drop-of-length-le new (le-of-suc-le-suc h)
+over-drop (suc n) (x ∷ new) (y ∷ old) h = over-drop n new old (le-of-suc-le-suc h)
 
 -- the same length, and the same past n
 pub record Past {A : Type 0} (n : ℕ) (xs ys : List A) : Type 0 where
@@ -63,35 +53,18 @@ pub past-trans : {A : Type 0} {n : ℕ} {xs ys zs : List A} → Past n xs ys →
 past-trans p q = record { size = p .size ∙ q .size; rest = p .rest ∙ q .rest }
 
 pub past-over : {A : Type 0} (n : ℕ) (new old : List A) → length new ≤ n → n ≤ length old → Past n (over new old) old
-past-over n new old h k = record { size = over-length new old (both (length new) n (length old) h k); rest = over-drop n new old h }
-  where
-    both : (a b c : ℕ) → a ≤ b → b ≤ c → a ≤ c
-    both a b c h k = omega arith
+past-over n new old h k = record { size = over-length new old (le-trans h k); rest = over-drop n new old h }
 
 -- past a smaller number, past a larger one
 pub past-wider : {A : Type 0} (m n : ℕ) (xs ys : List A) → m ≤ n → Past m xs ys → Past n xs ys
 past-wider m n xs ys h p = record { size = p .size; rest = split xs ∙ ap (drop (n - m)) (p .rest) ∙ sym (split ys) }
   where
-    back : (m n : ℕ) → m ≤ n → n ≡ m + (n - m)
-    back m n h = omega arith
-
     split : {A : Type 0} (l : List A) → drop n l ≡ drop (n - m) (drop m l)
-    split l = ap (λ k. drop k l) (back m n h) ∙ sym (drop-drop (n - m) m l)
-
-take-drop : {A : Type 0} (n : ℕ) (l : List A) → take n l ++ drop n l ≡ l
-take-drop zero l = refl
-take-drop (suc n) [] = refl
-take-drop (suc n) (x ∷ l) = ap (λ z. x ∷ z) (take-drop n l)
-
-pub part-length : {A : Type 0} (n : ℕ) (l : List A) → n ≤ length l → length (take n l) ≡ n
-part-length n l h = length-take n l ∙ low n (length l) h
-  where
-    low : (a b : ℕ) → a ≤ b → min a b ≡ a
-    low a b h = omega arith
+    split l = ap (λ k. drop k l) (sym (add-sub-of-le h)) ∙ sym (drop-drop (n - m) m l)
 
 -- a part given back makes the whole, if nothing has changed past it
 over-past : {A : Type 0} (n : ℕ) (xs ys : List A) → n ≤ length ys → Past n xs ys → over (take n xs) ys ≡ xs
-over-past n xs ys h p = ap (λ k. take n xs ++ drop k ys) (part-length n xs (subst (λ k. n ≤ k) (sym (p .size)) h)) ∙ ap (λ l. take n xs ++ l) (sym (p .rest)) ∙ take-drop n xs
+over-past n xs ys h p = ap (λ k. take n xs ++ drop k ys) (length-take-le n xs (subst (λ k. n ≤ k) (sym (p .size)) h)) ∙ ap (λ l. take n xs ++ l) (sym (p .rest)) ∙ take-append-drop n xs
 
 -- ---- all buffers
 -- each length of the first is at most the second's
@@ -104,18 +77,15 @@ pub record Part (n m : Lengths) : Type 0 where
   pub word : n .word ≤ m .word
   pub certificate : n .certificate ≤ m .certificate
 
-both : (a b c : ℕ) → a ≤ b → b ≤ c → a ≤ c
-both a b c h k = omega arith
-
 pub part-trans : (a b c : Lengths) → Part a b → Part b c → Part a c
 part-trans a b c h k = record {
-  spins = both (a .spins) (b .spins) (c .spins) (h .spins) (k .spins);
-  copies = both (a .copies) (b .copies) (c .copies) (h .copies) (k .copies);
-  offsets = both (a .offsets) (b .offsets) (c .offsets) (h .offsets) (k .offsets);
-  multipliers = both (a .multipliers) (b .multipliers) (c .multipliers) (h .multipliers) (k .multipliers);
-  masks = both (a .masks) (b .masks) (c .masks) (h .masks) (k .masks);
-  word = both (a .word) (b .word) (c .word) (h .word) (k .word);
-  certificate = both (a .certificate) (b .certificate) (c .certificate) (h .certificate) (k .certificate);
+  spins = le-trans (h .spins) (k .spins);
+  copies = le-trans (h .copies) (k .copies);
+  offsets = le-trans (h .offsets) (k .offsets);
+  multipliers = le-trans (h .multipliers) (k .multipliers);
+  masks = le-trans (h .masks) (k .masks);
+  word = le-trans (h .word) (k .word);
+  certificate = le-trans (h .certificate) (k .certificate);
 }
 
 pub fits-part : (a b : Lengths) → fits a b ≡ true → Part a b
@@ -150,9 +120,9 @@ lengths-eq : {p p' z z' y y' b b' m m' w w' c c' : ℕ} → p ≡ p' → z ≡ z
 lengths-eq e f g h k l m = λ i. record { spins = e i; copies = f i; offsets = g i; multipliers = h i; masks = k i; word = l i; certificate = m i }
 
 pub lengths-part : (n : Lengths) (b : Buffers) → Part n (lengthsOf b) → lengthsOf (partOf n b) ≡ n
-lengths-part n b h = lengths-eq (part-length (n .spins) (b .spins) (h .spins)) (part-length (n .copies) (b .copies) (h .copies)) (part-length (n .offsets) (b .offsets) (h .offsets))
-    (part-length (n .multipliers) (b .multipliers) (h .multipliers)) (part-length (n .masks) (b .masks) (h .masks)) (part-length (n .word) (b .word) (h .word))
-    (part-length (n .certificate) (b .certificate) (h .certificate))
+lengths-part n b h = lengths-eq (length-take-le (n .spins) (b .spins) (h .spins)) (length-take-le (n .copies) (b .copies) (h .copies)) (length-take-le (n .offsets) (b .offsets) (h .offsets))
+    (length-take-le (n .multipliers) (b .multipliers) (h .multipliers)) (length-take-le (n .masks) (b .masks) (h .masks)) (length-take-le (n .word) (b .word) (h .word))
+    (length-take-le (n .certificate) (b .certificate) (h .certificate))
 
 -- parts handed back as they were
 pub over-same : (n : Lengths) (b : Buffers) → overAll (partOf n b) b ≡ b

@@ -1,21 +1,22 @@
 -- The rounds done after a list: those wanted by its calls not refused, added up, but none beyond the round that ends the run; and the state is that of
 -- one run of them, however they are split. Assumes nothing.
 use mathlib.Core.Path.{_≡_, refl, sym, _∙_, ap, ap₂, subst}
-use mathlib.Core.Bool.{Bool, cond}
+use mathlib.Core.Bool.{cond}
 use mathlib.Core.List.{List, [], _∷_}
 use Prim.Native.Nat.{ℕ, zero, suc, _+_, _≤_}
 use native.Mathlib.Omega.{arith}
+use native.Mathlib.Nat.{zero-add}
 use borrow.Author.Tests.{eq-eqb}
 use lib.IntN.{ℤ}
 use Rattle.rules.specs.Refusal.{Answer, refused, gives, multiplierLarge}
 use Rattle.rules.specs.Table.{Table}
 use Rattle.rules.specs.Buffers.{Buffers}
-use Rattle.rules.specs.Run.{Status, running, certified, spent, Run, moved, next, iterate, answerAt, Called, perform, callOn}
+use Rattle.rules.specs.Run.{Status, running, certified, spent, Run, next, iterate, answerAt, perform, callOn}
 use Rattle.rules.specs.Calls.{Call, wantedBy, wantedIn, startedRun}
 use Rattle.rules.specs.Demand3.{FreshStart}
-use Rattle.rules.proofs.Runs.{coming, ended-stays, iterate-stays, running≢certified, spent≢running, Safe, iterate-safe, safe-moves}
+use Rattle.rules.proofs.Runs.{ended-stays, iterate-stays, running≢certified, spent≢running, Safe, iterate-safe, safe-moves}
 use Rattle.rules.proofs.Lends.{callsOn}
-use Rattle.rules.proofs.Lists.{Reach, reach, takes, callFor, admitsFor, after, taken, list-after}
+use Rattle.rules.proofs.Lists.{count-next, Reach, reach, takes, callFor, admitsFor, after, taken, list-after}
 use Rattle.rules.proofs.Fresh.{started-safe}
 
 -- a safe run that is still running has counted every round that was due
@@ -24,16 +25,13 @@ unfolding iterate
 all-counted t l zero r h e = omega arith
 all-counted t l (suc k) r h e = go (r .progress .status) refl (λ s. all-counted t l k (next t l r) s e)
   where
-    shift : (a b n : ℕ) → a ≡ b + k → b ≡ suc n → a ≡ n + suc k
-    shift a b n p q = omega arith
-
     -- an ended run would have stayed
     still : (s : Status) → (s ≡ running → ⊥) → r .progress .status ≡ s → ⊥
     still s f p = f (sym p ∙ ap (λ z. z .progress .status) (sym (iterate-stays t l (suc k) r (ended-stays t l r (λ q. f (sym p ∙ q))))) ∙ e)
 
     go : (s : Status) → r .progress .status ≡ s → (Safe t (next t l r) → iterate t l (suc k) r .progress .rounds ≡ next t l r .progress .rounds + k)
         → iterate t l (suc k) r .progress .rounds ≡ r .progress .rounds + suc k
-    go running p ih = shift (iterate t l k (next t l r) .progress .rounds) (next t l r .progress .rounds) (r .progress .rounds) (ih (iterate-safe t l 1 r h)) (ap (λ z. z .progress .rounds) (safe-moves t l r h p))
+    go running p ih = count-next (iterate t l k (next t l r) .progress .rounds) (next t l r .progress .rounds) (r .progress .rounds) k (ih (iterate-safe t l 1 r h)) (ap (λ z. z .progress .rounds) (safe-moves t l r h p))
     go certified p ih = absurd (still certified (λ q. running≢certified (sym q)) p)
     go spent p ih = absurd (still spent spent≢running p)
 
@@ -68,10 +66,7 @@ module _ (file : List ℕ) (t : Table) (l : List ℤ) (b : Buffers) (f : FreshSt
   pub list-leaves : after t l xs (startedRun file b) ≡ iterate t l (wantedIn xs (callsOn t l xs (startedRun file b))) (startedRun file b)
   unfolding iterate
   list-leaves = list-after t l (startedRun file b) 0 xs
-      ∙ ap (λ n. iterate t l n (startedRun file b)) (plain (taken t l xs (startedRun file b)) ∙ sym (wanted-taken t l xs (startedRun file b) (started-safe file t b f)))
-    where
-      plain : (n : ℕ) → 0 + n ≡ n
-      plain n = omega arith
+      ∙ ap (λ n. iterate t l n (startedRun file b)) (zero-add (taken t l xs (startedRun file b)) ∙ sym (wanted-taken t l xs (startedRun file b) (started-safe file t b f)))
 
   pub rounds-most : after t l xs (startedRun file b) .progress .rounds ≤ wantedIn xs (callsOn t l xs (startedRun file b))
   rounds-most = subst (λ z. z .progress .rounds ≤ wantedIn xs (callsOn t l xs (startedRun file b))) (sym list-leaves)
@@ -86,7 +81,4 @@ module _ (file : List ℕ) (t : Table) (l : List ℤ) (b : Buffers) (f : FreshSt
   pub rounds-all : after t l xs (startedRun file b) .progress .status ≡ running → after t l xs (startedRun file b) .progress .rounds ≡ wantedIn xs (callsOn t l xs (startedRun file b))
   rounds-all e = ap (λ z. z .progress .rounds) list-leaves
       ∙ all-counted t l (wantedIn xs (callsOn t l xs (startedRun file b))) (startedRun file b) (started-safe file t b f) (ap (λ z. z .progress .status) (sym list-leaves) ∙ e)
-      ∙ plain (wantedIn xs (callsOn t l xs (startedRun file b)))
-    where
-      plain : (n : ℕ) → 0 + n ≡ n
-      plain n = omega arith
+      ∙ zero-add (wantedIn xs (callsOn t l xs (startedRun file b)))

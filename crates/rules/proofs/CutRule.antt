@@ -6,9 +6,10 @@ use mathlib.Core.Logic.{_⊎_, inl, inr, _↔_}
 use mathlib.Core.List.{List, [], _∷_}
 use mathlib.Core.Option.{Option, some, none}
 use Prim.Native.Nat.{ℕ, _*_}
-use lib.IntN.{ℤ, pos, negℤ, _+ℤ_}
+use lib.IntN.{ℤ, pos, negℤ, _+ℤ_, +ℤ-idr}
 use lib.Signed.{_<ℤ_, ltZ}
 use Rattle.integers.specs.Linear.{lin, arithZ, _⩽_, Within, lt-ltZ}
+use Rattle.integers.specs.Order.{le-lt-trans, ltZ-lt}
 use Rattle.integers.specs.Sum.{AllWithin}
 use Rattle.rules.specs.Parity.{_⊕_, side, plus, turns, odd, Alike, left}
 use Rattle.rules.specs.Cut.{cut, keep, violated, method}
@@ -26,9 +27,6 @@ pair-tf u x l r k = simp lin (omega arithZ)
 
 pair-ft : (u : ℕ) (x l r k : ℤ) → k ⩽ l +ℤ r → pos (2 * u) +ℤ k ⩽ ((pos u +ℤ negℤ x) +ℤ l) +ℤ ((pos u +ℤ x) +ℤ r)
 pair-ft u x l r k = simp lin (omega arithZ)
-
-add-zero : (k : ℤ) → k +ℤ pos 0 ≡ k
-add-zero k = simp lin (omega arithZ)
 
 up-from : (k l : ℤ) (u : ℕ) → pos (2 * u) +ℤ k ⩽ l → k ⩽ l
 up-from k l u = simp lin (omega arithZ)
@@ -57,8 +55,14 @@ sum-unlike u (x ∷ ss) [] τ w h k e = absurd h
 sum-unlike u (x ∷ ss) (s ∷ σ) [] w h k e = absurd k
 sum-unlike u (x ∷ ss) (true ∷ σ) (true ∷ τ) w h k e = pair-same u true x (left u σ ss) (left u τ ss) (pos (2 * u)) (w .0) (sum-unlike u ss σ τ (w .1) h k (not-inj (odd σ) (not (odd τ)) e))
 sum-unlike u (x ∷ ss) (false ∷ σ) (false ∷ τ) w h k e = pair-same u false x (left u σ ss) (left u τ ss) (pos (2 * u)) (w .0) (sum-unlike u ss σ τ (w .1) h k e)
-sum-unlike u (x ∷ ss) (true ∷ σ) (false ∷ τ) w h k e = rw (add-zero (pos (2 * u))) at (pair-tf u x (left u σ ss) (left u τ ss) (pos 0) (sum-nonneg u ss σ τ (w .1) h k))
-sum-unlike u (x ∷ ss) (false ∷ σ) (true ∷ τ) w h k e = rw (add-zero (pos (2 * u))) at (pair-ft u x (left u σ ss) (left u τ ss) (pos 0) (sum-nonneg u ss σ τ (w .1) h k))
+sum-unlike u (x ∷ ss) (true ∷ σ) (false ∷ τ) w h k e = rw (+ℤ-idr (pos (2 * u))) at (pair-tf u x (left u σ ss) (left u τ ss) (pos 0) (sum-nonneg u ss σ τ (w .1) h k))
+sum-unlike u (x ∷ ss) (false ∷ σ) (true ∷ τ) w h k e = rw (+ℤ-idr (pos (2 * u))) at (pair-ft u x (left u σ ss) (left u τ ss) (pos 0) (sum-nonneg u ss σ τ (w .1) h k))
+
+-- one member more on the same side in both
+like-more : (u : ℕ) (a : Bool) (x : ℤ) (ss : List ℤ) (σ τ : List Bool) → Within u x → (σ ≡ τ) ⊎ (pos (2 * u) +ℤ pos (2 * u) ⩽ left u σ ss +ℤ left u τ ss)
+    → ((a ∷ σ) ≡ (a ∷ τ)) ⊎ (pos (2 * u) +ℤ pos (2 * u) ⩽ left u (a ∷ σ) (x ∷ ss) +ℤ left u (a ∷ τ) (x ∷ ss))
+like-more u a x ss σ τ w (inl p) = inl (ap (λ l. a ∷ l) p)
+like-more u a x ss σ τ w (inr l) = inr (pair-same u a x (left u σ ss) (left u τ ss) (pos (2 * u) +ℤ pos (2 * u)) w l)
 
 -- of like parity and not the same: they differ in two places
 pub sum-like : (u : ℕ) (ss : List ℤ) (σ τ : List Bool) → AllWithin u ss → Alike σ ss → Alike τ ss → odd σ ≡ odd τ
@@ -68,16 +72,8 @@ sum-like u [] [] (t ∷ τ) w h k e = absurd k
 sum-like u [] (s ∷ σ) τ w h k e = absurd h
 sum-like u (x ∷ ss) [] τ w h k e = absurd h
 sum-like u (x ∷ ss) (s ∷ σ) [] w h k e = absurd k
-sum-like u (x ∷ ss) (true ∷ σ) (true ∷ τ) w h k e = go (sum-like u ss σ τ (w .1) h k (not-inj (odd σ) (odd τ) e))
-  where
-    go : (σ ≡ τ) ⊎ (pos (2 * u) +ℤ pos (2 * u) ⩽ left u σ ss +ℤ left u τ ss) → ((true ∷ σ) ≡ (true ∷ τ)) ⊎ (pos (2 * u) +ℤ pos (2 * u) ⩽ left u (true ∷ σ) (x ∷ ss) +ℤ left u (true ∷ τ) (x ∷ ss))
-    go (inl p) = inl (ap (λ l. true ∷ l) p)
-    go (inr l) = inr (pair-same u true x (left u σ ss) (left u τ ss) (pos (2 * u) +ℤ pos (2 * u)) (w .0) l)
-sum-like u (x ∷ ss) (false ∷ σ) (false ∷ τ) w h k e = go (sum-like u ss σ τ (w .1) h k e)
-  where
-    go : (σ ≡ τ) ⊎ (pos (2 * u) +ℤ pos (2 * u) ⩽ left u σ ss +ℤ left u τ ss) → ((false ∷ σ) ≡ (false ∷ τ)) ⊎ (pos (2 * u) +ℤ pos (2 * u) ⩽ left u (false ∷ σ) (x ∷ ss) +ℤ left u (false ∷ τ) (x ∷ ss))
-    go (inl p) = inl (ap (λ l. false ∷ l) p)
-    go (inr l) = inr (pair-same u false x (left u σ ss) (left u τ ss) (pos (2 * u) +ℤ pos (2 * u)) (w .0) l)
+sum-like u (x ∷ ss) (true ∷ σ) (true ∷ τ) w h k e = like-more u true x ss σ τ (w .0) (sum-like u ss σ τ (w .1) h k (not-inj (odd σ) (odd τ) e))
+sum-like u (x ∷ ss) (false ∷ σ) (false ∷ τ) w h k e = like-more u false x ss σ τ (w .0) (sum-like u ss σ τ (w .1) h k e)
 sum-like u (x ∷ ss) (true ∷ σ) (false ∷ τ) w h k e = inr (pair-tf u x (left u σ ss) (left u τ ss) (pos (2 * u)) (sum-unlike u ss σ τ (w .1) h k (not-sym (odd σ) (odd τ) e)))
 sum-like u (x ∷ ss) (false ∷ σ) (true ∷ τ) w h k e = inr (pair-ft u x (left u σ ss) (left u τ ss) (pos (2 * u)) (sum-unlike u ss σ τ (w .1) h k e))
 
@@ -98,14 +94,8 @@ at-most-one u ss σ τ w p q = go (sum-like u ss σ τ w (p .long) (q .long) (p 
     go (inr l) = absurd (not-both u (left u σ ss) (left u τ ss) (p .under) (q .under) l)
 
 -- ---- the rule
-lt-of : (a b : ℤ) → ltZ a b ≡ true → a <ℤ b
-lt-of a b = simp lin (omega arithZ)
-
-le-lt : (a b c : ℤ) → a ⩽ b → b <ℤ c → a <ℤ c
-le-lt a b c = simp lin (omega arithZ)
-
 violated-cuts : (u : ℕ) (vs : List Bool) (ss : List ℤ) → Alike vs ss → violated u vs ss ≡ true → Cuts u vs ss
-violated-cuts u vs ss h e = record { isOdd = and-both (odd vs) (ltZ (left u vs ss) (pos (2 * u))) e .0; long = h; under = lt-of (left u vs ss) (pos (2 * u)) (and-both (odd vs) (ltZ (left u vs ss) (pos (2 * u))) e .1) }
+violated-cuts u vs ss h e = record { isOdd = and-both (odd vs) (ltZ (left u vs ss) (pos (2 * u))) e .0; long = h; under = ltZ-lt (left u vs ss) (pos (2 * u)) (and-both (odd vs) (ltZ (left u vs ss) (pos (2 * u))) e .1) }
 
 pub cut-sound : (u : ℕ) (ss : List ℤ) (vs : List Bool) → cut u ss ≡ some vs → Cuts u vs ss
 unfolding cut
@@ -123,7 +113,7 @@ cut-finds u ss vs w c = ap₂ (λ a b. keep (a && b) (method u ss)) (m .isOdd) (
     m = method-best u vs ss w (c .long) (c .isOdd)
 
     lt : left u (method u ss) ss <ℤ pos (2 * u)
-    lt = le-lt (left u (method u ss) ss) (left u vs ss) (pos (2 * u)) (m .below) (c .under)
+    lt = le-lt-trans (left u (method u ss) ss) (left u vs ss) (pos (2 * u)) (m .below) (c .under)
 
 -- none exactly if no odd set is violated
 pub cut-none : (u : ℕ) (ss : List ℤ) (vs : List Bool) → AllWithin u ss → cut u ss ≡ none → Cuts u vs ss → ⊥

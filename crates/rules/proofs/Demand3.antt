@@ -1,33 +1,29 @@
 -- Demand 3, proved: the statement is in specs/Demand3. Assumes nothing.
-use mathlib.Core.Path.{_≡_, refl, sym, _∙_, ap, ap₂, subst}
-use mathlib.Core.Bool.{Bool, true, false, cond}
+use mathlib.Core.Path.{_≡_, refl, sym, _∙_, ap, subst}
+use mathlib.Core.Bool.{Bool}
 use mathlib.Core.List.{List, [], _∷_}
 use mathlib.Core.Option.{Option, some, none}
-use Prim.Native.Nat.{ℕ, zero, suc, _+_, _≤_, _<_}
+use Prim.Native.Nat.{ℕ, suc, _+_, _≤_}
 use native.Mathlib.Omega.{arith}
-use lib.Dec.{leb}
-use lib.ListN.{length, take}
+use lib.ListN.{take}
 use lib.IntN.{ℤ}
-use Rattle.rules.specs.Limits.{roundLimit}
-use Rattle.rules.specs.Refusal.{Answer, gives}
-use Rattle.rules.specs.Table.{Table, checksOf}
+use Rattle.rules.specs.Table.{Table}
 use Rattle.rules.specs.Parity.{plus, turns, Codeword}
 use Rattle.rules.specs.Input.{bitsOf}
-use Rattle.rules.specs.Round.{State, Round, round}
-use Rattle.rules.specs.Buffers.{Buffers, lengthsOf}
-use Rattle.rules.specs.Run.{Status, running, certified, spent, Run, bytesOf, overWord, statusAt, moved, stateIn, next, iterate, Called, fresh}
-use Rattle.rules.specs.Calls.{Call, startedRun, wantedIn, Certifies}
+use Rattle.rules.specs.Round.{State, round}
+use Rattle.rules.specs.Buffers.{Buffers}
+use Rattle.rules.specs.Run.{running, certified, Run, bytesOf, overWord, statusAt, moved, stateIn, iterate}
+use Rattle.rules.specs.Calls.{Call, startedRun, wantedIn}
 use Rattle.rules.specs.Demand3.{Best, FreshStart, AllLent, listFrom, CertifiesOn, SamePlace, SamePlaces, Demand3}
-use Rattle.rules.proofs.Basics.{none≢some}
 use Rattle.rules.proofs.Tables.{file-sound}
 use Rattle.rules.proofs.Optimal.{round-best}
 use Rattle.rules.proofs.WrittenPasses.{bits-bytes, bytes-length}
 use Rattle.rules.proofs.BufferLaws.{take-over}
 use Rattle.rules.proofs.RoundSizes.{round-sized}
-use Rattle.rules.proofs.Runs.{coming, iterate-keeps, running≢certified, spent≢certified}
-use Rattle.rules.proofs.Lends.{AllPart, callsOn, lent-list}
+use Rattle.rules.proofs.Runs.{coming, iterate-keeps, running≢certified, uncertified}
+use Rattle.rules.proofs.Lends.{callsOn, lent-list}
 use Rattle.rules.proofs.Twins.{Worded, Twin, iterate-twin, Alike, call-twin}
-use Rattle.rules.proofs.Lists.{callFor, says-status, Stands, Found, found, found-ends, catch}
+use Rattle.rules.proofs.Lists.{callFor, says-status, Stands, found, found-ends, catch}
 use Rattle.rules.proofs.Fresh.{started-twin, all-part}
 
 -- ---- a list in the words of the theory
@@ -49,12 +45,8 @@ record Proved (t : Table) (l : List ℤ) (r : Run) : Type 0 where
 moved-proved : (t : Table) (l : List ℤ) (r : Run) → moved r (coming t l r) .progress .status ≡ certified → Proved t l (moved r (coming t l r))
 moved-proved t l r e = go (coming t l r .word) refl e
   where
-    never : (b : Bool) → cond b spent running ≡ certified → ⊥
-    never true e = spent≢certified e
-    never false e = running≢certified e
-
     go : (o : Option (List Bool)) → coming t l r .word ≡ o → statusAt (suc (r .progress .rounds)) o ≡ certified → Proved t l (moved r (coming t l r))
-    go none p q = absurd (never (leb roundLimit (suc (r .progress .rounds))) q)
+    go none p q = absurd (uncertified (suc (r .progress .rounds)) q)
     go (some w) p q = record {
       made = omega arith;
       from = stateIn t (r .buffers);

@@ -4,19 +4,20 @@ use mathlib.Core.Path.{_≡_, refl, sym, _∙_, ap, ap₂, subst, fun-ext}
 use mathlib.Core.Bool.{Bool, true, false, not}
 use mathlib.Core.Logic.{_⊎_, inl, inr}
 use mathlib.Core.List.{List, [], _∷_}
-use Prim.Native.Nat.{ℕ, zero, suc, _+_, _*_, _≤_, _<_}
+use Prim.Native.Nat.{ℕ, zero, suc, _*_, _≤_, _<_}
 use native.Mathlib.Omega.{arith}
+use native.Mathlib.Nat.{le-of-suc-le-suc, not-suc-le-zero}
 use lib.Dec.{eqb}
 use borrow.Author.Tests.{eqb-true}
-use lib.ListN.{length}
-use lib.IntN.{ℤ, pos, negsuc, negℤ, _+ℤ_, _-ℤ_, _*ℤ_}
+use lib.ListN.{length, getD}
+use lib.IntN.{ℤ, pos, negsuc, negℤ, _+ℤ_, _-ℤ_, _*ℤ_, *ℤ-zero}
 use lib.Signed.{_≤ℤ_, _<ℤ_}
 use Rattle.integers.specs.Linear.{lin, arithZ, _⩽_, Within}
-use Rattle.integers.specs.Order.{le-or-lt}
-use Rattle.integers.specs.Product.{ring, abs, mul-mono}
+use Rattle.integers.specs.Order.{le-or-lt, sub-zero}
+use Rattle.integers.specs.Product.{ring, abs, mul-mono, *ℤ-+ℤ, *ℤ-left-comm}
 use Rattle.integers.specs.Sum.{AllWithin, sumTo, sumTo-add, sumTo-zero, sumTo-times, sumTo-abs, pick, pick-one}
 use Rattle.rules.specs.Table.{at, bit, bitsAt, valuesAt}
-use Rattle.rules.specs.Parity.{turn, side, odd, Alike, left, Keeps, agreement}
+use Rattle.rules.specs.Parity.{turn, side, Alike, left, Keeps, agreement}
 use Rattle.rules.specs.Bound.{Row, gather, weights, pull, price, reduced, bound, gap}
 use Rattle.rules.proofs.CutRule.{sum-unlike}
 use Rattle.rules.proofs.RoundTurns.{Even}
@@ -25,6 +26,11 @@ use Rattle.rules.proofs.RoundTurns.{Even}
 abbrev pub Below : ℕ → List ℕ → Type 0
 Below n [] = Unit {0}
 Below n (m ∷ ms) = (m < n) × Below n ms
+
+pub below-at : (n : ℕ) (ms : List ℕ) (k : ℕ) → k < length ms → Below n ms → getD ms k 0 < n
+below-at n [] k h b = absurd (not-suc-le-zero h)
+below-at n (m ∷ ms) zero h b = b .0
+below-at n (m ∷ ms) (suc k) h b = below-at n ms k (le-of-suc-le-suc h) (b .1)
 
 -- the row's members are bits, its set is as long, and the point keeps its inequality
 pub record Kept (n d : ℕ) (P : ℕ → ℤ) (r : Row) : Type 0 where
@@ -44,21 +50,12 @@ value P (m ∷ ms) (w ∷ ws) = P m *ℤ w +ℤ value P ms ws
 
 pick-times : (b : Bool) (p q w : ℤ) → (b ≡ true → p ≡ q) → p *ℤ pick b w ≡ pick b (q *ℤ w)
 pick-times true p q w e = ap (λ t. t *ℤ w) (e refl)
-pick-times false p q w e = times-zero p
-  where
-    times-zero : (p : ℤ) → p *ℤ pos 0 ≡ pos 0
-    times-zero p = simp ring (omega arithZ)
-
-split : (p a b : ℤ) → p *ℤ (a +ℤ b) ≡ p *ℤ a +ℤ p *ℤ b
-split p a b = simp ring (omega arithZ)
-
-times-zero : (p : ℤ) → p *ℤ pos 0 ≡ pos 0
-times-zero p = simp ring (omega arithZ)
+pick-times false p q w e = *ℤ-zero p
 
 gather-value : (n : ℕ) (P : ℕ → ℤ) (ms : List ℕ) (ws : List ℤ) → Below n ms → sumTo n (λ i. P i *ℤ gather i ms ws) ≡ value P ms ws
-gather-value n P ms [] h = ap (sumTo n) (fun-ext (λ i. times-zero (P i))) ∙ sumTo-zero n
-gather-value n P [] (w ∷ ws) h = ap (sumTo n) (fun-ext (λ i. times-zero (P i))) ∙ sumTo-zero n
-gather-value n P (m ∷ ms) (w ∷ ws) h = ap (sumTo n) (fun-ext (λ i. split (P i) (pick (eqb m i) w) (gather i ms ws) ∙ ap (λ t. t +ℤ P i *ℤ gather i ms ws) (pick-times (eqb m i) (P i) (P m) w (λ e. ap P (sym (eqb-true m i e))))))
+gather-value n P ms [] h = ap (sumTo n) (fun-ext (λ i. *ℤ-zero (P i))) ∙ sumTo-zero n
+gather-value n P [] (w ∷ ws) h = ap (sumTo n) (fun-ext (λ i. *ℤ-zero (P i))) ∙ sumTo-zero n
+gather-value n P (m ∷ ms) (w ∷ ws) h = ap (sumTo n) (fun-ext (λ i. *ℤ-+ℤ (P i) (pick (eqb m i) w) (gather i ms ws) ∙ ap (λ t. t +ℤ P i *ℤ gather i ms ws) (pick-times (eqb m i) (P i) (P m) w (λ e. ap P (sym (eqb-true m i e))))))
     ∙ sumTo-add n (λ i. pick (eqb m i) (P m *ℤ w)) (λ i. P i *ℤ gather i ms ws)
     ∙ ap₂ _+ℤ_ (pick-one n m (P m *ℤ w) (h .0)) (gather-value n P ms ws (h .1))
 
@@ -67,9 +64,6 @@ abbrev sides : List Bool → List ℤ → ℤ
 sides [] ps = pos 0
 sides (t ∷ ts) [] = pos 0
 sides (t ∷ ts) (p ∷ ps) = side t p +ℤ sides ts ps
-
-value-end : (b : ℤ) → pos 0 ≡ b *ℤ pos 0
-value-end b = simp ring (omega arithZ)
 
 value-in : (b p v s : ℤ) → v ≡ b *ℤ s → p *ℤ b +ℤ v ≡ b *ℤ (p +ℤ s)
 value-in b p v s = simp ring (omega arithZ)
@@ -82,7 +76,7 @@ value-step b p true v s h = value-in b p v s h
 value-step b p false v s h = value-out b p v s h
 
 value-is : (b : ℕ) (P : ℕ → ℤ) (ms : List ℕ) (ts : List Bool) → Alike ts ms → value P ms (weights b ts) ≡ pos b *ℤ sides ts (valuesAt P ms)
-value-is b P ms [] h = value-end (pos b)
+value-is b P ms [] h = sym (*ℤ-zero (pos b))
 value-is b P [] (t ∷ ts) h = absurd h
 value-is b P (m ∷ ms) (t ∷ ts) h = value-step (pos b) (P m) t (value P ms (weights b ts)) (sides ts (valuesAt P ms)) (value-is b P ms ts h)
 
@@ -117,12 +111,12 @@ rows-end : (d s : ℤ) → s ≡ pos 0 → negℤ (d *ℤ pos 0) ⩽ s
 rows-end d s = simp ring (omega arithZ)
 
 pub rows-pay : (n d : ℕ) (P : ℕ → ℤ) (rs : List Row) → AllKept n d P rs → negℤ (pos d *ℤ price rs) ⩽ sumTo n (λ i. P i *ℤ pull i rs)
-rows-pay n d P [] h = rows-end (pos d) (sumTo n (λ i. P i *ℤ pos 0)) (ap (sumTo n) (fun-ext (λ i. times-zero (P i))) ∙ sumTo-zero n)
+rows-pay n d P [] h = rows-end (pos d) (sumTo n (λ i. P i *ℤ pos 0)) (ap (sumTo n) (fun-ext (λ i. *ℤ-zero (P i))) ∙ sumTo-zero n)
 rows-pay n d P (r ∷ rs) h = subst (λ v. negℤ (pos d *ℤ price (r ∷ rs)) ⩽ v) (sym apart)
     (rows-step (pos d) (pos (r .multiplier)) (pos (length (r .members)) -ℤ pos 2) (value P (r .members) (weights (r .multiplier) (r .set))) (sumTo n (λ i. P i *ℤ pull i rs)) (price rs) (row-pays n d P r (h .0)) (rows-pay n d P rs (h .1)))
   where
     apart : sumTo n (λ i. P i *ℤ pull i (r ∷ rs)) ≡ value P (r .members) (weights (r .multiplier) (r .set)) +ℤ sumTo n (λ i. P i *ℤ pull i rs)
-    apart = ap (sumTo n) (fun-ext (λ i. split (P i) (gather i (r .members) (weights (r .multiplier) (r .set))) (pull i rs)))
+    apart = ap (sumTo n) (fun-ext (λ i. *ℤ-+ℤ (P i) (gather i (r .members) (weights (r .multiplier) (r .set))) (pull i rs)))
         ∙ sumTo-add n (λ i. P i *ℤ gather i (r .members) (weights (r .multiplier) (r .set))) (λ i. P i *ℤ pull i rs)
         ∙ ap (λ t. t +ℤ sumTo n (λ i. P i *ℤ pull i rs)) (gather-value n P (r .members) (weights (r .multiplier) (r .set)) (h .0 .inside))
 
@@ -168,17 +162,11 @@ cancel k x y h = λ e. go (le-or-lt x y) e
     go (inl p) e = p
     go (inr p) e = absurd (bad k x y h (next x y p) e)
 
-gap-zero : (b a : ℤ) → b -ℤ a ≡ pos 0 → b ≡ a
-gap-zero b a = simp lin (omega arithZ)
-
-regroup : (d k a : ℤ) → d *ℤ (k *ℤ a) ≡ k *ℤ (d *ℤ a)
-regroup d k a = simp ring (omega arithZ)
-
 pub optimal : (n d k : ℕ) (l : List ℤ) (P : ℕ → ℤ) (rs : List Row) (w : List Bool) → 1 ≤ k → ((i : ℕ) → Within d (P i)) → AllKept n d P rs → gap n k l rs w ≡ pos 0
     → sumTo n (λ i. at l i *ℤ P i) ⩽ pos d *ℤ agreement n l w
 unfolding gap
 optimal n d k l P rs w pk box h g = cancel k (sumTo n (λ i. at l i *ℤ P i)) (pos d *ℤ agreement n l w) pk
-    (subst (λ v. pos k *ℤ sumTo n (λ i. at l i *ℤ P i) ⩽ v) (ap (λ t. pos d *ℤ t) (gap-zero (bound n k l rs) (pos k *ℤ agreement n l w) g) ∙ regroup (pos d) (pos k) (agreement n l w))
+    (subst (λ v. pos k *ℤ sumTo n (λ i. at l i *ℤ P i) ⩽ v) (ap (λ t. pos d *ℤ t) (sub-zero (bound n k l rs) (pos k *ℤ agreement n l w) g) ∙ *ℤ-left-comm (pos d) (pos k) (agreement n l w))
     (weak-duality n d k l P rs box h))
 
 -- ---- codewords are points

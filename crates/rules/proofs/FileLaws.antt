@@ -3,6 +3,7 @@ use mathlib.Core.Path.{_≡_, refl, sym, _∙_, ap, ap₂}
 use mathlib.Core.List.{List, [], _∷_, _++_}
 use Prim.Native.Nat.{ℕ, zero, suc, _+_, _*_}
 use native.Mathlib.Omega.{arith}
+use native.Mathlib.Nat.{zero-add, suc-add}
 use lib.ListN.{length}
 use Rattle.rules.specs.Bytes.{u16At}
 use Rattle.rules.specs.Table.{edges}
@@ -20,20 +21,14 @@ numbers-length file a (suc k) = ap suc (numbers-length file (a + 2) k)
 
 numbers-append : (file : List ℕ) (a d k : ℕ) → numbersAt file a (d + k) ≡ numbersAt file a d ++ numbersAt file (a + 2 * d) k
 unfolding numbersAt
-numbers-append file a zero k = ap₂ (numbersAt file) (none a) (left k)
+numbers-append file a zero k = ap₂ (numbersAt file) (none a) (zero-add k)
   where
     none : (a : ℕ) → a ≡ a + 2 * 0
     none a = omega arith
-
-    left : (k : ℕ) → 0 + k ≡ k
-    left k = omega arith
 numbers-append file a (suc d) k =
-    ap (numbersAt file a) (more d k)
+    ap (numbersAt file a) (suc-add d k)
     ∙ ap (λ l. u16At file a ∷ l) (numbers-append file (a + 2) d k ∙ ap (λ b. numbersAt file (a + 2) d ++ numbersAt file b k) (shift a d))
   where
-    more : (d k : ℕ) → suc d + k ≡ suc (d + k)
-    more d k = omega arith
-
     shift : (a d : ℕ) → a + 2 + 2 * d ≡ a + 2 * suc d
     shift a d = omega arith
 

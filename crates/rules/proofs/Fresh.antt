@@ -2,25 +2,26 @@
 use mathlib.Core.Path.{_≡_, refl, sym, _∙_, ap, ap₂, subst}
 use mathlib.Core.Bool.{Bool, true, false, _&&_}
 use mathlib.Core.List.{List, [], _∷_}
-use Prim.Native.Nat.{ℕ, zero, suc, _*_, _≤_, _<_}
+use Prim.Native.Nat.{ℕ, zero, suc, _*_, _≤_}
 use native.Mathlib.Omega.{arith}
 use lib.Dec.{leb}
 use borrow.Author.Tests.{leb-true}
-use lib.ListN.{length, take, replicate, length-replicate}
+use lib.ListN.{length, take, length-replicate}
 use lib.IntN.{ℤ, pos}
+use Rattle.integers.specs.Order.{within-zero}
 use Rattle.integers.specs.Sum.{AllWithin}
-use Rattle.rules.specs.Limits.{unit, roundLimit, offsetPerRound}
-use Rattle.rules.specs.Refusal.{Answer, refused, gives, must, then, bufferShort}
+use Rattle.rules.specs.Limits.{unit, offsetPerRound}
+use Rattle.rules.specs.Refusal.{gives, must, then, bufferShort}
 use Rattle.rules.specs.Table.{Table, edgesOf}
-use Rattle.rules.specs.Parity.{turn, turns}
+use Rattle.rules.specs.Parity.{turns}
 use Rattle.rules.specs.CodeFile.{codeFile}
-use Rattle.rules.specs.Round.{State}
-use Rattle.rules.specs.Buffers.{Buffers, lengthsOf, over, fits}
-use Rattle.rules.specs.Run.{running, certified, Run, stateIn, Started, zeros, startBy, start, fresh}
+use Rattle.rules.specs.Buffers.{Buffers, lengthsOf, over}
+use Rattle.rules.specs.Run.{stateIn, Started, zeros, startBy, start, fresh}
 use Rattle.rules.specs.Calls.{Call, startedRun}
 use Rattle.rules.specs.Demand3.{FreshStart, AllLent}
 use Rattle.rules.proofs.Basics.{and-both}
-use Rattle.rules.proofs.AnswerLaws.{refused≢gives, must-gives, then-of}
+use Rattle.rules.proofs.Signs.{turn-zero}
+use Rattle.rules.proofs.AnswerLaws.{refused≢gives, then-of}
 use Rattle.rules.proofs.BufferLaws.{take-over, over-length, fits-part}
 use Rattle.rules.proofs.RoundTurns.{signs, turnState}
 use Rattle.rules.proofs.Runs.{Safe, running≢certified}
@@ -75,9 +76,9 @@ module _ (file : List ℕ) (t : Table) (b : Buffers) (f : FreshStart file t b) w
       (zero-length (start file (b .copies) (b .offsets) .offsets) (b .offsets) (at-start .offsets) (at-start .room .1))
 
 -- ---- so it is safe
-zeros-within : (m e : ℕ) → AllWithin m (zeros e)
+pub zeros-within : (m e : ℕ) → AllWithin m (zeros e)
 zeros-within m zero = tt
-zeros-within m (suc e) = (record { hi = omega arith; lo = omega arith }, zeros-within m e)
+zeros-within m (suc e) = (within-zero m, zeros-within m e)
 
 pub started-safe : (file : List ℕ) (t : Table) (b : Buffers) → FreshStart file t b → Safe t (startedRun file b)
 started-safe file t b f = record {
@@ -90,11 +91,7 @@ started-safe file t b f = record {
 zeros-turn : (xs : List Bool) (e : ℕ) → zeros e ≡ turns xs (zeros e)
 zeros-turn [] e = refl
 zeros-turn (x ∷ xs) zero = refl
-zeros-turn (x ∷ xs) (suc e) = ap₂ _∷_ (go x) (zeros-turn xs e)
-  where
-    go : (x : Bool) → pos 0 ≡ turn x (pos 0)
-    go true = refl
-    go false = refl
+zeros-turn (x ∷ xs) (suc e) = ap₂ _∷_ (turn-zero x) (zeros-turn xs e)
 
 pub started-twin : (file : List ℕ) (t : Table) (c : List Bool) (a b : Buffers) → FreshStart file t a → FreshStart file t b → Twin t c (startedRun file a) (startedRun file b)
 started-twin file t c a b f g = record {

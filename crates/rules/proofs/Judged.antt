@@ -7,14 +7,16 @@ use mathlib.Core.List.{List, [], _∷_}
 use mathlib.Core.Option.{Option, some, none}
 use Prim.Native.Nat.{ℕ, zero, suc, _*_, _≤_, _<_}
 use native.Mathlib.Omega.{arith}
+use native.Mathlib.Nat.{le-of-suc-le-suc, not-suc-le-zero}
 use lib.Dec.{leb, ltb, eqb}
 use borrow.Author.Tests.{ltb-true, eqb-true}
 use lib.ListN.{length, getD}
 use lib.IntN.{ℤ, pos, negsuc, _-ℤ_, _*ℤ_}
 use lib.Signed.{_<ℤ_}
 use Rattle.integers.specs.Linear.{lin, arithZ, _⩽_}
+use Rattle.integers.specs.Order.{sub-zero}
 use Rattle.rules.specs.Limits.{maxEntries, maxScale, maxMultiplier, frameLimit, certificateLength}
-use Rattle.rules.specs.Refusal.{Answer, gives, must, then, frameLength, frameRange, wordWrong, certificateWrong, scaleRange, entryRange, maskWrong, entryOrder}
+use Rattle.rules.specs.Refusal.{Answer, gives, frameLength, frameRange, wordWrong, certificateWrong, scaleRange, entryRange, maskWrong, entryOrder}
 use Rattle.rules.specs.Table.{Table, checksOf, bitsAt, valuesAt}
 use Rattle.rules.specs.Parity.{odd, Alike, left, Keeps, firstBroken, meets, agreement}
 use Rattle.rules.specs.Mask.{setOf, maskRight}
@@ -26,10 +28,10 @@ use Rattle.rules.specs.Certificate.{Item, membersAt, follows, onItem, on
 use Rattle.rules.specs.Demand3.{Best}
 use Rattle.rules.specs.Judge.{Verdict, breaks, passes, misses, weigh, verdict, judge}
 use Rattle.rules.proofs.Basics.{and-both, none≢some}
-use Rattle.rules.proofs.Signs.{alike-length, length-alike}
+use Rattle.rules.proofs.Signs.{length-alike}
 use Rattle.rules.proofs.Masks.{mask-odd, set-length}
 use Rattle.rules.proofs.AnswerLaws.{must-gives, then-gives, Followed, gives-inj, range-both}
-use Rattle.rules.proofs.Tables.{Sound, file-sound}
+use Rattle.rules.proofs.Tables.{file-sound}
 use Rattle.rules.proofs.Duality.{Below, Kept, AllKept}
 use Rattle.rules.proofs.Optimal.{AllBelow, Implied, gap-nonneg, gap-optimal, isZero-is}
 
@@ -75,9 +77,6 @@ weigh-misses none g h e = go (isZero g) refl e
     go true p e = absurd (misses≢passes (sym e))
     go false p e = (refl, cc, p)
 
-gap-sum : (b a : ℤ) → b -ℤ a ≡ pos 0 → a ≡ b
-gap-sum b a = simp lin (omega arithZ)
-
 sum-gap : (b a : ℤ) → a ≡ b → b -ℤ a ≡ pos 0
 sum-gap b a = simp lin (omega arithZ)
 
@@ -87,7 +86,7 @@ pub verdict-passes⇔ : (t : Table) (s : ℕ) (l : List ℤ) (rs : List Row) (w 
 unfolding verdict gap
 verdict-passes⇔ t s l rs w = (
   λ e. let p = weigh-passes (firstBroken 0 w (t .checks)) (gap (t .bits) s l rs w) e in
-      (none-broken 0 w (t .checks) (p .0), gap-sum (bound (t .bits) s l rs) (pos s *ℤ agreement (t .bits) l w) (p .1)),
+      (none-broken 0 w (t .checks) (p .0), sym (sub-zero (bound (t .bits) s l rs) (pos s *ℤ agreement (t .bits) l w) (p .1))),
   λ p. ap₂ weigh (meets-none 0 w (t .checks) (p .0)) (sum-gap (bound (t .bits) s l rs) (pos s *ℤ agreement (t .bits) l w) (p .1)),
 )
 
@@ -122,15 +121,15 @@ items-placed t p (i ∷ is) a b e =
     ((q .0, r .0), r .1)
 
 pub members-below : (n : ℕ) (cs : List (List ℕ)) (j : ℕ) → j < length cs → AllBelow n cs → Below n (getD cs j [])
-members-below n [] j h b = absurd (omega arith)
+members-below n [] j h b = absurd (not-suc-le-zero h)
 members-below n (ms ∷ cs) zero h b = b .0
-members-below n (ms ∷ cs) (suc j) h b = members-below n cs j (omega arith) (b .1)
+members-below n (ms ∷ cs) (suc j) h b = members-below n cs j (le-of-suc-le-suc h) (b .1)
 
 keeps-at : (d : ℕ) (f : ℕ → ℤ) (cs : List (List ℕ)) (j : ℕ) → j < length cs → Keeps d f cs → (vs : List Bool) → odd vs ≡ true → Alike vs (getD cs j [])
     → pos (2 * d) ⩽ left d vs (valuesAt f (getD cs j []))
-keeps-at d f [] j h k = absurd (omega arith)
+keeps-at d f [] j h k = absurd (not-suc-le-zero h)
 keeps-at d f (ms ∷ cs) zero h k = k .0
-keeps-at d f (ms ∷ cs) (suc j) h k = keeps-at d f cs j (omega arith) (k .1)
+keeps-at d f (ms ∷ cs) (suc j) h k = keeps-at d f cs j (le-of-suc-le-suc h) (k .1)
 
 item-kept : (t : Table) (d : ℕ) (f : ℕ → ℤ) (i : Item) → AllBelow (t .bits) (t .checks) → Keeps d f (t .checks) → Placed t i → Kept (t .bits) d f (rowAt t i)
 item-kept t d f i b k p = record {

@@ -6,6 +6,7 @@ use mathlib.Core.Logic.{_⊎_, inl, inr}
 use mathlib.Core.List.{List, [], _∷_}
 use Prim.Native.Nat.{ℕ, zero, suc, _+_, _-_, _≤_, _<_}
 use native.Mathlib.Omega.{arith}
+use native.Mathlib.Nat.{add-zero, add-assoc, le-step, suc-le-suc-iff, le-of-lt, lt-of-not-le, add-sub-of-le}
 use native.Mathlib.Decide.{decLe}
 use lib.Dec.{eqb}
 use borrow.Author.Tests.{eq-eqb}
@@ -14,10 +15,14 @@ use lib.IntN.{ℤ}
 use Rattle.rules.specs.Refusal.{Answer, refused, gives, multiplierLarge}
 use Rattle.rules.specs.Table.{Table, checksOf}
 use Rattle.rules.specs.Run.{Status, running, certified, spent, Run, bytesOf, moved, next, iterate, admits, answerAt, Called, perform, callOn}
-use Rattle.rules.specs.Calls.{Call, wantedBy, wantedIn, Says, Certifies, here, later}
+use Rattle.rules.specs.Calls.{Call, wantedBy, wantedIn, Certifies, here, later}
 use Rattle.rules.proofs.AnswerLaws.{refused≢gives, gives-inj}
 use Rattle.rules.proofs.Lends.{callsOn}
-use Rattle.rules.proofs.Runs.{coming, next-cases, ended-stays, iterate-stays, iterate-plus, running≢certified, spent≢certified, spent≢running, Safe, iterate-safe, safe-moves}
+use Rattle.rules.proofs.Runs.{coming, next-cases, ended-stays, iterate-stays, iterate-plus, running≢certified, spent≢running}
+
+-- one round more, counted at either end
+pub count-next : (a b n s : ℕ) → a ≡ b + s → b ≡ suc n → a ≡ n + suc s
+count-next a b n s e f = omega arith
 
 -- ---- the rounds counted say where in the iteration the run stands
 pub record Reach (t : Table) (l : List ℤ) (j : ℕ) (r : Run) : Type 0 where
@@ -31,22 +36,13 @@ unfolding iterate
 reach t l zero r = record { steps = 0; within = omega arith; same = refl; counted = omega arith }
 reach t l (suc j) r = go (next-cases t l r) (reach t l j r) (reach t l j (next t l r))
   where
-    wider : (s : ℕ) → s ≤ j → s ≤ suc j
-    wider s h = omega arith
-
-    deeper : (s : ℕ) → s ≤ j → suc s ≤ suc j
-    deeper s h = omega arith
-
-    shift : (a b n s : ℕ) → a ≡ b + s → b ≡ suc n → a ≡ n + suc s
-    shift a b n s e f = omega arith
-
     go : (next t l r ≡ r) ⊎ (next t l r ≡ moved r (coming t l r)) → Reach t l j r → Reach t l j (next t l r) → Reach t l (suc j) r
-    go (inl e) p q = record { steps = p .steps; within = wider (p .steps) (p .within); same = p .same ∙ ap (iterate t l j) (sym e); counted = ap (λ x. iterate t l j x .progress .rounds) e ∙ p .counted }
+    go (inl e) p q = record { steps = p .steps; within = le-step (p .within); same = p .same ∙ ap (iterate t l j) (sym e); counted = ap (λ x. iterate t l j x .progress .rounds) e ∙ p .counted }
     go (inr e) p q = record {
       steps = suc (q .steps);
-      within = deeper (q .steps) (q .within);
+      within = suc-le-suc-iff .1 (q .within);
       same = q .same;
-      counted = shift (iterate t l j (next t l r) .progress .rounds) (next t l r .progress .rounds) (r .progress .rounds) (q .steps) (q .counted) (ap (λ x. x .progress .rounds) e);
+      counted = count-next (iterate t l j (next t l r) .progress .rounds) (next t l r .progress .rounds) (r .progress .rounds) (q .steps) (q .counted) (ap (λ x. x .progress .rounds) e);
     }
 
 -- ---- calls
@@ -54,9 +50,6 @@ reach t l (suc j) r = go (next-cases t l r) (reach t l j r) (reach t l j (next t
 abbrev pub takes : Answer (Unit {0}) → ℕ → ℕ
 takes (refused k) v = 0
 takes (gives u) v = v
-
-plus-zero : (i : ℕ) → i + 0 ≡ i
-plus-zero i = omega arith
 
 abbrev pub callFor : Table → List ℤ → Call → Run → Called
 callFor t l x r = callOn t l (x .wanted) (x .lent) r
@@ -70,7 +63,7 @@ unfolding callOn
 call-extends t l r i x = go (admitsFor t l x (iterate t l i r))
   where
     go : (a : Answer (Unit {0})) → perform t l (x .wanted) (iterate t l i r) a .run ≡ iterate t l (i + takes a (x .wanted)) r
-    go (refused k) = ap (λ n. iterate t l n r) (sym (plus-zero i))
+    go (refused k) = ap (λ n. iterate t l n r) (sym (add-zero i))
     go (gives u) = sym (iterate-plus t l i (x .wanted) r)
 
 -- and so does a list
@@ -83,15 +76,12 @@ taken t l [] r = 0
 taken t l (x ∷ xs) r = takes (admitsFor t l x r) (x .wanted) + taken t l xs (callFor t l x r .run)
 
 pub list-after : (t : Table) (l : List ℤ) (r : Run) (i : ℕ) (xs : List Call) → after t l xs (iterate t l i r) ≡ iterate t l (i + taken t l xs (iterate t l i r)) r
-list-after t l r i [] = ap (λ n. iterate t l n r) (sym (plus-zero i))
+list-after t l r i [] = ap (λ n. iterate t l n r) (sym (add-zero i))
 list-after t l r i (x ∷ xs) = ap (after t l xs) (call-extends t l r i x) ∙ list-after t l r (i + a) xs
-    ∙ ap (λ n. iterate t l n r) (ap (λ z. i + a + taken t l xs z) (sym (call-extends t l r i x)) ∙ assoc i a (taken t l xs (callFor t l x (iterate t l i r) .run)))
+    ∙ ap (λ n. iterate t l n r) (ap (λ z. i + a + taken t l xs z) (sym (call-extends t l r i x)) ∙ add-assoc i a (taken t l xs (callFor t l x (iterate t l i r) .run)))
   where
     a : ℕ
     a = takes (admitsFor t l x (iterate t l i r)) (x .wanted)
-
-    assoc : (i a b : ℕ) → i + a + b ≡ i + (a + b)
-    assoc i a b = omega arith
 
 -- ---- where a list certifies, the iteration is certified
 answer-certified : (s : Status) (a b : ℕ) → answerAt s a b ≡ gives certified → s ≡ certified
@@ -147,19 +137,13 @@ found-ends t l r w k bs z f = subst (Stands t w k bs) (sym exact) (f .stands)
 -- ---- any list whose wants suffice meets that end
 module _ (t : Table) (l : List ℤ) (r : Run) (fresh : r .progress .rounds ≡ 0) (w : List Bool) (m : ℕ) (bs : List ℕ) (ends : Stands t w m bs (iterate t l m r)) where
   split : (k : ℕ) → k ≤ m → iterate t l (m - k) (iterate t l k r) ≡ iterate t l m r
-  split k h = sym (iterate-plus t l k (m - k) r) ∙ ap (λ n. iterate t l n r) (back k h)
-    where
-      back : (k : ℕ) → k ≤ m → k + (m - k) ≡ m
-      back k h = omega arith
+  split k h = sym (iterate-plus t l k (m - k) r) ∙ ap (λ n. iterate t l n r) (add-sub-of-le h)
 
   -- before the end the run has counted every round, and is running
   early-rounds : (k : ℕ) → k < m → iterate t l k r .progress .rounds ≡ k
   early-rounds k h = between (iterate t l k r .progress .rounds) (r .progress .rounds) (q .steps) (p .steps) h (q .within) fresh (q .counted)
-      (sym (ends .took) ∙ ap (λ z. z .progress .rounds) (sym (split k (weaker k h))) ∙ p .counted) (p .within)
+      (sym (ends .took) ∙ ap (λ z. z .progress .rounds) (sym (split k (le-of-lt h))) ∙ p .counted) (p .within)
     where
-      weaker : (k : ℕ) → k < m → k ≤ m
-      weaker k h = omega arith
-
       q : Reach t l k r
       q = reach t l k r
 
@@ -172,15 +156,12 @@ module _ (t : Table) (l : List ℤ) (r : Run) (fresh : r .progress .rounds ≡ 0
   early-running : (k : ℕ) → k < m → iterate t l k r .progress .status ≡ running
   early-running k h = go (iterate t l k r .progress .status) refl
     where
-      weaker : (k : ℕ) → k < m → k ≤ m
-      weaker k h = omega arith
-
       clash : (x : ℕ) → k < m → x ≡ k → x ≡ m → ⊥
       clash x h e f = omega arith
 
       stuck : (iterate t l k r .progress .status ≡ running → ⊥) → ⊥
       stuck f = clash (iterate t l k r .progress .rounds) h (early-rounds k h)
-          (ap (λ z. z .progress .rounds) (sym (iterate-stays t l (m - k) (iterate t l k r) (ended-stays t l (iterate t l k r) f)) ∙ split k (weaker k h)) ∙ ends .took)
+          (ap (λ z. z .progress .rounds) (sym (iterate-stays t l (m - k) (iterate t l k r) (ended-stays t l (iterate t l k r) f)) ∙ split k (le-of-lt h)) ∙ ends .took)
 
       go : (s : Status) → iterate t l k r .progress .status ≡ s → iterate t l k r .progress .status ≡ running
       go running e = e
@@ -189,11 +170,8 @@ module _ (t : Table) (l : List ℤ) (r : Run) (fresh : r .progress .rounds ≡ 0
 
   -- from the end on it stays
   late : (k : ℕ) → m ≤ k → iterate t l k r ≡ iterate t l m r
-  late k h = ap (λ n. iterate t l n r) (sym (back k h)) ∙ iterate-plus t l m (k - m) r
+  late k h = ap (λ n. iterate t l n r) (sym (add-sub-of-le h)) ∙ iterate-plus t l m (k - m) r
       ∙ iterate-stays t l (k - m) (iterate t l m r) (ended-stays t l (iterate t l m r) (λ e. running≢certified (sym e ∙ ends .marked)))
-    where
-      back : (k : ℕ) → m ≤ k → m + (k - m) ≡ k
-      back k h = omega arith
 
   pub catch : (xs : List Call) (k : ℕ) → k < m → m ≤ k + wantedIn xs (callsOn t l xs (iterate t l k r)) → Certifies (t .bits) (checksOf t) w m bs (callsOn t l xs (iterate t l k r))
   unfolding callOn
@@ -221,9 +199,6 @@ module _ (t : Table) (l : List ℤ) (r : Run) (fresh : r .progress .rounds ≡ 0
       onward : (k v n : ℕ) → m ≤ k + (v + n) → m ≤ k + v + n
       onward k v n g = omega arith
 
-      turn : (a b : ℕ) → ¬ (a ≤ b) → b < a
-      turn a b f = omega arith
-
       go : (a : Answer (Unit {0})) → m ≤ k + (wantedBy (perform t l v q a .answer) v + wantedIn xs (callsOn t l xs (perform t l v q a .run)))
           → (m ≤ k + wantedIn xs (callsOn t l xs q) → Certifies (t .bits) (checksOf t) w m bs (callsOn t l xs q))
           → (k + v < m → m ≤ k + v + wantedIn xs (callsOn t l xs (iterate t l (k + v) r)) → Certifies (t .bits) (checksOf t) w m bs (callsOn t l xs (iterate t l (k + v) r)))
@@ -241,10 +216,10 @@ module _ (t : Table) (l : List ℤ) (r : Run) (fresh : r .progress .rounds ≡ 0
             where
               there : q' ≡ iterate t l m r
               there = to ∙ late (k + v) p
-          by-size (no f) = later (subst (λ z. Certifies (t .bits) (checksOf t) w m bs (callsOn t l xs z)) (sym to) (further (turn m (k + v) f)
+          by-size (no f) = later (subst (λ z. Certifies (t .bits) (checksOf t) w m bs (callsOn t l xs z)) (sym to) (further (lt-of-not-le f)
               (onward k v (wantedIn xs (callsOn t l xs (iterate t l (k + v) r))) (subst (λ z. m ≤ k + (v + wantedIn xs (callsOn t l xs z))) to (subst (λ z. m ≤ k + (wantedBy z v + wantedIn xs (callsOn t l xs q'))) still g)))))
             where
               still : answerAt (q' .progress .status) (q' .progress .rounds) (q .progress .rounds + v) ≡ gives running
-              still = ap₂ (λ s n. answerAt s n (q .progress .rounds + v)) (ap (λ z. z .progress .status) to ∙ early-running (k + v) (turn m (k + v) f))
-                  (ap (λ z. z .progress .rounds) to ∙ early-rounds (k + v) (turn m (k + v) f))
+              still = ap₂ (λ s n. answerAt s n (q .progress .rounds + v)) (ap (λ z. z .progress .status) to ∙ early-running (k + v) (lt-of-not-le f))
+                  (ap (λ z. z .progress .rounds) to ∙ early-rounds (k + v) (lt-of-not-le f))
                   ∙ ap (λ b. cond b (gives running) (refused multiplierLarge)) (eq-eqb (k + v) (q .progress .rounds + v) (ap (λ n. n + v) (sym (early-rounds k h))))

@@ -1,30 +1,27 @@
 -- Masks and sets: each is read back from the other, and the count of ones decides oddness. Assumes nothing.
 use mathlib.Core.Path.{_≡_, refl, sym, _∙_, ap, ap₂, subst}
-use mathlib.Core.Bool.{Bool, true, false, not, _&&_}
+use mathlib.Core.Bool.{Bool, true, false, _&&_}
 use mathlib.Core.List.{List, [], _∷_}
 use Prim.Native.Nat.{ℕ, zero, suc, _+_, _*_, _/_, _%_, _^_, _≤_, _<_}
 use native.Mathlib.Omega.{arith}
-use native.Mathlib.Nat.{pow-suc}
+use native.Mathlib.Nat.{pow-succ'}
 use lib.Dec.{eqb, ltb}
 use lib.Count.{ones, ones-step, ones-le}
 use borrow.Author.Tests.{eqb-true, eqb-false, eq-eqb, ne-eqb, lt-ltb, ltb-true}
 use lib.ListN.{length}
-use Rattle.rules.specs.Parity.{_⊕_, odd, Alike}
+use Rattle.rules.specs.Parity.{_⊕_, odd}
 use Rattle.rules.specs.Mask.{digit, maskOf, setOf, maskRight}
 use Rattle.rules.proofs.Basics.{and-both}
 
-two : (n : ℕ) → 2 ^ suc n ≡ 2 * 2 ^ n
-two n = omega (arith, pow-suc 2 n)
-
-digit-low : (v : Bool) (m : ℕ) → (digit v + 2 * m) % 2 ≡ digit v
+pub digit-low : (v : Bool) (m : ℕ) → (digit v + 2 * m) % 2 ≡ digit v
 digit-low true m = omega arith
 digit-low false m = omega arith
 
-digit-half : (v : Bool) (m : ℕ) → (digit v + 2 * m) / 2 ≡ m
+pub digit-half : (v : Bool) (m : ℕ) → (digit v + 2 * m) / 2 ≡ m
 digit-half true m = omega arith
 digit-half false m = omega arith
 
-digit-back : (v : Bool) → eqb (digit v) 1 ≡ v
+pub digit-back : (v : Bool) → eqb (digit v) 1 ≡ v
 digit-back true = refl
 digit-back false = refl
 
@@ -38,7 +35,7 @@ below-step false m k p h e = omega arith
 
 pub mask-below : (ts : List Bool) → maskOf ts < 2 ^ length ts
 mask-below [] = omega arith
-mask-below (t ∷ ts) = below-step t (maskOf ts) (2 ^ suc (length ts)) (2 ^ length ts) (mask-below ts) (two (length ts))
+mask-below (t ∷ ts) = below-step t (maskOf ts) (2 ^ suc (length ts)) (2 ^ length ts) (mask-below ts) (pow-succ' 2 (length ts))
 
 pub set-length : (d mask : ℕ) → length (setOf d mask) ≡ d
 set-length zero mask = refl
@@ -62,7 +59,7 @@ no-ones n h = ne-eqb (n % 2) 1 (λ e. omega arith)
 
 pub odd-ones : (d mask : ℕ) → mask < 2 ^ d → odd (setOf d mask) ≡ eqb (ones mask % 2) 1
 odd-ones zero mask h = sym (no-ones (ones mask) (ones-le 0 mask h))
-odd-ones (suc d) mask h = ap (λ b. eqb (mask % 2) 1 ⊕ b) (odd-ones d (mask / 2) (half-below mask (2 ^ suc d) (2 ^ d) h (two d)))
+odd-ones (suc d) mask h = ap (λ b. eqb (mask % 2) 1 ⊕ b) (odd-ones d (mask / 2) (half-below mask (2 ^ suc d) (2 ^ d) h (pow-succ' 2 d)))
     ∙ sym (ap (λ n. eqb (n % 2) 1) (ones-step mask) ∙ parity-sum (mask % 2) (ones (mask / 2)) (small mask))
   where
     small : (mask : ℕ) → mask % 2 < 2

@@ -2,13 +2,14 @@
 use mathlib.Core.Path.{_≡_, refl, sym, _∙_, ap, ap₂, subst}
 use mathlib.Core.Bool.{Bool, true, false, true≢false, false≢true}
 use mathlib.Core.List.{List, [], _∷_}
-use Prim.Native.Nat.{ℕ, zero, suc, _+_, _*_, _^_, _≤_, _<_}
+use Prim.Native.Nat.{ℕ, suc, _+_, _*_, _^_, _≤_, _<_}
 use native.Mathlib.Omega.{arith}
+use native.Mathlib.Nat.{le-of-suc-le-suc, lt-of-not-le}
 use native.Mathlib.Decide.{decLe}
 use lib.IntN.{ℤ, pos, negℤ, _+ℤ_}
 use lib.Signed.{_<ℤ_, ltZ}
 use Rattle.integers.specs.Linear.{lin, arithZ, _⩽_, Within, lt-ltZ, le-ltZ}
-use Rattle.integers.specs.Order.{neg-mono}
+use Rattle.integers.specs.Order.{neg-mono, le-lt-trans, ltZ-lt}
 use Rattle.integers.specs.Clip.{clipZ, clip-mono, clip-top, clip-bottom}
 use Rattle.integers.specs.Sum.{AllWithin}
 use Rattle.rules.specs.Parity.{side, odd, Alike, left}
@@ -35,11 +36,8 @@ reach-mono u a b [] vs h = record { le = tt }
 reach-mono u a b (t ∷ ts) [] h = record { le = tt }
 reach-mono u a b (t ∷ ts) (v ∷ vs) h = sum-le u (side t (move u a t v)) (side t (move u b t v)) (left u ts (moves u a ts vs)) (left u ts (moves u b ts vs)) (side-mono u a b t v h) (reach-mono u a b ts vs h)
 
-lt-from : (a b : ℤ) (c : ℤ) → a ⩽ b → ltZ b c ≡ true → a <ℤ c
-lt-from a b c = simp lin (omega arithZ)
-
 pub short-mono : (u : ℕ) (ts : List Bool) (vs : List ℤ) (a b : ℕ) → a ≤ b → short u ts vs b ≡ true → short u ts vs a ≡ true
-short-mono u ts vs a b h e = lt-ltZ (left u ts (moves u a ts vs)) (pos (2 * u)) (lt-from (left u ts (moves u a ts vs)) (left u ts (moves u b ts vs)) (pos (2 * u)) (reach-mono u a b ts vs h) e)
+short-mono u ts vs a b h e = lt-ltZ (left u ts (moves u a ts vs)) (pos (2 * u)) (le-lt-trans (left u ts (moves u a ts vs)) (left u ts (moves u b ts vs)) (pos (2 * u)) (reach-mono u a b ts vs h) (ltZ-lt (left u ts (moves u b ts vs)) (pos (2 * u)) e))
 
 -- ---- far out every member is at u
 top-in : (u m b : ℕ) (v : ℤ) → Within m v → u + m ≤ b → pos u ⩽ v +ℤ pos b
@@ -95,28 +93,19 @@ multiplier-least u m ts vs o k w h l = record { meets = t .fails; none-less = λ
     t = last-turns (short u ts vs) 24 0 (lt-ltZ (left u ts (moves u 0 ts vs)) (pos (2 * u)) (subst (λ z. left u ts z <ℤ pos (2 * u)) (sym (moves-zero u ts vs k)) l))
         (far-met u m (0 + 2 ^ 24) ts vs o k w (omega arith))
 
-    past : (r s : ℕ) → ¬ (suc r ≤ s) → s ≤ r
-    past r s f = omega arith
-
     go : Dec (suc (lastWhere (short u ts vs) 24 0) ≤ u + m) → suc (lastWhere (short u ts vs) 24 0) ≤ u + m
     go (yes p) = p
-    go (no f) = absurd (true≢false (sym (t .holds) ∙ far-met u m (lastWhere (short u ts vs) 24 0) ts vs o k w (past (lastWhere (short u ts vs) 24 0) (u + m) f)))
+    go (no f) = absurd (true≢false (sym (t .holds) ∙ far-met u m (lastWhere (short u ts vs) 24 0) ts vs o k w (le-of-suc-le-suc (lt-of-not-le f))))
 
 -- a search of any kind that ends where the test turns has found it
 pub multiplier-unique : (u m : ℕ) (ts : List Bool) (vs : List ℤ) (b : ℕ) → Least u m ts vs → short u ts vs b ≡ true → short u ts vs (suc b) ≡ false → suc b ≡ multiplier u ts vs
 multiplier-unique u m ts vs b h lo hi = go (decLe (suc b) (multiplier u ts vs)) (decLe (multiplier u ts vs) (suc b))
   where
     after : ¬ (suc b ≤ multiplier u ts vs) → ⊥
-    after f = true≢false (sym (short-mono u ts vs (multiplier u ts vs) b (past b (multiplier u ts vs) f) lo) ∙ h .meets)
-      where
-        past : (b n : ℕ) → ¬ (suc b ≤ n) → n ≤ b
-        past b n f = omega arith
+    after f = true≢false (sym (short-mono u ts vs (multiplier u ts vs) b (le-of-suc-le-suc (lt-of-not-le f)) lo) ∙ h .meets)
 
     before : ¬ (multiplier u ts vs ≤ suc b) → ⊥
-    before f = true≢false (sym (h .none-less (suc b) (past b (multiplier u ts vs) f)) ∙ hi)
-      where
-        past : (b n : ℕ) → ¬ (n ≤ suc b) → suc b < n
-        past b n f = omega arith
+    before f = true≢false (sym (h .none-less (suc b) (lt-of-not-le f)) ∙ hi)
 
     go : Dec (suc b ≤ multiplier u ts vs) → Dec (multiplier u ts vs ≤ suc b) → suc b ≡ multiplier u ts vs
     go (yes p) (yes q) = omega arith

@@ -1,26 +1,27 @@
 -- What a bound is worth on a table: it is above every codeword and every point of the relaxation, so a gap is never negative and a gap of 0 is
 -- optimal. Of any rows that the table's own inequalities imply, whoever chose them; the rows of a round are such. Assumes nothing.
-use mathlib.Core.Path.{_≡_, refl, sym, _∙_, ap, subst}
+use mathlib.Core.Path.{_≡_, refl, subst}
 use mathlib.Core.Bool.{Bool, true, false, _&&_, false≢true}
 use mathlib.Core.List.{List, [], _∷_}
 use mathlib.Core.Option.{Option, some, none}
 use Prim.Native.Nat.{ℕ, zero, suc, _≤_}
 use native.Mathlib.Omega.{arith}
 use lib.ListN.{length}
-use lib.IntN.{ℤ, pos, negsuc, _-ℤ_, _*ℤ_}
-use Rattle.integers.specs.Linear.{lin, arithZ, _⩽_, Within}
+use lib.IntN.{ℤ, pos, negsuc, _*ℤ_}
+use Rattle.integers.specs.Linear.{arithZ, _⩽_, Within}
+use Rattle.integers.specs.Order.{sub-nonneg, within-zero}
 use Rattle.integers.specs.Product.{ring}
 use Rattle.integers.specs.Sum.{AllWithin, sumTo}
 use Rattle.rules.specs.Limits.{unit}
-use Rattle.rules.specs.Table.{Table, edges, at}
+use Rattle.rules.specs.Table.{Table, at}
 use Rattle.rules.specs.Parity.{Keeps, Point, pointAgreement, meets, Codeword, agreement}
 use Rattle.rules.specs.Cut.{keep}
 use Rattle.rules.specs.Step.{Entry, inactive, active}
 use Rattle.rules.specs.Bound.{Row, rowsOf, bound, gap}
 use Rattle.rules.specs.Demand3.{Best}
-use Rattle.rules.specs.Round.{State, spin, pass, entriesIn, candidate, isZero, certify, Round, round}
+use Rattle.rules.specs.Round.{State, entriesIn, candidate, isZero, certify, round}
 use Rattle.rules.proofs.Basics.{and-both, none≢some, some-inj}
-use Rattle.rules.proofs.Pass.{Good, pass-laid, rows-good}
+use Rattle.rules.proofs.Pass.{spinsIn, stepsIn, steps-laid, Good, rows-good}
 use Rattle.rules.proofs.RoundTurns.{meets-even}
 use Rattle.rules.proofs.Duality.{Below, AllKept, weak-duality, optimal, spinsOf, spins-within, codeword-keeps, agreement-is}
 
@@ -34,16 +35,13 @@ abbrev pub Implied : Table → List Row → Type 0
 Implied t rs = (d : ℕ) (f : ℕ → ℤ) → Keeps d f (t .checks) → AllKept (t .bits) d f rs
 
 pub within-at : (d : ℕ) (p : List ℤ) → AllWithin d p → (i : ℕ) → Within d (at p i)
-within-at d [] h zero = record { hi = omega arith; lo = omega arith }
-within-at d [] h (suc i) = record { hi = omega arith; lo = omega arith }
+within-at d [] h zero = within-zero d
+within-at d [] h (suc i) = within-zero d
 within-at d (x ∷ p) h zero = h .0
 within-at d (x ∷ p) h (suc i) = within-at d p (h .1) i
 
 one-times : (x y : ℤ) → x ⩽ pos 1 *ℤ y → x ⩽ y
 one-times x y = simp ring (omega arithZ)
-
-diff-nonneg : (a b : ℤ) → a ⩽ b → pos 0 ⩽ b -ℤ a
-diff-nonneg a b = simp lin (omega arithZ)
 
 module _ (t : Table) (s : ℕ) (l : List ℤ) (rs : List Row) (implied : Implied t rs) where
   -- "scale times the point's agreement is at most D times the bound"
@@ -58,7 +56,7 @@ module _ (t : Table) (s : ℕ) (l : List ℤ) (rs : List Row) (implied : Implied
 
   pub gap-nonneg : (w : List Bool) → meets w (t .checks) ≡ true → pos 0 ⩽ gap (t .bits) s l rs w
   unfolding gap
-  gap-nonneg w e = diff-nonneg (pos s *ℤ agreement (t .bits) l w) (bound (t .bits) s l rs) (bound-words w e)
+  gap-nonneg w e = sub-nonneg (pos s *ℤ agreement (t .bits) l w) (bound (t .bits) s l rs) (bound-words w e)
 
   pub gap-optimal : (w : List Bool) → 1 ≤ s → Codeword t w → gap (t .bits) s l rs w ≡ pos 0 → Best t l w
   unfolding pointAgreement
@@ -102,17 +100,11 @@ certify-passed t l rs (some v) w e = subst (Passed t l rs) (k .1) (record { lega
 
 pub round-passed : (t : Table) (l : List ℤ) (s : State) (w : List Bool) → round t l s .word ≡ some w → Passed t l (rowsOf (t .checks) (round t l s .entries)) w
 unfolding round
-round-passed t l s w e = certify-passed t l (rowsOf (t .checks) (entriesIn (pass unit f (t .checks) (s .offsets)))) (candidate (t .bits) f) w e
-  where
-    f : ℕ → ℤ
-    f = spin unit (edges (t .checks)) l s
+round-passed t l s w e = certify-passed t l (rowsOf (t .checks) (entriesIn (stepsIn t l s))) (candidate (t .bits) (spinsIn t l s)) w e
 
 pub round-good : (t : Table) (l : List ℤ) (s : State) → Good (rowsOf (t .checks) (round t l s .entries))
 unfolding round
-round-good t l s = rows-good unit (t .checks) (pass unit f (t .checks) (s .offsets)) (pass-laid unit f (t .checks) (s .offsets))
-  where
-    f : ℕ → ℤ
-    f = spin unit (edges (t .checks)) l s
+round-good t l s = rows-good unit (t .checks) (stepsIn t l s) (steps-laid t l s)
 
 pub round-best : (t : Table) (l : List ℤ) (s : State) (w : List Bool) → AllBelow (t .bits) (t .checks) → length w ≡ t .bits → round t l s .word ≡ some w → Best t l w
 round-best t l s w b size e = gap-optimal t 1 l (rowsOf (t .checks) (round t l s .entries))

@@ -1,18 +1,20 @@
 -- The pass over all checks: each check's step is as long as the check. Assumes nothing.
 use mathlib.Core.Path.{_≡_, refl, sym, _∙_, ap, ap₂}
-use mathlib.Core.Bool.{Bool, true}
+use mathlib.Core.Bool.{true}
 use mathlib.Core.List.{List, [], _∷_, _++_}
 use Prim.Native.Nat.{ℕ, zero, suc, _+_, _^_, _≤_}
-use native.Mathlib.Omega.{arith}
+use native.Mathlib.Nat.{le-add-right}
 use lib.ListN.{length, drop, length-append}
-use lib.IntN.{ℤ, _+ℤ_}
-use Rattle.integers.specs.Linear.{lin, arithZ, Within}
+use lib.IntN.{ℤ}
+use Rattle.integers.specs.Linear.{Within}
+use Rattle.integers.specs.Order.{within-wider, within-add}
 use Rattle.integers.specs.Sum.{AllWithin}
-use Rattle.rules.specs.Table.{edges}
+use Rattle.rules.specs.Limits.{unit}
+use Rattle.rules.specs.Table.{Table, edges}
 use Rattle.rules.specs.Parity.{odd, Alike}
 use Rattle.rules.specs.Step.{Entry, inactive, active, Step, step}
 use Rattle.rules.specs.Bound.{Row, rowsOf}
-use Rattle.rules.specs.Round.{values, pass, copiesIn, offsetsIn, entriesIn}
+use Rattle.rules.specs.Round.{State, spin, values, pass, copiesIn, offsetsIn, entriesIn}
 use Rattle.rules.specs.Run.{multiplierOf}
 use Rattle.rules.proofs.Signs.{alike-sym, alike-trans, alike-length}
 use Rattle.rules.proofs.Steps.{Proper, Shape, step-shape}
@@ -53,6 +55,16 @@ step-laid u f ms ys = record {
 pub pass-laid : (u : ℕ) (f : ℕ → ℤ) (cs : List (List ℕ)) (ys : List ℤ) → AllLaid u cs (pass u f cs ys)
 pass-laid u f [] ys = tt
 pass-laid u f (ms ∷ cs) ys = (step-laid u f ms ys, pass-laid u f cs (drop (length ms) ys))
+
+-- a round's spins, and its steps
+abbrev pub spinsIn : Table → List ℤ → State → ℕ → ℤ
+spinsIn t l s = spin unit (edges (t .checks)) l s
+
+abbrev pub stepsIn : Table → List ℤ → State → List Step
+stepsIn t l s = pass unit (spinsIn t l s) (t .checks) (s .offsets)
+
+pub steps-laid : (t : Table) (l : List ℤ) (s : State) → AllLaid unit (t .checks) (stepsIn t l s)
+steps-laid t l s = pass-laid unit (spinsIn t l s) (t .checks) (s .offsets)
 
 -- ---- lengths
 pub entries-length : (u : ℕ) (cs : List (List ℕ)) (ss : List Step) → AllLaid u cs ss → length (entriesIn ss) ≡ length cs
@@ -106,16 +118,10 @@ copies-within u [] (s ∷ ss) h = absurd h
 copies-within u (ms ∷ cs) [] h = absurd h
 copies-within u (ms ∷ cs) (s ∷ ss) h = append-within u (s .copies) (copiesIn ss) (h .0 .within) (copies-within u cs ss (h .1))
 
-add-within : (a b : ℕ) (x y : ℤ) → Within a x → Within b y → Within (a + b) (x +ℤ y)
-add-within a b x y = simp lin (omega arithZ)
-
-wider : (a b : ℕ) (x : ℤ) → Within a x → Within (a + b) x
-wider a b x = simp lin (omega arithZ)
-
 pub values-within : (u m : ℕ) (f : ℕ → ℤ) (ms : List ℕ) (ys : List ℤ) → ((i : ℕ) → Within u (f i)) → AllWithin m ys → AllWithin (u + m) (values f ms ys)
 values-within u m f [] ys w h = tt
-values-within u m f (i ∷ ms) [] w h = (wider u m (f i) (w i), values-within u m f ms [] w h)
-values-within u m f (i ∷ ms) (y ∷ ys) w h = (add-within u m (f i) y (w i) (h .0), values-within u m f ms ys w (h .1))
+values-within u m f (i ∷ ms) [] w h = (within-wider u (u + m) (f i) (le-add-right u m) (w i), values-within u m f ms [] w h)
+values-within u m f (i ∷ ms) (y ∷ ys) w h = (within-add u m (f i) y (w i) (h .0), values-within u m f ms ys w (h .1))
 
 -- every multiplier is at most n
 abbrev pub AtMost : ℕ → List Entry → Type 0

@@ -1,24 +1,25 @@
 -- How long a round's results are, and so what its writing leaves of each buffer: what is past the stated lengths, and its own state. Assumes nothing.
-use mathlib.Core.Path.{_≡_, refl, sym, _∙_, ap, ap₂, subst}
+use mathlib.Core.Path.{_≡_, refl, sym, _∙_, ap}
 use mathlib.Core.Bool.{Bool, _&&_}
 use mathlib.Core.List.{List, [], _∷_}
 use mathlib.Core.Option.{Option, some, none}
 use Prim.Native.Nat.{ℕ, zero, suc, _+_, _*_, _≤_}
 use native.Mathlib.Omega.{arith}
+use native.Mathlib.Nat.{le-of-eq, le-trans}
 use lib.ListN.{length, take}
 use lib.Seq.{take-take}
 use lib.IntN.{ℤ}
 use Rattle.rules.specs.Limits.{unit, certificateLength}
-use Rattle.rules.specs.Table.{Table, edges, edgesOf, checksOf}
+use Rattle.rules.specs.Table.{Table, edgesOf, checksOf}
 use Rattle.rules.specs.Parity.{meets}
-use Rattle.rules.specs.Step.{Entry, Step}
+use Rattle.rules.specs.Step.{Entry}
 use Rattle.rules.specs.Bound.{Row, rowsOf, gap}
-use Rattle.rules.specs.Round.{State, spin, pass, copiesIn, offsetsIn, entriesIn, bitOf, join, candidate, isZero, certify, firstOf, Round, round}
+use Rattle.rules.specs.Round.{State, entriesIn, bitOf, join, candidate, isZero, certify, firstOf, Round, round}
 use Rattle.rules.specs.Certificate.{cutsIn, certificateOf}
-use Rattle.rules.specs.Buffers.{Buffers, Lengths, lengthsOf, needs, partOf, over}
+use Rattle.rules.specs.Buffers.{Buffers, Lengths, lengthsOf, needs, partOf}
 use Rattle.rules.specs.Run.{multipliersOf, masksOf, bytesOf, overWord, overCertificate, written, stateIn}
 use Rattle.rules.proofs.Basics.{none≢some, some-inj}
-use Rattle.rules.proofs.Pass.{AllLaid, pass-laid, entries-length, copies-length, offsets-length}
+use Rattle.rules.proofs.Pass.{spinsIn, stepsIn, steps-laid, entries-length, copies-length, offsets-length}
 use Rattle.rules.proofs.Optimal.{keep-is}
 use Rattle.rules.proofs.Written.{cuts-few, certificate-length}
 use Rattle.rules.proofs.WrittenPasses.{bytes-length}
@@ -62,37 +63,28 @@ pub record Sized (t : Table) (d : Round) : Type 0 where
 pub round-sized : (t : Table) (l : List ℤ) (s : State) → Sized t (round t l s)
 unfolding round
 round-sized t l s = record {
-  spins = first-length (t .bits) f;
-  copies = copies-length unit (t .checks) ss laid;
-  offsets = offsets-length unit (t .checks) ss laid;
-  multipliers = multipliers-length (entriesIn ss) ∙ many;
-  masks = masks-length (entriesIn ss) ∙ many;
-  word = λ w e. bytes-length w ∙ candidate-length (t .bits) f w (certify-is t l (rowsOf (t .checks) (entriesIn ss)) (candidate (t .bits) f) w e);
-  certificate = room (length (certificateOf (entriesIn ss))) (cutsIn (entriesIn ss)) (length (entriesIn ss)) (checksOf t) (certificate-length (entriesIn ss)) (cuts-few (entriesIn ss)) many;
+  spins = first-length (t .bits) (spinsIn t l s);
+  copies = copies-length unit (t .checks) (stepsIn t l s) (steps-laid t l s);
+  offsets = offsets-length unit (t .checks) (stepsIn t l s) (steps-laid t l s);
+  multipliers = multipliers-length es ∙ many;
+  masks = masks-length es ∙ many;
+  word = λ w e. bytes-length w ∙ candidate-length (t .bits) (spinsIn t l s) w (certify-is t l (rowsOf (t .checks) es) (candidate (t .bits) (spinsIn t l s)) w e);
+  certificate = room (length (certificateOf es)) (cutsIn es) (length es) (checksOf t) (certificate-length es) (cuts-few es) many;
 }
   where
-    f : ℕ → ℤ
-    f = spin unit (edges (t .checks)) l s
+    es : List Entry
+    es = entriesIn (stepsIn t l s)
 
-    ss : List Step
-    ss = pass unit f (t .checks) (s .offsets)
-
-    laid : AllLaid unit (t .checks) ss
-    laid = pass-laid unit f (t .checks) (s .offsets)
-
-    many : length (entriesIn ss) ≡ checksOf t
-    many = entries-length unit (t .checks) ss laid
+    many : length es ≡ checksOf t
+    many = entries-length unit (t .checks) (stepsIn t l s) (steps-laid t l s)
 
     room : (a c n m : ℕ) → a ≡ 4 + 10 * c → c ≤ n → n ≡ m → a ≤ 4 + 10 * m
     room a c n m p q r = omega arith
 
 -- ---- what writing leaves
-eq-le : {a b : ℕ} → a ≡ b → a ≤ b
-eq-le e = omega arith
-
 word-past : (n : ℕ) (o : Option (List Bool)) (old : List ℕ) → ((w : List Bool) → o ≡ some w → length (bytesOf w) ≡ n) → n ≤ length old → Past n (overWord o old) old
 word-past n none old h k = past-refl n old
-word-past n (some w) old h k = past-over n (bytesOf w) old (eq-le (h w refl)) k
+word-past n (some w) old h k = past-over n (bytesOf w) old (le-of-eq (h w refl)) k
 
 certificate-past : (n : ℕ) (o : Option (List Bool)) (es : List Entry) (old : List ℕ) → length (certificateOf es) ≤ n → n ≤ length old → Past n (overCertificate o es old) old
 certificate-past n none es old h k = past-refl n old
@@ -100,11 +92,11 @@ certificate-past n (some w) es old h k = past-over n (certificateOf es) old h k
 
 pub written-past : (t : Table) (d : Round) (b : Buffers) → Sized t d → Part (needs t) (lengthsOf b) → AllPast (needs t) (written d b) b
 written-past t d b s h = record {
-  spins = past-over (t .bits) (d .spins) (b .spins) (eq-le (s .spins)) (h .spins);
-  copies = past-over (edgesOf t) (d .state .copies) (b .copies) (eq-le (s .copies)) (h .copies);
-  offsets = past-over (edgesOf t) (d .state .offsets) (b .offsets) (eq-le (s .offsets)) (h .offsets);
-  multipliers = past-over (checksOf t) (multipliersOf (d .entries)) (b .multipliers) (eq-le (s .multipliers)) (h .multipliers);
-  masks = past-over (checksOf t) (masksOf (d .entries)) (b .masks) (eq-le (s .masks)) (h .masks);
+  spins = past-over (t .bits) (d .spins) (b .spins) (le-of-eq (s .spins)) (h .spins);
+  copies = past-over (edgesOf t) (d .state .copies) (b .copies) (le-of-eq (s .copies)) (h .copies);
+  offsets = past-over (edgesOf t) (d .state .offsets) (b .offsets) (le-of-eq (s .offsets)) (h .offsets);
+  multipliers = past-over (checksOf t) (multipliersOf (d .entries)) (b .multipliers) (le-of-eq (s .multipliers)) (h .multipliers);
+  masks = past-over (checksOf t) (masksOf (d .entries)) (b .masks) (le-of-eq (s .masks)) (h .masks);
   word = word-past (t .bits) (d .word) (b .word) (s .word) (h .word);
   certificate = certificate-past (certificateLength (checksOf t)) (d .word) (d .entries) (b .certificate) (s .certificate) (h .certificate);
 }
@@ -136,10 +128,7 @@ written-part t d n b s h = buffers-eq
     (over-take (n .multipliers) (multipliersOf (d .entries)) (b .multipliers) (upTo (s .multipliers) (h .multipliers)))
     (over-take (n .masks) (masksOf (d .entries)) (b .masks) (upTo (s .masks) (h .masks)))
     (word-part (n .word) (d .word) (b .word) (λ w e. upTo (s .word w e) (h .word)))
-    (certificate-part (n .certificate) (d .word) (d .entries) (b .certificate) (most (length (certificateOf (d .entries))) (certificateLength (checksOf t)) (n .certificate) (s .certificate) (h .certificate)))
+    (certificate-part (n .certificate) (d .word) (d .entries) (b .certificate) (le-trans (s .certificate) (h .certificate)))
   where
     upTo : {a b c : ℕ} → a ≡ b → b ≤ c → a ≤ c
-    upTo e h = omega arith
-
-    most : (a b c : ℕ) → a ≤ b → b ≤ c → a ≤ c
-    most a b c h k = omega arith
+    upTo e h = le-trans (le-of-eq e) h

@@ -1,12 +1,12 @@
 -- A codeword turns a round's spins and its pass over the checks: copies and offsets are turned, multipliers stay, sets are turned. Assumes nothing.
-use mathlib.Core.Path.{_≡_, refl, sym, _∙_, ap, ap₂, subst}
-use mathlib.Core.Bool.{Bool, true, false, not, _&&_, false≢true}
+use mathlib.Core.Path.{_≡_, refl, sym, _∙_, ap, ap₂}
+use mathlib.Core.Bool.{Bool, true, false, not}
 use mathlib.Core.List.{List, [], _∷_, _++_}
-use Prim.Native.Nat.{ℕ, zero, suc}
+use Prim.Native.Nat.{ℕ}
 use lib.Dec.{eqb}
 use borrow.Author.Tests.{eqb-true, not-true}
 use lib.ListN.{length, drop}
-use lib.IntN.{ℤ, pos, _+ℤ_}
+use lib.IntN.{ℤ, _+ℤ_}
 use Rattle.integers.specs.Division.{div-neg}
 use Rattle.integers.specs.Clip.{clipZ}
 use Rattle.integers.specs.Sum.{pick}
@@ -16,9 +16,9 @@ use Rattle.rules.specs.Step.{Entry, Step, minus, step}
 use Rattle.rules.specs.Bound.{gather}
 use Rattle.rules.specs.Round.{State, total, divided, spin, values, pass, copiesIn, offsetsIn, entriesIn}
 use Rattle.rules.proofs.Basics.{and-both}
-use Rattle.rules.proofs.Signs.{turn-sum, turn-zero, at-turns, clip-turn, alike-trans, alike-sym}
+use Rattle.rules.proofs.Signs.{turn-sum, turn-zero, at-turns, clip-turn, alike-trans}
 use Rattle.rules.proofs.Steps.{minus-turn, turnEntry, turnStep, step-turn}
-use Rattle.rules.proofs.Pass.{values-alike, AllLaid, pass-laid}
+use Rattle.rules.proofs.Pass.{values-alike, AllLaid}
 
 -- an even number of ones on each check
 abbrev pub Even : List Bool → List (List ℕ) → Type 0

@@ -7,22 +7,22 @@ use mathlib.Core.List.{List, [], _∷_}
 use mathlib.Core.Option.{Option, some, none}
 use Prim.Native.Nat.{ℕ, zero, suc, _+_, _*_, _^_, _≤_, _<_}
 use native.Mathlib.Omega.{arith}
-use lib.Dec.{leb, ltb, eqb}
+use native.Mathlib.Nat.{zero-add, suc-add, le-trans}
+use lib.Dec.{leb}
 use borrow.Author.Tests.{leb-false, le-leb, le-ltb, lt-ltb}
-use lib.ListN.{length}
 use lib.IntN.{ℤ, natAbs}
 use Rattle.integers.specs.Linear.{Within}
-use Rattle.integers.specs.Product.{natAbs-≤, within}
+use Rattle.integers.specs.Product.{natAbs-≤}
 use Rattle.integers.specs.Clip.{clip-within}
 use Rattle.integers.specs.Sum.{AllWithin}
 use Rattle.rules.specs.Limits.{unit, roundLimit, offsetPerRound, maxMultiplier}
 use Rattle.rules.specs.Table.{Table, edges}
 use Rattle.rules.specs.Input.{eachWithin}
-use Rattle.rules.specs.Step.{Entry, Step}
-use Rattle.rules.specs.Round.{State, spin, pass, copiesIn, offsetsIn, entriesIn, Round, round}
+use Rattle.rules.specs.Step.{Entry}
+use Rattle.rules.specs.Round.{State, spin, offsetsIn, entriesIn, Round, round}
 use Rattle.rules.specs.Buffers.{Buffers, lengthsOf, needs}
-use Rattle.rules.specs.Run.{Status, running, certified, spent, Progress, Run, multiplierOf, statusAt, moved, tooLarge, nextBy, stateIn, next, iterate, isRunning, sound, written}
-use Rattle.rules.proofs.Pass.{pass-laid, copies-within, offsets-within, AtMost, multipliers-within}
+use Rattle.rules.specs.Run.{Status, running, certified, spent, Run, multiplierOf, statusAt, moved, tooLarge, nextBy, stateIn, next, iterate, sound, written}
+use Rattle.rules.proofs.Pass.{spinsIn, stepsIn, steps-laid, copies-within, offsets-within, AtMost, multipliers-within}
 use Rattle.rules.proofs.RoundSizes.{round-sized, state-written, written-past}
 use Rattle.rules.proofs.BufferLaws.{Part, AllPast, all-past-refl, all-past-trans, past-lengths}
 
@@ -67,14 +67,8 @@ iterate-stays t l (suc k) r e = ap (iterate t l k) e ∙ iterate-stays t l k r e
 
 pub iterate-plus : (t : Table) (l : List ℤ) (j k : ℕ) (r : Run) → iterate t l (j + k) r ≡ iterate t l k (iterate t l j r)
 unfolding iterate
-iterate-plus t l zero k r = ap (λ n. iterate t l n r) (zero-plus k)
-  where
-    zero-plus : (k : ℕ) → 0 + k ≡ k
-    zero-plus k = omega arith
-iterate-plus t l (suc j) k r = ap (λ n. iterate t l n r) (suc-plus j k) ∙ iterate-plus t l j k (next t l r)
-  where
-    suc-plus : (j k : ℕ) → suc j + k ≡ suc (j + k)
-    suc-plus j k = omega arith
+iterate-plus t l zero k r = ap (λ n. iterate t l n r) (zero-add k)
+iterate-plus t l (suc j) k r = ap (λ n. iterate t l n r) (suc-add j k) ∙ iterate-plus t l j k (next t l r)
 
 pub running≢certified : running ≡ certified → ⊥
 running≢certified e = let z : _≡_ {A = ℕ} 0 1 = cc in omega arith
@@ -115,6 +109,14 @@ pub spin-within : (u : ℕ) (es : List ℕ) (l : List ℤ) (s : State) (i : ℕ)
 unfolding spin
 spin-within u es l s i = clip-within u _
 
+-- no word, no certificate
+pub uncertified : (k : ℕ) → statusAt k none ≡ certified → ⊥
+uncertified k = go (leb roundLimit k)
+  where
+    go : (b : Bool) → cond b spent running ≡ certified → ⊥
+    go true e = spent≢certified e
+    go false e = running≢certified e
+
 status-early : (k : ℕ) (o : Option (List Bool)) → statusAt k o ≡ running → k < roundLimit
 status-early k none e = go (leb roundLimit k) refl e
   where
@@ -128,12 +130,12 @@ more-rounds k = omega arith
 
 round-copies : (t : Table) (l : List ℤ) (s : State) → AllWithin unit (round t l s .state .copies)
 unfolding round
-round-copies t l s = copies-within unit (t .checks) (pass unit (spin unit (edges (t .checks)) l s) (t .checks) (s .offsets)) (pass-laid unit (spin unit (edges (t .checks)) l s) (t .checks) (s .offsets))
+round-copies t l s = copies-within unit (t .checks) (stepsIn t l s) (steps-laid t l s)
 
 round-offsets : (t : Table) (l : List ℤ) (s : State) (k : ℕ) → AllWithin (offsetPerRound * k) (s .offsets) → AllWithin (offsetPerRound * suc k) (round t l s .state .offsets)
 unfolding round
-round-offsets t l s k h = subst (λ m. AllWithin m (offsetsIn (pass unit (spin unit (edges (t .checks)) l s) (t .checks) (s .offsets)))) (more-rounds k)
-    (offsets-within unit (offsetPerRound * k) (spin unit (edges (t .checks)) l s) (spin-within unit (edges (t .checks)) l s) (t .checks) (s .offsets) h)
+round-offsets t l s k h = subst (λ m. AllWithin m (offsetsIn (stepsIn t l s))) (more-rounds k)
+    (offsets-within unit (offsetPerRound * k) (spinsIn t l s) (spin-within unit (edges (t .checks)) l s) (t .checks) (s .offsets) h)
 
 safe-moved : (t : Table) (l : List ℤ) (r : Run) → Safe t r → Safe t (moved r (coming t l r))
 safe-moved t l r h = record {
@@ -151,15 +153,12 @@ iterate-safe t l k r h = iterate-keeps t l (Safe t) (safe-moved t l) k r h
 -- ---- a multiplier never exceeds 2 · 4,096 + 8,192 · 1,023 = 8,388,608, in a resumed run too
 at-most : (a b : ℕ) (es : List Entry) → a ≤ b → AtMost a es → AtMost b es
 at-most a b [] h k = tt
-at-most a b (e ∷ es) h k = (more (multiplierOf e) h (k .0), at-most a b es h (k .1))
-  where
-    more : (x : ℕ) → a ≤ b → x ≤ a → x ≤ b
-    more x h k = omega arith
+at-most a b (e ∷ es) h k = (le-trans (k .0) h, at-most a b es h (k .1))
 
 pub multipliers-limit : (t : Table) (l : List ℤ) (s : State) (k : ℕ) → k < roundLimit → AllWithin (offsetPerRound * k) (s .offsets) → AtMost 8388608 (round t l s .entries)
 unfolding round
-multipliers-limit t l s k e h = at-most (unit + (unit + offsetPerRound * k)) 8388608 (entriesIn (pass unit (spin unit (edges (t .checks)) l s) (t .checks) (s .offsets))) (low k e)
-    (multipliers-within unit (offsetPerRound * k) (spin unit (edges (t .checks)) l s) (spin-within unit (edges (t .checks)) l s) (t .checks) (s .offsets) h (below k e))
+multipliers-limit t l s k e h = at-most (unit + (unit + offsetPerRound * k)) 8388608 (entriesIn (stepsIn t l s)) (low k e)
+    (multipliers-within unit (offsetPerRound * k) (spinsIn t l s) (spin-within unit (edges (t .checks)) l s) (t .checks) (s .offsets) h (below k e))
   where
     low : (k : ℕ) → k < roundLimit → unit + (unit + offsetPerRound * k) ≤ 8388608
     low k h = omega arith

@@ -6,19 +6,12 @@ use native.Mathlib.Decide.{ℕ-discrete}
 use lib.Dec.{eqb}
 use lib.ListN.{length, set, length-set}
 use lib.Seq.{getD-set-same, getD-set-other}
-use lib.IntN.{ℤ, pos, _+ℤ_}
+use lib.IntN.{ℤ, pos, _+ℤ_, +ℤ-idl, +ℤ-idr, +ℤ-assoc}
 use borrow.Author.Tests.{eq-eqb, ne-eqb}
-use Rattle.integers.specs.Linear.{lin, arithZ}
-use Rattle.integers.specs.Sum.{pick, add-zero}
+use Rattle.integers.specs.Sum.{pick}
 use Rattle.rules.specs.Table.{at}
 use Rattle.rules.specs.Bound.{Row, gather, weights, pull}
 use Rattle.rules.specs.Scatter.{scatter, scatterRow, scatterRows}
-
-add-pick : (a w g : ℤ) → (a +ℤ w) +ℤ g ≡ a +ℤ (w +ℤ g)
-add-pick a w g = simp lin (omega arithZ)
-
-add-none : (a g : ℤ) → a +ℤ g ≡ a +ℤ (pos 0 +ℤ g)
-add-none a g = simp lin (omega arithZ)
 
 pub scatter-length : (ms : List ℕ) (ws ls : List ℤ) → length (scatter ms ws ls) ≡ length ls
 scatter-length ms [] ls = refl
@@ -26,8 +19,8 @@ scatter-length [] (w ∷ ws) ls = refl
 scatter-length (m ∷ ms) (w ∷ ws) ls = scatter-length ms ws (set ls m (at ls m +ℤ w)) ∙ length-set ls m (at ls m +ℤ w)
 
 pub scatter-gather : (ms : List ℕ) (ws ls : List ℤ) (i : ℕ) → i < length ls → at (scatter ms ws ls) i ≡ at ls i +ℤ gather i ms ws
-scatter-gather ms [] ls i h = add-zero (at ls i)
-scatter-gather [] (w ∷ ws) ls i h = add-zero (at ls i)
+scatter-gather ms [] ls i h = sym (+ℤ-idr (at ls i))
+scatter-gather [] (w ∷ ws) ls i h = sym (+ℤ-idr (at ls i))
 scatter-gather (m ∷ ms) (w ∷ ws) ls i h =
     scatter-gather ms ws (set ls m (at ls m +ℤ w)) i (subst (λ n. i < n) (sym (length-set ls m (at ls m +ℤ w))) h) ∙ go (ℕ-discrete m i)
   where
@@ -35,10 +28,10 @@ scatter-gather (m ∷ ms) (w ∷ ws) ls i h =
     go (yes e) =
         ap (λ z. z +ℤ gather i ms ws)
         (ap (at (set ls m (at ls m +ℤ w))) (sym e) ∙ getD-set-same ls m (at ls m +ℤ w) (pos 0) (subst (λ z. z < length ls) (sym e) h) ∙ ap (λ z. at ls z +ℤ w) e)
-        ∙ add-pick (at ls i) w (gather i ms ws) ∙ ap (λ b. at ls i +ℤ (pick b w +ℤ gather i ms ws)) (sym (eq-eqb m i e))
+        ∙ +ℤ-assoc (at ls i) w (gather i ms ws) ∙ ap (λ b. at ls i +ℤ (pick b w +ℤ gather i ms ws)) (sym (eq-eqb m i e))
     go (no f) =
         ap (λ z. z +ℤ gather i ms ws) (getD-set-other ls m i (at ls m +ℤ w) (pos 0) (λ e. f (sym e)))
-        ∙ add-none (at ls i) (gather i ms ws) ∙ ap (λ b. at ls i +ℤ (pick b w +ℤ gather i ms ws)) (sym (ne-eqb m i f))
+        ∙ ap (λ z. at ls i +ℤ z) (sym (+ℤ-idl (gather i ms ws))) ∙ ap (λ b. at ls i +ℤ (pick b w +ℤ gather i ms ws)) (sym (ne-eqb m i f))
 
 -- ---- row after row
 pub rows-length : (rs : List Row) (ls : List ℤ) → length (scatterRows rs ls) ≡ length ls
@@ -46,8 +39,8 @@ rows-length [] ls = refl
 rows-length (r ∷ rs) ls = rows-length rs (scatterRow r ls) ∙ scatter-length (r .members) (weights (r .multiplier) (r .set)) ls
 
 pub rows-pull : (rs : List Row) (ls : List ℤ) (i : ℕ) → i < length ls → at (scatterRows rs ls) i ≡ at ls i +ℤ pull i rs
-rows-pull [] ls i h = add-zero (at ls i)
+rows-pull [] ls i h = sym (+ℤ-idr (at ls i))
 rows-pull (r ∷ rs) ls i h =
     let ws = weights (r .multiplier) (r .set) in
     rows-pull rs (scatterRow r ls) i (subst (λ n. i < n) (sym (scatter-length (r .members) ws ls)) h)
-    ∙ ap (λ z. z +ℤ pull i rs) (scatter-gather (r .members) ws ls i h) ∙ add-pick (at ls i) (gather i (r .members) ws) (pull i rs)
+    ∙ ap (λ z. z +ℤ pull i rs) (scatter-gather (r .members) ws ls i h) ∙ +ℤ-assoc (at ls i) (gather i (r .members) ws) (pull i rs)

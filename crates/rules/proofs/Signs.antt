@@ -1,11 +1,11 @@
 -- Laws of bits and signs: a codeword turns the numbers under its ones, and each set on a check with them. Assumes nothing.
 use mathlib.Core.Path.{_≡_, refl, sym, _∙_, ap, ap₂}
 use mathlib.Core.Bool.{Bool, true, false, not}
-use mathlib.Core.List.{List, [], _∷_, _++_}
+use mathlib.Core.List.{List, [], _∷_}
 use Prim.Native.Nat.{ℕ, zero, suc}
 use native.Mathlib.Omega.{arith}
 use lib.ListN.{length, getD}
-use lib.IntN.{ℤ, pos, negsuc, negℤ, _+ℤ_, _-ℤ_, negℤ-negℤ}
+use lib.IntN.{ℤ, pos, _+ℤ_, _-ℤ_, negℤ-negℤ}
 use Rattle.integers.specs.Linear.{lin, arithZ, Within}
 use Rattle.integers.specs.Sum.{AllWithin}
 use Rattle.integers.specs.Clip.{clipZ, clip-neg}
@@ -34,6 +34,10 @@ pub ⊕-swap : (a b c d : Bool) → (a ⊕ b) ⊕ (c ⊕ d) ≡ (a ⊕ c) ⊕ (b
 pub ⊕-zero : (a : Bool) → a ⊕ false ≡ a
 ⊕-zero true = refl
 ⊕-zero false = refl
+
+pub ⊕-true : (a : Bool) → a ⊕ true ≡ not a
+⊕-true true = refl
+⊕-true false = refl
 
 pub ⊕-twice : (a b : Bool) → a ⊕ (a ⊕ b) ≡ b
 ⊕-twice true true = refl

@@ -1,20 +1,20 @@
 -- One check's step: its lengths and limits, and how a codeword turns it. Assumes nothing.
-use mathlib.Core.Path.{_≡_, refl, sym, _∙_, ap, ap₂, subst, fun-ext}
+use mathlib.Core.Path.{_≡_, refl, _∙_, ap, ap₂, fun-ext}
 use mathlib.Core.Bool.{Bool, true, false}
 use mathlib.Core.List.{List, [], _∷_}
 use mathlib.Core.Option.{Option, some, none}
 use Prim.Native.Nat.{ℕ, suc, _+_, _*_, _^_, _≤_}
 use native.Mathlib.Omega.{arith}
-use lib.IntN.{ℤ, pos, _+ℤ_, _-ℤ_}
+use lib.IntN.{ℤ, pos, _+ℤ_}
 use lib.Signed.{ltZ}
-use Rattle.integers.specs.Linear.{lin, arithZ, Within}
+use Rattle.integers.specs.Order.{within-sub}
 use Rattle.integers.specs.Clip.{clipZ, clip-within}
 use Rattle.integers.specs.Sum.{AllWithin}
 use Rattle.rules.specs.Parity.{_⊕_, turn, side, plus, turns, odd, Alike, left}
 use Rattle.rules.specs.Cut.{cut}
 use Rattle.rules.specs.Step.{clips, move, moves, short, lastWhere, multiplier, Entry, inactive, active, Step, minus, settle, stepBy, step}
 use Rattle.rules.specs.Run.{multiplierOf}
-use Rattle.rules.proofs.Signs.{turn-sum, turn-diff, turn-side, clip-turn, left-turn, alike-refl, alike-sym, alike-trans}
+use Rattle.rules.proofs.Signs.{turn-sum, turn-diff, turn-side, clip-turn, left-turn, alike-sym, alike-trans}
 use Rattle.rules.proofs.CutRule.{cut-sound, cut-turns, plusO}
 use Rattle.rules.proofs.Multiplier.{multiplier-least}
 
@@ -64,13 +64,10 @@ minus-alike [] (z ∷ zs) h = absurd h
 minus-alike (v ∷ vs) [] h = absurd h
 minus-alike (v ∷ vs) (z ∷ zs) h = minus-alike vs zs h
 
-sub-within : (a b : ℕ) (x y : ℤ) → Within a x → Within b y → Within (a + b) (x -ℤ y)
-sub-within a b x y = simp lin (omega arithZ)
-
 pub minus-within : (a b : ℕ) (vs zs : List ℤ) → AllWithin a vs → AllWithin b zs → AllWithin (a + b) (minus vs zs)
 minus-within a b [] zs h k = tt
 minus-within a b (v ∷ vs) [] h k = tt
-minus-within a b (v ∷ vs) (z ∷ zs) h k = (sub-within a b v z (h .0) (k .0), minus-within a b vs zs (h .1) (k .1))
+minus-within a b (v ∷ vs) (z ∷ zs) h k = (within-sub a b v z (h .0) (k .0), minus-within a b vs zs (h .1) (k .1))
 
 -- the cut that a check has is as long as the check
 cut-long : (u : ℕ) (vs : List ℤ) (ts : List Bool) → cut u (clips u vs) ≡ some ts → Alike ts vs

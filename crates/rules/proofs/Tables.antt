@@ -1,14 +1,16 @@
 -- What holds of the table of an accepted code file (document 01, "Code file"). Assumes nothing.
-use mathlib.Core.Path.{_≡_, refl, _∙_, ap, subst}
+use mathlib.Core.Path.{_≡_, refl, subst}
 use mathlib.Core.Bool.{Bool, true, false, _&&_}
 use mathlib.Core.List.{List, [], _∷_}
 use Prim.Native.Nat.{ℕ, zero, suc, _+_, _*_, _≤_, _<_}
 use native.Mathlib.Omega.{arith}
+use native.Mathlib.Nat.{le-of-suc-le-suc, not-suc-le-zero}
 use lib.Dec.{leb, ltb, eqb}
-use lib.ListN.{length}
+use lib.ListN.{length, getD}
 use borrow.Author.Tests.{ltb-true, leb-true, eqb-true, eqb-false}
+use Rattle.integers.specs.Count.{none-left, after-first, before-end}
 use Rattle.rules.specs.Limits.{maxBits, maxChecks, minDegree, maxDegree, maxEdges, maxBitDegree, contentsEnd, fileLength}
-use Rattle.rules.specs.Refusal.{Answer, gives, must, headerShort, sizeRange, countRange, startWrong, lengthWrong, memberWrong, bitDegree}
+use Rattle.rules.specs.Refusal.{gives, headerShort, sizeRange, countRange, startWrong, lengthWrong, memberWrong, bitDegree}
 use Rattle.rules.specs.Bytes.{u16At}
 use Rattle.rules.specs.Table.{Table, edges, edgesOf, checksOf, degreeOf}
 use Rattle.rules.specs.CodeFile.{Content, inRange, contents, countsRight, startsRight, totalCount, numbersAt, bodies, ascends, membersRight, bitsRight, tableAt, fileOf, codeFile}
@@ -29,6 +31,11 @@ AllAscending (ms ∷ cs) = Ascending 0 ms × AllAscending cs
 abbrev pub Degrees : List (List ℕ) → Type 0
 Degrees [] = Unit {0}
 Degrees (ms ∷ cs) = ((minDegree ≤ length ms) × (length ms ≤ maxDegree)) × Degrees cs
+
+pub degree-at : (cs : List (List ℕ)) (j : ℕ) → j < length cs → Degrees cs → (minDegree ≤ length (getD cs j [])) × (length (getD cs j []) ≤ maxDegree)
+degree-at [] j h d = absurd (not-suc-le-zero h)
+degree-at (ms ∷ cs) zero h d = d .0
+degree-at (ms ∷ cs) (suc j) h d = degree-at cs j (le-of-suc-le-suc h) (d .1)
 
 pub record Sound (t : Table) : Type 0 where
   pub bits : (1 ≤ t .bits) × (t .bits ≤ maxBits)
@@ -97,25 +104,16 @@ counts-degrees file a (e ∷ es) h =
     sized : (k l : ℕ) → l ≡ k → (minDegree ≤ k) × (k ≤ maxDegree) → (minDegree ≤ l) × (l ≤ maxDegree)
     sized k l e h = (omega arith, omega arith)
 
-none-left : (i j : ℕ) → i ≤ j → j < i + 0 → ⊥
-none-left i j p q = omega arith
-
-later : (i j : ℕ) → i ≤ j → (i ≡ j → ⊥) → i + 1 ≤ j
-later i j p q = omega arith
-
-sooner : (i j k : ℕ) → j < i + suc k → j < i + 1 + k
-sooner i j k q = omega arith
-
 pub bits-at : (f : ℕ → ℕ) (i k : ℕ) → bitsRight f i k ≡ true → (j : ℕ) → i ≤ j → j < i + k → (1 ≤ f j) × (f j ≤ maxBitDegree)
 unfolding bitsRight
 bits-at f i zero h j p q = absurd (none-left i j p q)
 bits-at f i (suc k) h j p q =
     let r = and-both (inRange 1 maxBitDegree (f i)) (bitsRight f (i + 1) k) h in
-    go (eqb i j) refl (range-both 1 maxBitDegree (f i) (r .0)) (λ s. bits-at f (i + 1) k (r .1) j s (sooner i j k q))
+    go (eqb i j) refl (range-both 1 maxBitDegree (f i) (r .0)) (λ s. bits-at f (i + 1) k (r .1) j s (before-end i j k q))
   where
     go : (b : Bool) → eqb i j ≡ b → (1 ≤ f i) × (f i ≤ maxBitDegree) → (i + 1 ≤ j → (1 ≤ f j) × (f j ≤ maxBitDegree)) → (1 ≤ f j) × (f j ≤ maxBitDegree)
     go true e here rest = subst (λ (x : ℕ). (1 ≤ f x) × (f x ≤ maxBitDegree)) (eqb-true i j e) here
-    go false e here rest = rest (later i j p (eqb-false i j e))
+    go false e here rest = rest (after-first i j p (eqb-false i j e))
 
 -- ---- the law
 table-sound : (file : List ℕ) (n m : ℕ) → Passed file n m → Sound (tableAt file n m)

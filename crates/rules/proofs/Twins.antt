@@ -4,7 +4,6 @@ use mathlib.Core.Bool.{Bool, true, false, cond, _&&_, _||_}
 use mathlib.Core.List.{List, [], _∷_}
 use mathlib.Core.Option.{Option, some, none}
 use Prim.Native.Nat.{ℕ, zero, suc, _+_, _*_, _≤_}
-use native.Mathlib.Omega.{arith}
 use lib.Dec.{leb, ltb, eqb}
 use lib.ListN.{length, take}
 use lib.IntN.{ℤ, natAbs}
@@ -16,16 +15,15 @@ use Rattle.rules.specs.Parity.{turn, plus, turns, Codeword}
 use Rattle.rules.specs.Input.{eachWithin, onFrame}
 use Rattle.rules.specs.Step.{Entry, inactive, active}
 use Rattle.rules.specs.Round.{State, Round, round}
-use Rattle.rules.specs.Buffers.{Buffers, Lengths, needs, fits}
-use Rattle.rules.specs.Run.{Status, running, certified, spent, Progress, Run, multiplierOf, multipliersOf, bytesOf, overWord, written, statusAt, moved, tooLarge, nextBy, stateIn, next, iterate, isRunning, sound, admits, answerAt, Called, perform, callOn}
-use Rattle.rules.specs.Calls.{Call}
+use Rattle.rules.specs.Buffers.{Lengths, needs, fits}
+use Rattle.rules.specs.Run.{Status, running, certified, spent, Progress, Run, multiplierOf, multipliersOf, bytesOf, overWord, statusAt, moved, tooLarge, nextBy, stateIn, next, iterate, isRunning, sound, admits, answerAt, Called, perform, callOn}
 use Rattle.rules.proofs.CutRule.{plusO}
 use Rattle.rules.proofs.Steps.{turnEntry}
 use Rattle.rules.proofs.RoundTurns.{signs, turnState, turnEntries}
 use Rattle.rules.proofs.WordTurns.{turnRound, round-turns}
 use Rattle.rules.proofs.BufferLaws.{take-over}
 use Rattle.rules.proofs.RoundSizes.{Sized, round-sized, state-written}
-use Rattle.rules.proofs.Runs.{coming, running≢certified, spent≢certified}
+use Rattle.rules.proofs.Runs.{coming, uncertified}
 
 -- a word in the one buffer, and that word plus c in the other
 pub record Worded (n : ℕ) (c : List Bool) (x y : List ℕ) : Type 0 where
@@ -58,16 +56,9 @@ status-turn : (c : List Bool) (k : ℕ) (o : Option (List Bool)) → statusAt k 
 status-turn c k none = refl
 status-turn c k (some w) = refl
 
-not-yet : (k : ℕ) → statusAt k none ≡ certified → ⊥
-not-yet k = go (leb roundLimit k)
-  where
-    go : (b : Bool) → cond b spent running ≡ certified → ⊥
-    go true e = spent≢certified e
-    go false e = running≢certified e
-
 words-turn : (n k : ℕ) (c : List Bool) (o : Option (List Bool)) (x y : List ℕ) → ((w : List Bool) → o ≡ some w → length (bytesOf w) ≡ n) → ((w : List Bool) → plusO c o ≡ some w → length (bytesOf w) ≡ n)
     → statusAt k o ≡ certified → Worded n c (overWord o x) (overWord (plusO c o) y)
-words-turn n k c none x y h g e = absurd (not-yet k e)
+words-turn n k c none x y h g e = absurd (uncertified k e)
 words-turn n k c (some w) x y h g e = record { word = w; here = take-over n (bytesOf w) x (h w refl); there = take-over n (bytesOf (plus c w)) y (g (plus c w) refl) }
 
 progress-eq : {a b : ℕ} {s t : Status} → a ≡ b → s ≡ t → _≡_ {A = Progress} (record { rounds = a; status = s }) (record { rounds = b; status = t })

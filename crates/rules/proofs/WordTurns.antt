@@ -1,5 +1,5 @@
 -- A codeword turns the candidate, leaves the checks met, the bound and the gap, and so turns the whole round. Assumes nothing.
-use mathlib.Core.Path.{_≡_, refl, sym, _∙_, ap, ap₂, subst, fun-ext}
+use mathlib.Core.Path.{_≡_, refl, _∙_, ap, ap₂, subst, fun-ext}
 use mathlib.Core.Bool.{Bool, true, false, not, _&&_}
 use mathlib.Core.List.{List, [], _∷_}
 use mathlib.Core.Option.{Option, some, none}
@@ -9,15 +9,15 @@ use lib.IntN.{ℤ, pos, negsuc, _+ℤ_, _-ℤ_, _*ℤ_}
 use Rattle.integers.specs.Product.{abs, abs-neg, *ℤ-negℤ}
 use Rattle.integers.specs.Sum.{sumTo}
 use Rattle.rules.specs.Limits.{unit}
-use Rattle.rules.specs.Table.{Table, edges, at, bit, bitsAt}
+use Rattle.rules.specs.Table.{Table, at, bit, bitsAt}
 use Rattle.rules.specs.Parity.{_⊕_, turn, plus, turns, odd, Alike, meets, Codeword, agreement}
 use Rattle.rules.specs.Cut.{keep}
-use Rattle.rules.specs.Step.{Entry, inactive, active, Step}
+use Rattle.rules.specs.Step.{Entry, inactive, active}
 use Rattle.rules.specs.Bound.{Row, gather, rowsOf, weights, pull, price, reduced, bound, gap}
-use Rattle.rules.specs.Round.{State, spin, pass, copiesIn, offsetsIn, entriesIn, bitOf, join, candidate, isZero, certify, firstOf, Round, roundBy, round}
+use Rattle.rules.specs.Round.{State, pass, entriesIn, bitOf, join, candidate, isZero, certify, firstOf, Round, roundBy, round}
 use Rattle.rules.proofs.Signs.{turn-sum, turn-zero, turn-turn, turn-side, at-turns, bit-plus, odd-plus, alike-sym, alike-trans}
 use Rattle.rules.proofs.CutRule.{plusO}
-use Rattle.rules.proofs.Pass.{Good, AllLaid, pass-laid, rows-good}
+use Rattle.rules.proofs.Pass.{spinsIn, stepsIn, steps-laid, Good, rows-good}
 use Rattle.rules.proofs.RoundTurns.{Even, meets-even, signs, turnState, bitsAt-alike, gather-turn, spin-turn, turnSteps, pass-turn, copies-turn, offsets-turn, turnEntries, entries-turn}
 
 -- ---- the candidate
@@ -141,29 +141,26 @@ pub round-turns : (t : Table) (c : List Bool) (l : List ℤ) (s : State) → Cod
 unfolding round
 round-turns t c l s k = ap (roundBy t (turns c l) g) steps ∙ round-eq
     (first-turns (t .bits) c f g (k .size) fg)
-    (copies-turn unit c (t .checks) ss laid)
-    (offsets-turn unit c (t .checks) ss laid)
-    (entries-turn c (t .checks) ss)
-    (ap₂ (certify t (turns c l)) (ap (rowsOf (t .checks)) (entries-turn c (t .checks) ss) ∙ rows-turn c (t .checks) (entriesIn ss)) (candidate-turns (t .bits) c f g (k .size) fg)
-    ∙ certify-turns t c l (rowsOf (t .checks) (entriesIn ss)) (candidate (t .bits) f) even (rows-good unit (t .checks) ss laid))
+    (copies-turn unit c (t .checks) (stepsIn t l s) (steps-laid t l s))
+    (offsets-turn unit c (t .checks) (stepsIn t l s) (steps-laid t l s))
+    (entries-turn c (t .checks) (stepsIn t l s))
+    (ap₂ (certify t (turns c l)) (ap (rowsOf (t .checks)) (entries-turn c (t .checks) (stepsIn t l s)) ∙ rows-turn c (t .checks) es) (candidate-turns (t .bits) c f g (k .size) fg)
+    ∙ certify-turns t c l (rowsOf (t .checks) es) (candidate (t .bits) f) even (rows-good unit (t .checks) (stepsIn t l s) (steps-laid t l s)))
   where
     f : ℕ → ℤ
-    f = spin unit (edges (t .checks)) l s
+    f = spinsIn t l s
 
     g : ℕ → ℤ
-    g = spin unit (edges (t .checks)) (turns c l) (turnState c (t .checks) s)
+    g = spinsIn t (turns c l) (turnState c (t .checks) s)
+
+    es : List Entry
+    es = entriesIn (stepsIn t l s)
 
     fg : (i : ℕ) → g i ≡ turn (bit c i) (f i)
     fg = spin-turn unit c (t .checks) l s
 
-    ss : List Step
-    ss = pass unit f (t .checks) (s .offsets)
-
-    laid : AllLaid unit (t .checks) ss
-    laid = pass-laid unit f (t .checks) (s .offsets)
-
     even : Even c (t .checks)
     even = meets-even c (t .checks) (k .even)
 
-    steps : pass unit g (t .checks) (turns (signs c (t .checks)) (s .offsets)) ≡ turnSteps c (t .checks) ss
+    steps : pass unit g (t .checks) (turns (signs c (t .checks)) (s .offsets)) ≡ turnSteps c (t .checks) (stepsIn t l s)
     steps = pass-turn unit c f g fg (t .checks) (s .offsets) even

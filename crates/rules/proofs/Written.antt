@@ -1,30 +1,24 @@
 -- A certificate's bytes read back: what a round writes is, item by item, what the round has. Assumes nothing.
 use mathlib.Core.Path.{_≡_, refl, sym, _∙_, ap, ap₂}
-use mathlib.Core.Bool.{Bool}
-use mathlib.Core.List.{List, [], _∷_, _++_}
+use mathlib.Core.List.{List, [], _∷_, _++_, append-nil}
 use Prim.Native.Nat.{ℕ, zero, suc, _+_, _*_, _/_, _%_, _≤_, _<_}
 use native.Mathlib.Omega.{arith}
+use native.Mathlib.Nat.{add-zero, le-step, suc-le-suc-iff}
 use lib.ListN.{length, getD, drop, length-append}
 use lib.Seq.{getD-drop, drop-drop, drop-append-seam}
-use Rattle.rules.specs.Bytes.{u16At, u32At, le16, le32}
+use Rattle.integers.specs.Count.{first-in}
+use Rattle.rules.specs.Bytes.{u16At, u32At, le16}
 use Rattle.rules.specs.Limits.{certificateLength}
 use Rattle.rules.specs.Mask.{maskOf}
 use Rattle.rules.specs.Step.{Entry, inactive, active}
-use Rattle.rules.specs.Certificate.{cutsIn, contentBytes, bodyBytes, certificateOf, Item, itemAt, itemsAt, entriesOf, scaleOf, itemsOf}
+use Rattle.rules.specs.Certificate.{cutsIn, contentBytes, bodyBytes, certificateOf, Item, itemsAt, entriesOf, scaleOf, itemsOf}
 use Rattle.rules.specs.Run.{multiplierOf, maskIn}
-use Rattle.rules.proofs.Basics.{append-nil}
 
 -- ---- how long it is
 pub cuts-few : (es : List Entry) → cutsIn es ≤ length es
 cuts-few [] = omega arith
-cuts-few (inactive ∷ es) = more (cutsIn es) (length es) (cuts-few es)
-  where
-    more : (a b : ℕ) → a ≤ b → a ≤ suc b
-    more a b h = omega arith
-cuts-few (active b ts ∷ es) = more (cutsIn es) (length es) (cuts-few es)
-  where
-    more : (a b : ℕ) → a ≤ b → suc a ≤ suc b
-    more a b h = omega arith
+cuts-few (inactive ∷ es) = le-step (cuts-few es)
+cuts-few (active b ts ∷ es) = suc-le-suc-iff .1 (cuts-few es)
 
 six : (n : ℕ) → suc (suc (suc (suc (suc (suc (6 * n)))))) ≡ 6 * suc n
 six n = omega arith
@@ -67,10 +61,7 @@ scale-written es = refl
 -- ---- its items, read from where they stand
 reads16 : (bs : List ℕ) (a : ℕ) → u16At bs a ≡ u16At (drop a bs) 0
 unfolding u16At
-reads16 bs a = sym (ap₂ (λ x y. x + 256 * y) (getD-drop a bs 0 0 ∙ ap (λ n. getD bs n 0) (plain a)) (getD-drop a bs 1 0))
-  where
-    plain : (a : ℕ) → a + 0 ≡ a
-    plain a = omega arith
+reads16 bs a = sym (ap₂ (λ x y. x + 256 * y) (getD-drop a bs 0 0 ∙ ap (λ n. getD bs n 0) (add-zero a)) (getD-drop a bs 1 0))
 
 -- the 32-bit number at the front
 front32 : List ℕ → ℕ
@@ -118,14 +109,11 @@ Narrow (e ∷ es) = (multiplierOf e < 4294967296) × (maskIn e < 4294967296) × 
 shift : (j n : ℕ) → j + suc n ≤ 65536 → suc j + n ≤ 65536
 shift j n h = omega arith
 
-small : (j n : ℕ) → j + suc n ≤ 65536 → j < 65536
-small j n h = omega arith
-
 items-listed : (j : ℕ) (es : List Entry) (more rest : List ℕ) → j + length es ≤ 65536 → Narrow es → itemsIn (cutsIn es) (contentBytes j es ++ more) (bodyBytes es ++ rest) ≡ listed j es
 unfolding itemsIn u16At front32
 items-listed j [] more rest h s = refl
 items-listed j (inactive ∷ es) more rest h s = items-listed (suc j) es more rest (shift j (length es) h) (s .2)
-items-listed j (active b ts ∷ es) more rest h s = ap₂ _∷_ (item-eq (back16 j (small j (length es) h)) (back32 b (s .0)) (back32 (maskOf ts) (s .1)))
+items-listed j (active b ts ∷ es) more rest h s = ap₂ _∷_ (item-eq (back16 j (first-in j (length es) 65536 h)) (back32 b (s .0)) (back32 (maskOf ts) (s .1)))
     (items-listed (suc j) es more rest (shift j (length es) h) (s .2))
 
 pub items-written : (es : List Entry) → length es ≤ 65535 → Narrow es → itemsOf (certificateOf es) ≡ listed 0 es

@@ -4,29 +4,30 @@ use mathlib.Core.Path.{_≡_, refl, sym, _∙_, ap, ap₂, subst}
 use mathlib.Core.Bool.{Bool, true, false, _&&_, _||_}
 use mathlib.Core.List.{List, [], _∷_}
 use mathlib.Core.Option.{Option, some, none}
-use Prim.Native.Nat.{ℕ, zero, suc, _+_, _*_, _^_, _≤_, _<_}
+use Prim.Native.Nat.{ℕ, suc, _+_, _*_, _^_, _≤_, _<_}
 use native.Mathlib.Omega.{arith}
+use native.Mathlib.Nat.{zero-add, add-zero, le-of-eq}
 use lib.Dec.{leb, ltb, eqb}
 use lib.Pow.{pow-mono}
 use borrow.Author.Tests.{lt-ltb, le-leb, eq-eqb, ltb-false}
 use lib.ListN.{length, getD}
-use lib.IntN.{ℤ, pos}
+use lib.IntN.{ℤ}
+use Rattle.integers.specs.Count.{first-in}
 use Rattle.rules.specs.Limits.{frameLimit, maxEntries, maxScale, maxMultiplier, maxChecks, certificateLength}
-use Rattle.rules.specs.Refusal.{Answer, gives, must, frameLength, frameRange, wordWrong, certificateWrong, scaleRange, entryRange, maskWrong, entryOrder}
+use Rattle.rules.specs.Refusal.{Answer, gives, frameLength, frameRange, wordWrong, certificateWrong, scaleRange, entryRange, maskWrong, entryOrder}
 use Rattle.rules.specs.Table.{Table, checksOf}
 use Rattle.rules.specs.Parity.{odd, Alike}
 use Rattle.rules.specs.Mask.{digit, maskOf, setOf, maskRight}
 use Rattle.rules.specs.CodeFile.{inRange, codeFile}
-use Rattle.rules.specs.Input.{eachWithin, onFrame, eachBit, onWord, bitOfByte, bitsOf}
+use Rattle.rules.specs.Input.{eachWithin, onFrame, eachBit, onWord, bitsOf}
 use Rattle.rules.specs.Step.{Entry, inactive, active}
 use Rattle.rules.specs.Bound.{Row, rowsOf}
-use Rattle.rules.specs.Round.{State, Round, round}
-use Rattle.rules.specs.Certificate.{cutsIn, certificateOf, Item, membersAt, follows, onItem, onItems, entriesOf, scaleOf, itemsOf, onCertificate, rowAt, rowsAt}
+use Rattle.rules.specs.Certificate.{cutsIn, certificateOf, Item, membersAt, follows, onItem, onItems, entriesOf, scaleOf, itemsOf, onCertificate, rowsAt}
 use Rattle.rules.specs.Judge.{passes, verdict, judge, weigh}
-use Rattle.rules.specs.Run.{multiplierOf, maskIn, bytesOf, tooLarge}
+use Rattle.rules.specs.Run.{bytesOf, tooLarge}
 use Rattle.rules.proofs.Basics.{or-false}
 use Rattle.rules.proofs.Signs.{alike-length}
-use Rattle.rules.proofs.Masks.{set-mask, mask-below, set-right}
+use Rattle.rules.proofs.Masks.{digit-back, set-mask, mask-below, set-right}
 use Rattle.rules.proofs.AnswerLaws.{must-true, then-of}
 use Rattle.rules.proofs.Tables.{Degrees, Sound, file-sound}
 use Rattle.rules.proofs.Steps.{Proper}
@@ -35,10 +36,6 @@ use Rattle.rules.proofs.Written.{cuts-few, certificate-length, entries-
 use Rattle.rules.proofs.Judged.{meets-none}
 
 -- ---- a word's bytes
-digit-back : (b : Bool) → bitOfByte (digit b) ≡ b
-digit-back true = refl
-digit-back false = refl
-
 pub bits-bytes : (w : List Bool) → bitsOf (bytesOf w) ≡ w
 bits-bytes [] = refl
 bits-bytes (b ∷ w) = ap₂ _∷_ (digit-back b) (bits-bytes w)
@@ -90,10 +87,7 @@ pub record From (t : Table) (j : ℕ) (cs : List (List ℕ)) : Type 0 where
   pub many : j + length cs ≡ checksOf t
 
 from-start : (t : Table) → From t 0 (t .checks)
-from-start t = record { at = λ i. ap (membersAt t) (plain i); many = plain (length (t .checks)) }
-  where
-    plain : (i : ℕ) → 0 + i ≡ i
-    plain i = omega arith
+from-start t = record { at = λ i. ap (membersAt t) (zero-add i); many = zero-add (length (t .checks)) }
 
 from-next : (t : Table) (j : ℕ) (ms : List ℕ) (cs : List (List ℕ)) → From t j (ms ∷ cs) → From t (suc j) cs
 from-next t j ms cs f = record { at = λ i. ap (membersAt t) (shift j i) ∙ f .at (suc i); many = shift j (length cs) ∙ f .many }
@@ -102,16 +96,10 @@ from-next t j ms cs f = record { at = λ i. ap (membersAt t) (shift j i) ∙ f .
     shift j i = omega arith
 
 from-here : (t : Table) (j : ℕ) (ms : List ℕ) (cs : List (List ℕ)) → From t j (ms ∷ cs) → membersAt t j ≡ ms
-from-here t j ms cs f = ap (membersAt t) (plain j) ∙ f .at 0
-  where
-    plain : (j : ℕ) → j ≡ j + 0
-    plain j = omega arith
+from-here t j ms cs f = ap (membersAt t) (sym (add-zero j)) ∙ f .at 0
 
 from-below : (t : Table) (j : ℕ) (ms : List ℕ) (cs : List (List ℕ)) → From t j (ms ∷ cs) → j < checksOf t
-from-below t j ms cs f = less j (length cs) (checksOf t) (f .many)
-  where
-    less : (j n m : ℕ) → j + suc n ≡ m → j < m
-    less j n m e = omega arith
+from-below t j ms cs f = first-in j (length cs) (checksOf t) (le-of-eq (f .many))
 
 row-eq : {ms ms' : List ℕ} {b : ℕ} {ts ts' : List Bool} → ms ≡ ms' → ts ≡ ts' → _≡_ {A = Row} (record { members = ms; multiplier = b; set = ts }) (record { members = ms'; multiplier = b; set = ts' })
 row-eq {b = b} p q = λ i. record { members = p i; multiplier = b; set = q i }
@@ -161,6 +149,12 @@ items-right t p j (ms ∷ cs) (active m ts ∷ es) a f q b h =
     ∙ items-right t (some (record { check = j; multiplier = m; mask = maskOf ts })) (suc j) cs es a (from-next t j ms cs f) (q .1) (or-false (ltb maxMultiplier m) (tooLarge es) b .1) (omega arith)
 
 -- ---- the whole certificate
+items-back : (t : Table) (es : List Entry) → Sound t → AllProper (t .checks) es → tooLarge es ≡ false → itemsOf (certificateOf es) ≡ listed 0 es
+items-back t es s p b = items-written es (wide (length es) (checksOf t) (proper-many (t .checks) es p) (s .checks .1)) (narrow (t .checks) es (s .degrees) p b)
+  where
+    wide : (n m : ℕ) → n ≡ m → m ≤ maxChecks → n ≤ 65535
+    wide n m e h = omega arith
+
 certificate-right : {A : Type 0} (t : Table) (es : List Entry) (a : Answer A) → Sound t → AllProper (t .checks) es → tooLarge es ≡ false → onCertificate t (certificateOf es) a ≡ a
 unfolding onCertificate inRange
 certificate-right t es a s p b =
@@ -169,7 +163,7 @@ certificate-right t es a s p b =
     (le-leb (entriesOf (certificateOf es)) maxEntries (few (entriesOf (certificateOf es)) (cutsIn es) (length es) (checksOf t) count (cuts-few es) many (s .checks .1))))
     (eq-eqb (length (certificateOf es)) (certificateLength (entriesOf (certificateOf es))) (certificate-length es ∙ ap certificateLength (sym count))))
     ∙ must-true (leb 1 (scaleOf (certificateOf es)) && leb (scaleOf (certificateOf es)) maxScale) scaleRange _ (ap (λ n. leb 1 n && leb n maxScale) (scale-written es))
-    ∙ ap (λ is. onItems t none is a) (items-written es (wide (length es) (checksOf t) many (s .checks .1)) (narrow (t .checks) es (s .degrees) p b))
+    ∙ ap (λ is. onItems t none is a) (items-back t es s p b)
     ∙ items-right t none 0 (t .checks) es a (from-start t) p b tt
   where
     many : length es ≡ checksOf t
@@ -187,9 +181,6 @@ certificate-right t es a s p b =
     few : (x q n m : ℕ) → x ≡ q → q ≤ n → n ≡ m → m ≤ maxChecks → x ≤ maxEntries
     few x q n m e h f k = omega arith
 
-    wide : (n m : ℕ) → n ≡ m → m ≤ maxChecks → n ≤ 65535
-    wide n m e h = omega arith
-
 -- A frame that passes 8 and 9, a word with gap 0 on the entries' rows: the judge certifies it by the entries' bytes.
 pub written-passes : (file : List ℕ) (l : List ℤ) (es : List Entry) (w : List Bool) (t : Table) → codeFile file ≡ gives t → length l ≡ t .bits → eachWithin frameLimit l ≡ true
     → length w ≡ t .bits → AllProper (t .checks) es → tooLarge es ≡ false → Passed t l (rowsOf (t .checks) es) w → judge file l (bytesOf w) (certificateOf es) ≡ gives passes
@@ -203,12 +194,5 @@ written-passes file l es w t isFile size range long p b closed =
     ∙ ap (λ v. gives v) (ap₂ (λ rs x. verdict t (scaleOf (certificateOf es)) l rs x) rows (bits-bytes w) ∙ ap (λ s. verdict t s l (rowsOf (t .checks) es) w) (scale-written es)
     ∙ ap₂ weigh (meets-none 0 w (t .checks) (closed .legal)) (closed .closed))
   where
-    many : length es ≡ checksOf t
-    many = proper-many (t .checks) es p
-
-    wide : (n m : ℕ) → n ≡ m → m ≤ maxChecks → n ≤ 65535
-    wide n m e h = omega arith
-
     rows : rowsAt t (itemsOf (certificateOf es)) ≡ rowsOf (t .checks) es
-    rows = ap (rowsAt t) (items-written es (wide (length es) (checksOf t) many (file-sound file t isFile .checks .1)) (narrow (t .checks) es (file-sound file t isFile .degrees) p b))
-        ∙ rows-listed t 0 (t .checks) es (from-start t) p
+    rows = ap (rowsAt t) (items-back t es (file-sound file t isFile) p b) ∙ rows-listed t 0 (t .checks) es (from-start t) p

@@ -24,7 +24,7 @@ use Rattle.rules.specs.Run.{running, certified, spent, Run, next, iterat
 use Rattle.rules.specs.Calls.{Call, lentCall}
 use Rattle.rules.specs.Report.{Line, certifiedLine, spentLine, blank, frameLine}
 use Rattle.rules.specs.Question.{Question, fileIs, cutIs, judged, startIs, callIs, lineIs, listIs, Place, Said, reply, shown, line, places, Case, asked, said, answerTo}
-use Rattle.rules.specs.Frames.{threeBits, oneBit, frameA}
+use Rattle.rules.specs.Frames.{threeBits, oneBit, frameA, word000}
 
 abbrev no : ℕ → Reply
 no k = record { number = k; values = [] }
@@ -103,9 +103,6 @@ one q s c b k = q ∷ 0 ∷ s ∷ 0 ∷ c ∷ 0 ∷ b ∷ 0 ∷ 0 ∷ 0 ∷ k �
 
 abbrev two : ℕ → ℕ → ℕ → ℕ → List ℕ
 two c k d j = 2 ∷ 0 ∷ 1 ∷ 0 ∷ c ∷ 0 ∷ 1 ∷ 0 ∷ 0 ∷ 0 ∷ d ∷ 0 ∷ 1 ∷ 0 ∷ 0 ∷ 0 ∷ k ∷ 0 ∷ 0 ∷ 0 ∷ j ∷ 0 ∷ 0 ∷ 0 ∷ []
-
-abbrev word000 : List ℕ
-word000 = 0 ∷ 0 ∷ 0 ∷ []
 
 certificates : List Case
 certificates =

@@ -55,7 +55,7 @@ gapOf g = record { number = 0; values = pos 2 ∷ pos g ∷ [] }
 abbrev withMultiplier : ℕ → ℕ → List ℕ
 withMultiplier lo hi = 0x01 ∷ 0x00 ∷ 0x01 ∷ 0x00 ∷ 0x00 ∷ 0x00 ∷ lo ∷ hi ∷ 0x00 ∷ 0x00 ∷ 0x04 ∷ 0x00 ∷ 0x00 ∷ 0x00 ∷ []
 
-abbrev word000 : List ℕ
+abbrev pub word000 : List ℕ
 word000 = 0 ∷ 0 ∷ 0 ∷ []
 
 pub cases : List Case

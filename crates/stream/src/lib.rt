@@ -12,6 +12,9 @@ const NUMBERS_AT_ONCE: usize = 4096;
 
 const BYTES_AT_ONCE: usize = 2 * NUMBERS_AT_ONCE;
 
+// What no 32-bit number is: a part of a record is longer than it may be, or cut short.
+pub const NOT_WHOLE: usize = 0x1_0000_0000;
+
 // Writes the label, then n.
 pub fn print_number(label: &[u8], n: u64) {
     io::write_all(STDOUT_FILENO, label);
@@ -101,4 +104,47 @@ pub fn u16_of(low: u8, high: u8) -> usize
     ensures { λ r. ⌜ (r ≡ low + 256 * high) × (r < 65536) ⌝ }
 {
     wide(low) + 256 * wide(high)
+}
+
+// Reads a little-endian number of four bytes.
+pub fn read_u32() -> usize
+    ensures { λ r. ⌜ r ≤ 4294967296 ⌝ }
+{
+    let mut bytes = [0u8; 4];
+    if io::read_full(STDIN_FILENO, &mut bytes) < 4 {
+        return NOT_WHOLE;
+    }
+    u16_of(bytes[0], bytes[1]) + 65536 * u16_of(bytes[2], bytes[3])
+}
+
+// The number as a signed one: its upper half is negative.
+pub fn i32_of(n: u32) -> i32 {
+    if n < 2147483648 {
+        return n as i32;
+    }
+    !((4294967295 - n) as i32)
+}
+
+// Reads a part of a record, a 32-bit length and as many bytes, and answers the length.
+pub fn read_part(part: &mut [u8]) -> usize {
+    let size = read_u32();
+    if part.len() < size {
+        return NOT_WHOLE;
+    }
+    if io::read_full(STDIN_FILENO, &mut part[..size]) < size {
+        return NOT_WHOLE;
+    }
+    size
+}
+
+// Reads a 32-bit count and as many numbers, at most 4,096, and answers the count.
+pub fn read_i16_part(numbers: &mut [i16]) -> usize {
+    let count = read_u32();
+    if numbers.len() < count {
+        return NOT_WHOLE;
+    }
+    if read_i16(&mut numbers[..count]) < 2 * count {
+        return NOT_WHOLE;
+    }
+    count
 }

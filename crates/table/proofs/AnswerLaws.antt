@@ -4,7 +4,7 @@ use mathlib.Core.Bool.{Bool, true, false, _&&_}
 use mathlib.Core.List.{List, []}
 use Prim.Native.Nat.{ℕ}
 use lib.IntN.{ℤ}
-use Rattle.rules.specs.Refusal.{Answer, gives, must, replyOf}
+use Rattle.rules.specs.Refusal.{Answer, must, replyOf}
 
 pub and-fails : (a b : Bool) → a ≡ false → a && b ≡ false
 and-fails a b e = ap (λ x. x && b) e

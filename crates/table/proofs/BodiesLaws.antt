@@ -4,11 +4,13 @@ use mathlib.Core.Bool.{true, false, _&&_}
 use mathlib.Core.List.{List, [], _∷_}
 use Prim.Native.Nat.{ℕ, _+_, _*_, _-_, _≤_, _<_}
 use native.Mathlib.Omega.{arith}
+use native.Mathlib.Nat.{sub-eq-zero-of-le}
 use lib.Dec.{leb, ltb}
 use borrow.Author.Tests.{lt-ltb, le-ltb, le-leb, lt-leb}
+use Rattle.integers.specs.Count.{left-more}
 use Rattle.rules.specs.Bytes.{u16At}
 use Rattle.rules.specs.CodeFile.{Content, contentAt, contents, numbersAt, bodies, ascends, membersRight}
-use Rattle.table.proofs.ContentsLaws.{left-more, left-none, contents-more, contents-end}
+use Rattle.table.proofs.ContentsLaws.{contents-more, contents-end}
 
 -- ---- numbers from a byte on
 module _ (file : List ℕ) (at d k : ℕ) where
@@ -18,7 +20,7 @@ module _ (file : List ℕ) (at d k : ℕ) where
 
   pub numbers-end : d ≤ k → numbersAt file (at + 2 * k) (d - k) ≡ []
   unfolding numbersAt
-  numbers-end h = ap (numbersAt file (at + 2 * k)) (left-none k d h)
+  numbers-end h = ap (numbersAt file (at + 2 * k)) (sub-eq-zero-of-le h)
 
 pub numbers-all : (file : List ℕ) (at d : ℕ) → numbersAt file (at + 2 * 0) (d - 0) ≡ numbersAt file at d
 numbers-all file at d = ap₂ (numbersAt file) (omega arith) (omega arith)

@@ -2,18 +2,14 @@
 use mathlib.Core.Path.{_≡_, refl, _∙_, ap}
 use mathlib.Core.Bool.{true, _&&_}
 use mathlib.Core.List.{List, [], _∷_}
-use Prim.Native.Nat.{ℕ, suc, _+_, _*_, _-_, _≤_, _<_}
+use Prim.Native.Nat.{ℕ, _+_, _*_, _-_, _≤_, _<_}
 use native.Mathlib.Omega.{arith}
+use native.Mathlib.Nat.{sub-eq-zero-of-le}
 use lib.Dec.{eqb}
+use Rattle.integers.specs.Count.{left-more}
 use Rattle.rules.specs.Limits.{minDegree, maxDegree}
 use Rattle.rules.specs.Bytes.{u16At}
 use Rattle.rules.specs.CodeFile.{Content, contentAt, inRange, contents, countsRight, startsRight, totalCount}
-
-pub left-more : (j m : ℕ) → j < m → m - j ≡ suc (m - (j + 1))
-left-more j m h = omega arith
-
-pub left-none : (j m : ℕ) → m ≤ j → m - j ≡ 0
-left-none j m h = omega arith
 
 module _ (file : List ℕ) (m j : ℕ) where
   pub contents-more : j < m → contents file j (m - j) ≡ contentAt file j ∷ contents file (j + 1) (m - (j + 1))
@@ -22,7 +18,7 @@ module _ (file : List ℕ) (m j : ℕ) where
 
   pub contents-end : m ≤ j → contents file j (m - j) ≡ []
   unfolding contents
-  contents-end h = ap (contents file j) (left-none j m h)
+  contents-end h = ap (contents file j) (sub-eq-zero-of-le h)
 
 pub contents-all : (file : List ℕ) (m : ℕ) → contents file 0 (m - 0) ≡ contents file 0 m
 contents-all file m = ap (contents file 0) (omega arith)

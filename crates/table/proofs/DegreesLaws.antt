@@ -4,15 +4,16 @@ use mathlib.Core.Bool.{Bool, true, false, cond, _&&_}
 use mathlib.Core.List.{List, [], _∷_}
 use Prim.Native.Nat.{ℕ, zero, suc, _+_, _*_, _-_, _≤_, _<_, zero-le}
 use native.Mathlib.Omega.{arith}
+use native.Mathlib.Nat.{sub-eq-zero-of-le}
 use lib.Dec.{eqb}
 use lib.ListN.{length, getD, set, replicate, getD-replicate, length-set}
 use lib.Seq.{getD-set-same, getD-set-other}
 use borrow.Author.Tests.{eqb-true, eqb-false, ne-eqb}
+use Rattle.integers.specs.Count.{first-in, rest-in, left-more}
 use Rattle.rules.specs.Limits.{maxBits, maxBitDegree}
 use Rattle.rules.specs.Bytes.{u16At}
 use Rattle.rules.specs.Table.{degreeOf}
 use Rattle.rules.specs.CodeFile.{inRange, numbersAt, bitsRight}
-use Rattle.table.proofs.ContentsLaws.{left-more, left-none}
 use Rattle.table.proofs.BodiesLaws.{numbers-more, numbers-end, numbers-all}
 use Rattle.rules.proofs.FileLaws.{numbers-length}
 
@@ -80,16 +81,10 @@ bits-more f n i d h e = ap (bitsRight f i) (left-more i n h) ∙ bits-cons f i (
 
 pub bits-end : (f : ℕ → ℕ) (n i : ℕ) → n ≤ i → bitsRight f i (n - i) ≡ true
 unfolding bitsRight
-bits-end f n i h = ap (bitsRight f i) (left-none i n h)
+bits-end f n i h = ap (bitsRight f i) (sub-eq-zero-of-le h)
 
 pub bits-all : (f : ℕ → ℕ) (n : ℕ) → bitsRight f 0 (n - 0) ≡ bitsRight f 0 n
 bits-all f n = ap (bitsRight f 0) (omega arith)
-
-first-in : (i k n : ℕ) → i + suc k ≤ n → i < n
-first-in i k n h = omega arith
-
-rest-in : (i k n : ℕ) → i + suc k ≤ n → i + 1 + k ≤ n
-rest-in i k n h = omega arith
 
 -- only the degrees below n count
 pub bits-same : (f g : ℕ → ℕ) (n : ℕ) → ((i : ℕ) → i < n → f i ≡ g i) → (i k : ℕ) → i + k ≤ n → bitsRight f i k ≡ bitsRight g i k

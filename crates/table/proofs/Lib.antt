@@ -7,3 +7,4 @@ pub mod FillLaws
 pub mod StageLaws
 pub mod AcceptedLaws
 pub mod LoadedLaws
+pub mod HeldLaws

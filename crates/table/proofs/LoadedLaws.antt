@@ -11,7 +11,7 @@ use borrow.Author.Tests.{lt-ltb, le-ltb, le-leb, lt-leb}
 use Rattle.rules.specs.Limits.{maxChecks, maxEdges, contentsEnd}
 use Rattle.rules.specs.Refusal.{Answer, refused, gives, must, then, replyOf, bufferShort}
 use Rattle.rules.specs.Table.{Table, edges, edgesOf, checksOf}
-use Rattle.rules.specs.CodeFile.{contents, numbersAt, tableAt, codeFile}
+use Rattle.rules.specs.CodeFile.{contents, numbersAt, tableAt, codeFile, tableValues}
 use Rattle.rules.specs.Buffers.{over}
 use Rattle.table.specs.Starts.{startsOf}
 use Rattle.table.specs.Loaded.{withRoom, laid, loaded}
@@ -20,6 +20,11 @@ use Rattle.rules.proofs.FileLaws.{bodies-length, edges-bodies, edges-length}
 use Rattle.table.proofs.StartsLaws.{starts-length}
 use Rattle.table.proofs.StageLaws.{table-reply}
 use Rattle.table.proofs.AcceptedLaws.{Readable, readable-table}
+
+pub laid-reply : (a : Answer Table) (s ms : List ℕ) → laid a s ms .reply ≡ replyOf tableValues a
+unfolding laid
+laid-reply (refused k) s ms = refl
+laid-reply (gives t) s ms = refl
 
 module _ (file s ms : List ℕ) where
   pub loaded-refused : (k : ℕ) → codeFile file ≡ refused k → record { reply = record { number = k; values = [] }; starts = s; members = ms } ≡ loaded file s ms

@@ -5,7 +5,7 @@ mod contents;
 mod degrees;
 mod fill;
 pub mod limits;
-mod numbers;
+pub mod numbers;
 mod stages;
 
 use contents::contents_end;

@@ -1,11 +1,10 @@
 -- `search` meets its contract. Assumes nothing.
-use mathlib.Core.Path.{_≡_, sym, _∙_, ap}
+use mathlib.Core.Path.{_∙_, ap}
 use native.Mathlib.Omega.{arith}
 use borrow.Author.Needs.{needs}
-use Rattle.rules.specs.CodeFile.{codeFileReply}
 use Rattle.table.specs.Reply.{numbered}
-use Rattle.table.proofs.AcceptedLaws.{Readable, readable, refused-is}
-use Rattle.cut.proofs.SearchLaws.{search-refused, load-reply, load-fits, load-search}
+use Rattle.table.proofs.HeldLaws.{Opened, load-refused, load-table}
+use Rattle.cut.proofs.SearchLaws.{search-refused, search-opened}
 use Rattle.cut.proofs.search.Statement.{statement}
 use Rattle.cut.proofs.search.Tie as tie
 
@@ -30,24 +29,18 @@ slice-aggregate-search-table c = search needs
 slice-aggregate-search-table-2 : tie.Need-slice-aggregate-search-table-2
 slice-aggregate-search-table-2 c = search needs
 
--- what the load replied is what the file is
-replied : (c : tie.After-load) → numbered (c .load .result) ≡ codeFileReply (c .before .before .before .before .args .code .now)
-replied c = load-reply _ _ _ _ (c .load .ensures) (omega arith) (omega arith)
-
 -- the file was accepted
-accepted : (c : tie.After-answer2) → Readable (c .before .before .before .before .before .before .before .before .args .code .now) (c .answer2 .given .0 .0) (c .answer2 .given .0 .1 .0) (c .answer2 .given .0 .1 .1 .0)
-accepted c = readable _ _ _ _ (ap numbered (sym (c .answer2 .given .1)) ∙ replied (c .before .before .before .before))
+opened : (c : tie.After-answer2) → Opened (c .before .before .before .before .before .before .before .before .args .code .now) (c .answer2 .given .0 .0) (c .answer2 .given .0 .1 .0) (c .before .before .before .before .load .last .1 .0) (c .before .before .before .before .load .last .1 .1 .0)
+opened c = load-table _ _ _ _ _ _ (omega arith) (omega arith) (c .before .before .before .before .load .ensures) _ _ _ (ap numbered (c .answer2 .given .1))
 
 search-table-requires : tie.Need-search-table-requires
-search-table-requires c κs h = load-fits _ _ _ _ (c .before .before .before .before .before .before .before .load .ensures) (omega arith) (omega arith) _ _ _ (accepted (c .before .before .before)) _ h
+search-table-requires c κs h = opened (c .before .before .before) .held _ h
 
 returns : tie.Need-returns
-returns c = search-refused _ _ _ _ (refused-is _ _ (ap numbered (sym (c .before .answer .given .1)) ∙ replied (c .before .before .before .before .before)))
+returns c = search-refused _ _ _ _ (load-refused _ _ _ _ _ _ (omega arith) (omega arith) (c .before .before .before .before .before .load .ensures) _ (ap numbered (c .before .answer .given .1)))
 
 returns-2 : tie.Need-returns-2
-returns-2 c =
-    c .search-table .ensures
-    ∙ load-search _ _ _ _ (c .before .before .before .before .before .before .before .before .load .ensures) (omega arith) (omega arith) _ _ _ (accepted (c .before .before .before .before)) _ _
+returns-2 c = c .search-table .ensures ∙ search-opened _ _ _ _ _ (opened (c .before .before .before .before)) _ _
 
 pub search-spec : {M : Type 1} → statement M
 search-spec =

@@ -1,12 +1,12 @@
--- `one_record` meets its contract: the parts of the buffers are as long as the record says. Assumes nothing.
+-- `one_record` meets its contract: code file and spins are the fronts of the buffers. Assumes nothing.
 use native.Mathlib.Omega.{arith}
 use lib.ListN.{length-take}
 use borrow.Author.Needs.{needs}
 use Rattle.cut_cases.proofs.one_record.Statement.{statement}
 use Rattle.cut_cases.proofs.one_record.Tie as tie
 
-read-code-requires : tie.Need-read-code-requires
-read-code-requires c κs = search needs
+read-part-requires : tie.Need-read-part-requires
+read-part-requires c κs = search needs
 
 same-length : tie.Need-same-length
 same-length c = search needs
@@ -26,8 +26,8 @@ same-length-3 c = search needs
 returns-2 : tie.Need-returns-2
 returns-2 c = search needs
 
-read-number-requires : tie.Need-read-number-requires
-read-number-requires c κs = search needs
+read-u32-requires : tie.Need-read-u32-requires
+read-u32-requires c κs = search needs
 
 same-length-4 : tie.Need-same-length-4
 same-length-4 c = search needs
@@ -69,14 +69,14 @@ pub one-record-spec : {M : Type 1} → statement M
 one-record-spec =
     tie.close
     (tie.spec
-    read-code-requires
+    read-part-requires
     same-length
     returns
     read-spins-requires
     same-length-2
     same-length-3
     returns-2
-    read-number-requires
+    read-u32-requires
     same-length-4
     same-length-5
     returns-3

@@ -3,7 +3,7 @@ use mathlib.Core.Path.{_∙_, ap}
 use native.Mathlib.Omega.{arith}
 use borrow.Author.Needs.{needs}
 use Rattle.table.specs.Reply.{numbered}
-use Rattle.judge.proofs.HeldLaws.{Opened, load-refused, load-table}
+use Rattle.table.proofs.HeldLaws.{Opened, load-refused, load-table}
 use Rattle.judge.proofs.StageLaws.{judge-none, judge-table}
 use Rattle.judge.proofs.judge.Statement.{statement}
 use Rattle.judge.proofs.judge.Tie as tie

@@ -5,11 +5,11 @@ use borrow.Author.Needs.{needs}
 use Rattle.judge_cases.proofs.with_code.Statement.{statement}
 use Rattle.judge_cases.proofs.with_code.Tie as tie
 
-slice-aggregate-read-frame : tie.Need-slice-aggregate-read-frame
-slice-aggregate-read-frame c = search needs
+slice-aggregate-read-i16-part : tie.Need-slice-aggregate-read-i16-part
+slice-aggregate-read-i16-part c = search needs
 
-read-frame-requires : tie.Need-read-frame-requires
-read-frame-requires c κs = search needs
+read-i16-part-requires : tie.Need-read-i16-part-requires
+read-i16-part-requires c κs = search needs
 
 returns : tie.Need-returns
 returns c = search needs
@@ -30,8 +30,8 @@ pub with-code-spec : {M : Type 1} → statement M
 with-code-spec =
     tie.close
     (tie.spec
-    slice-aggregate-read-frame
-    read-frame-requires
+    slice-aggregate-read-i16-part
+    read-i16-part-requires
     returns
     array-share-prefix-frame
     slice-aggregate-with-frame

@@ -2,6 +2,7 @@
 use mathlib.Core.Path.{_≡_, refl, sym, _∙_, ap}
 use mathlib.Core.Bool.{true, _&&_}
 use native.Mathlib.Omega.{arith}
+use borrow.Author.Needs.{needs}
 use lib.Dec.{leb}
 use lib.ListN.{length}
 use borrow.Author.Tests.{not-true, not-false, le-leb, lt-leb}
@@ -16,10 +17,10 @@ returns : tie.Need-returns
 returns c = sym (first-stage _ _ _ refl refl ∙ must-fails _ _ _ _ (lt-leb _ _ (c .if1 .taken)))
 
 u16-at-requires : tie.Need-u16-at-requires
-u16-at-requires c κs = omega arith
+u16-at-requires c κs = search needs
 
 u16-at-requires-2 : tie.Need-u16-at-requires-2
-u16-at-requires-2 c κs = omega arith
+u16-at-requires-2 c κs = search needs
 
 in-range-requires : tie.Need-in-range-requires
 in-range-requires c κs = tt

@@ -8,8 +8,9 @@ use Rattle.rules.specs.Table.{at, valuesAt}
 use Rattle.rules.specs.Cut.{cut}
 use Rattle.rules.specs.Step.{clips}
 use Rattle.rules.proofs.Duality.{Below}
+use Rattle.table.specs.Held.{partAt}
+use Rattle.table.proofs.HeldLaws.{part-length}
 use Rattle.cut.specs.CutMask.{cutMask}
-use Rattle.cut.specs.Search.{partAt}
 use Rattle.cut.proofs.check.check_cut.Statement.{statement}
 use Rattle.cut.proofs.check.check_cut.Tie as tie
 
@@ -55,8 +56,10 @@ part-is c =
 
 members-cut-requires : tie.Need-members-cut-requires
 members-cut-requires c κs =
-    let start = c .before .before .before .before .before .before .before in
-    (subst (λ l. length l ≤ maxDegree) (sym (part-is (c .before))) (start .pre .narrow), subst (Below (length (start .args .spins .now))) (sym (part-is (c .before))) (start .pre .below))
+    let start = c .before .before .before .before .before .before .before in (
+      subst (λ l. length l ≤ maxDegree) (sym (part-is (c .before))) (subst (λ d. d ≤ maxDegree) (sym (part-length _ _ _ _ (start .pre))) (start .pre .start .degree)),
+      subst (Below (length (start .args .spins .now))) (sym (part-is (c .before))) (start .pre .inside),
+    )
 
 returns : tie.Need-returns
 returns c =

@@ -8,7 +8,8 @@ use mir.Facts.{toZ-ofZ}
 use borrow.Author.Needs.{needs}
 use Rattle.integers.specs.Machine.{fit}
 use Rattle.rules.specs.Table.{at}
-use Rattle.cut.proofs.GatherLaws.{below-at, gathered, gather-more, gather-all}
+use Rattle.rules.proofs.Duality.{below-at}
+use Rattle.cut.proofs.GatherLaws.{gathered, gather-more, gather-all}
 use Rattle.cut.proofs.check.gather.Statement.{statement}
 use Rattle.cut.proofs.check.gather.Tie as tie
 

@@ -11,8 +11,8 @@ use Rattle.integers.specs.Machine.{fit}
 use Rattle.rules.specs.Table.{at, bitsAt}
 use Rattle.rules.specs.Parity.{_⊕_, odd}
 use Rattle.rules.specs.Cut.{isNeg, negatives}
-use Rattle.cut.proofs.GatherLaws.{below-at}
 use Rattle.decoder.proofs.CandidateLaws.{odd-next, odd-end}
+use Rattle.rules.proofs.Duality.{below-at}
 use Rattle.decoder.proofs.candidate.is_odd_of.Statement.{statement}
 use Rattle.decoder.proofs.candidate.is_odd_of.Tie as tie
 

@@ -11,7 +11,7 @@ use Rattle.rules.specs.Limits.{maxBits}
 use Rattle.rules.specs.Table.{degreeOf}
 use Rattle.table.proofs.DegreesLaws.{Counted, counted-more}
 use Rattle.table.proofs.DegreesLaws.{degree-length}
-use Rattle.cut.proofs.GatherLaws.{below-at}
+use Rattle.rules.proofs.Duality.{below-at}
 use Rattle.decoder.proofs.degrees.count_degrees.Statement.{statement}
 use Rattle.decoder.proofs.degrees.count_degrees.Tie as tie
 

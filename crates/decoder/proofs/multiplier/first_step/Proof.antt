@@ -10,8 +10,7 @@ use mir.Val.{SFits, toZ, ofZ}
 use mir.Facts.{toZ-ofZ}
 use borrow.Author.Needs.{needs}
 use Rattle.integers.specs.Machine.{fit, to-unsigned}
-use Rattle.integers.specs.Sum.{sumZ}
-use Rattle.decoder.specs.Lifted.{sumAt}
+use Rattle.decoder.specs.Lifted.{sumAt, sumZ}
 use Rattle.decoder.proofs.MultiplierLaws.{level-met, together-fits, start-fits, start-most, natural}
 use Rattle.decoder.proofs.multiplier.first_step.Statement.{statement}
 use Rattle.decoder.proofs.multiplier.first_step.Tie as tie

@@ -10,9 +10,10 @@ use mir.Val.{SFits, toZ, ofZ}
 use mir.Facts.{toZ-ofZ}
 use Rattle.integers.specs.Linear.{Within}
 use Rattle.integers.specs.Machine.{fit}
-use Rattle.integers.specs.Sum.{sumZ, sum-take}
 use Rattle.rules.specs.Table.{at}
 use Rattle.rules.proofs.Optimal.{within-at}
+use Rattle.decoder.specs.Lifted.{sumZ}
+use Rattle.decoder.proofs.SumLaws.{sum-take}
 use Rattle.decoder.proofs.MultiplierLaws.{sum-next}
 use Rattle.decoder.proofs.multiplier.sum_of.Statement.{statement}
 use Rattle.decoder.proofs.multiplier.sum_of.Tie as tie

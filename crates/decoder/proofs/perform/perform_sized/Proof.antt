@@ -1,6 +1,6 @@
 -- `perform_sized` meets its contract. Assumes nothing.
 use mathlib.Core.Path.{sym}
-use Rattle.rules.proofs.BufferLaws.{part-length}
+use lib.Seq.{length-take-le}
 use Rattle.decoder.proofs.PartsLaws.{parts-given, parts-back}
 use borrow.Author.Needs.{needs}
 use Rattle.decoder.proofs.perform.perform_sized.Statement.{statement}
@@ -16,52 +16,52 @@ add-tail : tie.Need-add-tail
 add-tail c = search needs
 
 slice-aggregate-perform : tie.Need-slice-aggregate-perform
-slice-aggregate-perform c = sym (part-length _ _ (c .before .before .before .before .before .before .before .pre .startsRoom))
+slice-aggregate-perform c = sym (length-take-le _ _ (c .before .before .before .before .before .before .before .pre .startsRoom))
 
 slice-aggregate-perform-2 : tie.Need-slice-aggregate-perform-2
-slice-aggregate-perform-2 c = sym (part-length _ _ (c .before .before .before .before .before .before .before .before .pre .membersRoom))
+slice-aggregate-perform-2 c = sym (length-take-le _ _ (c .before .before .before .before .before .before .before .before .pre .membersRoom))
 
 slice-relend-prefix-perform : tie.Need-slice-relend-prefix-perform
 slice-relend-prefix-perform c = search needs
 
 slice-aggregate-perform-3 : tie.Need-slice-aggregate-perform-3
-slice-aggregate-perform-3 c = sym (part-length _ _ (c .before .before .before .before .before .before .before .before .before .pre .room .spins))
+slice-aggregate-perform-3 c = sym (length-take-le _ _ (c .before .before .before .before .before .before .before .before .before .pre .room .spins))
 
 slice-relend-prefix-perform-2 : tie.Need-slice-relend-prefix-perform-2
 slice-relend-prefix-perform-2 c = search needs
 
 slice-aggregate-perform-4 : tie.Need-slice-aggregate-perform-4
-slice-aggregate-perform-4 c = sym (part-length _ _ (c .before .before .before .before .before .before .before .before .before .before .pre .room .copies))
+slice-aggregate-perform-4 c = sym (length-take-le _ _ (c .before .before .before .before .before .before .before .before .before .before .pre .room .copies))
 
 slice-relend-prefix-perform-3 : tie.Need-slice-relend-prefix-perform-3
 slice-relend-prefix-perform-3 c = search needs
 
 slice-aggregate-perform-5 : tie.Need-slice-aggregate-perform-5
-slice-aggregate-perform-5 c = sym (part-length _ _ (c .before .before .before .before .before .before .before .before .before .before .before .pre .room .offsets))
+slice-aggregate-perform-5 c = sym (length-take-le _ _ (c .before .before .before .before .before .before .before .before .before .before .before .pre .room .offsets))
 
 slice-relend-prefix-perform-4 : tie.Need-slice-relend-prefix-perform-4
 slice-relend-prefix-perform-4 c = search needs
 
 slice-aggregate-perform-6 : tie.Need-slice-aggregate-perform-6
-slice-aggregate-perform-6 c = sym (part-length _ _ (c .before .before .before .before .before .before .before .before .before .before .before .before .pre .room .multipliers))
+slice-aggregate-perform-6 c = sym (length-take-le _ _ (c .before .before .before .before .before .before .before .before .before .before .before .before .pre .room .multipliers))
 
 slice-relend-prefix-perform-5 : tie.Need-slice-relend-prefix-perform-5
 slice-relend-prefix-perform-5 c = search needs
 
 slice-aggregate-perform-7 : tie.Need-slice-aggregate-perform-7
-slice-aggregate-perform-7 c = sym (part-length _ _ (c .before .before .before .before .before .before .before .before .before .before .before .before .before .pre .room .masks))
+slice-aggregate-perform-7 c = sym (length-take-le _ _ (c .before .before .before .before .before .before .before .before .before .before .before .before .before .pre .room .masks))
 
 slice-relend-prefix-perform-6 : tie.Need-slice-relend-prefix-perform-6
 slice-relend-prefix-perform-6 c = search needs
 
 slice-aggregate-perform-8 : tie.Need-slice-aggregate-perform-8
-slice-aggregate-perform-8 c = sym (part-length _ _ (c .before .before .before .before .before .before .before .before .before .before .before .before .before .before .pre .room .word))
+slice-aggregate-perform-8 c = sym (length-take-le _ _ (c .before .before .before .before .before .before .before .before .before .before .before .before .before .before .pre .room .word))
 
 slice-relend-prefix-perform-7 : tie.Need-slice-relend-prefix-perform-7
 slice-relend-prefix-perform-7 c = search needs
 
 slice-aggregate-perform-9 : tie.Need-slice-aggregate-perform-9
-slice-aggregate-perform-9 c = sym (part-length _ _ (c .before .before .before .before .before .before .before .before .before .before .before .before .before .before .before .pre .room .certificate))
+slice-aggregate-perform-9 c = sym (length-take-le _ _ (c .before .before .before .before .before .before .before .before .before .before .before .before .before .before .before .pre .room .certificate))
 
 perform-requires : tie.Need-perform-requires
 perform-requires c κs = parts-given _ _ _ _ _ _ _ _ (c .before .before .before .before .before .before .before .before .before .before .before .before .before .before .before .pre)

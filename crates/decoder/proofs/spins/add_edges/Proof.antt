@@ -10,7 +10,7 @@ use mir.Facts.{toZ-ofZ}
 use Rattle.integers.specs.Machine.{fit, op-fits, raw}
 use Rattle.rules.specs.Table.{at}
 use Rattle.rules.specs.Step.{minus}
-use Rattle.cut.proofs.GatherLaws.{below-at}
+use Rattle.rules.proofs.Duality.{below-at}
 use Rattle.decoder.specs.Totals.{Gathered}
 use Rattle.decoder.proofs.GatherLaws.{gathered-none, gathered-more, gathered-all}
 use Rattle.decoder.proofs.TotalsLaws.{weights-long, weight-at, weight-fits, total-fits}

@@ -11,7 +11,7 @@ use Rattle.integers.specs.Machine.{fit}
 use Rattle.rules.specs.Table.{at}
 use Rattle.rules.specs.Round.{values}
 use Rattle.rules.proofs.Optimal.{within-at}
-use Rattle.cut.proofs.GatherLaws.{below-at}
+use Rattle.rules.proofs.Duality.{below-at}
 use Rattle.decoder.proofs.FillLaws.{fill, fill-none, fill-length, fill-at, fill-more, fill-all}
 use Rattle.decoder.proofs.ValueLaws.{values-length, values-at}
 use Rattle.decoder.proofs.MoveLaws.{value-fits}

@@ -5,6 +5,7 @@ use native.Mathlib.Omega.{arith}
 use lib.ListN.{length}
 use mir.Syntax.{w64}
 use borrow.Author.Needs.{needs}
+use Rattle.integers.specs.Order.{within-add}
 use Rattle.integers.specs.Product.{abs}
 use Rattle.integers.specs.Sum.{sumTo}
 use Rattle.integers.specs.Machine.{fit}
@@ -12,7 +13,7 @@ use Rattle.rules.specs.Table.{at}
 use Rattle.rules.specs.Certificate.{itemsAt}
 use Rattle.rules.specs.Limits.{maxBits}
 use Rattle.judge.specs.Rows.{sizeLimit, scaledLimit, AllPlaced, rowsIn}
-use Rattle.judge.proofs.SignedLaws.{sized, plus-fits, plus-reads, plus-within}
+use Rattle.judge.proofs.SignedLaws.{sized, plus-fits, plus-reads}
 use Rattle.judge.proofs.RowLaws.{bound-is, all-within}
 use Rattle.judge.proofs.bound.bound_of.Statement.{statement}
 use Rattle.judge.proofs.bound.bound_of.Tie as tie
@@ -46,7 +47,7 @@ returns c =
     let long : length (c .before .before .before .put-entries .last .0) ≡ length (args .frame .now) = omega arith in (
       sum ∙ bound-is (args .scale) (args .frame .now) (c .before .before .before .before .before .before .scale-frame .last .0) (c .before .before .before .put-entries .last .0) (rowsIn (args .starts .now) (args .members .now) (itemsAt (args .bytes .now) (args .q) 0 (args .q))) a b
           (omega arith) (c .before .before .before .before .before .before .scale-frame .ensures) (c .before .before .before .put-entries .ensures .2) (c .sizes .ensures .0 ∙ ap (λ n. sumTo n (λ i. abs (at (c .before .before .before .put-entries .last .0) i))) long) (c .before .before .before .put-entries .ensures .0),
-      sized sum (plus-within (maxBits * sizeLimit) sizeLimit a b (c .sizes .ensures .1) (c .before .before .before .put-entries .ensures .1)) .1,
+      sized sum (within-add (maxBits * sizeLimit) sizeLimit a b (c .sizes .ensures .1) (c .before .before .before .put-entries .ensures .1)) .1,
     )
 
 pub bound-of-spec : {M : Type 1} → statement M

@@ -22,10 +22,10 @@ use Rattle.judge.proofs.bound.gap_of.Statement.{statement}
 use Rattle.judge.proofs.bound.gap_of.Tie as tie
 
 u16-at-requires : tie.Need-u16-at-requires
-u16-at-requires c κs = omega (arith, c .before .before .before .before .pre .3 .long .size)
+u16-at-requires c κs = search needs
 
 u16-at-requires-2 : tie.Need-u16-at-requires-2
-u16-at-requires-2 c κs = omega (arith, c .before .before .before .before .before .pre .3 .long .size)
+u16-at-requires-2 c κs = search needs
 
 array-borrow-prefix-reduced : tie.Need-array-borrow-prefix-reduced
 array-borrow-prefix-reduced c = search needs

@@ -7,6 +7,7 @@ use lib.IntN.{ℤ, _+ℤ_}
 use lib.ListN.{length}
 use mir.Syntax.{w64}
 use mir.Val.{toZ}
+use Rattle.integers.specs.Order.{within-wider}
 use Rattle.integers.specs.Machine.{fit}
 use Rattle.integers.specs.Linear.{Within}
 use Rattle.rules.specs.Limits.{maxDegree}
@@ -16,8 +17,8 @@ use Rattle.rules.specs.Certificate.{itemAt, itemsAt}
 use Rattle.rules.proofs.Masks.{set-length}
 use Rattle.rules.specs.Scatter.{scatterRow, scatterRows}
 use Rattle.judge.specs.Rows.{scaledLimit, rowLimit, sizeLimit, rowIn, rowsIn, Placed}
-use Rattle.judge.proofs.SignedLaws.{sized, wider, summed-fits, summed-more}
-use Rattle.judge.proofs.HeldLaws.{part-length}
+use Rattle.judge.proofs.SignedLaws.{sized, summed-fits, summed-more}
+use Rattle.table.proofs.HeldLaws.{part-length}
 use Rattle.judge.proofs.RowLaws.{row-within, price-within, rows-more, rows-end, rows-all, rows-put, rows-price, row-length, price-none, price-end}
 use Rattle.judge.proofs.bound.put_entries.Statement.{statement}
 use Rattle.judge.proofs.bound.put_entries.Tie as tie
@@ -40,7 +41,7 @@ loop-holds c =
       omega arith,
       refl,
       ap (λ rs. scatterRows rs (args .reduced .now)) all,
-      λ i. wider scaledLimit (scaledLimit + rowLimit * 0) _ (omega arith) (c .before .before .before .pre .1 i),
+      λ i. within-wider scaledLimit (scaledLimit + rowLimit * 0) _ (omega arith) (c .before .before .before .pre .1 i),
       price-none _ _ (ap price all),
       record { hi = omega arith; lo = omega arith },
     )
@@ -52,7 +53,7 @@ put-entry-requires c κs =
     let all = c .before .before .before .before .before .before .pre .0 in (
       record { long = all .long; inside = test },
       subst (λ n. Placed n (c .before .before .before .before .before .before .args .starts .now) (c .before .before .before .before .before .before .args .members .now) (itemAt (c .before .before .before .before .before .before .args .bytes .now) (c .before .before .before .before .before .before .args .q) (loop .k))) (sym (loop .inv .1)) (all .each (loop .k) test),
-      λ i. wider (scaledLimit + rowLimit * loop .k) sizeLimit _ (omega (arith, all .long .few)) (loop .inv .3 i),
+      λ i. within-wider (scaledLimit + rowLimit * loop .k) sizeLimit _ (omega (arith, all .long .few)) (loop .inv .3 i),
     )
 
 -- what the entry adds at most, and its price
@@ -92,7 +93,7 @@ loop-again c =
       omega arith,
       row-length row (loop .reduced) _ (c .before .put-entry .ensures .1) ∙ loop .inv .1,
       rows-put row rest _ more (loop .reduced) _ _ (c .before .put-entry .ensures .1) (loop .inv .2),
-      λ i. sized (ap (λ l. at l i) (c .before .put-entry .ensures .1)) (wider (scaledLimit + rowLimit * loop .k + rowLimit) (scaledLimit + rowLimit * (loop .k + 1)) _ (omega arith) (added (c .before) .0 (scaledLimit + rowLimit * loop .k) (loop .reduced) (loop .inv .3) i)) .1,
+      λ i. sized (ap (λ l. at l i) (c .before .put-entry .ensures .1)) (within-wider (scaledLimit + rowLimit * loop .k + rowLimit) (scaledLimit + rowLimit * (loop .k + 1)) _ (omega arith) (added (c .before) .0 (scaledLimit + rowLimit * loop .k) (loop .reduced) (loop .inv .3) i)) .1,
       rows-price row rest _ more (toZ w64 (loop .total)) x _ _ (sum .0) (c .before .put-entry .ensures .0) (loop .inv .4),
       sum .1,
     )
@@ -106,9 +107,9 @@ returns c =
     let loop = c .before .loop in
     let none = rows-end (args .starts .now) (args .members .now) (args .bytes .now) (args .q) (loop .k) (c .loop-test .left) in (
       price-end (toZ w64 (loop .total)) _ _ none (loop .inv .4),
-      wider (rowLimit * loop .k) sizeLimit _ (omega (arith, c .before .before .before .before .before .pre .0 .long .few)) (loop .inv .5),
+      within-wider (rowLimit * loop .k) sizeLimit _ (omega (arith, c .before .before .before .before .before .pre .0 .long .few)) (loop .inv .5),
       ap (λ rs. scatterRows rs (loop .reduced)) (sym none) ∙ loop .inv .2,
-      λ i. wider (scaledLimit + rowLimit * loop .k) sizeLimit _ (omega (arith, c .before .before .before .before .before .pre .0 .long .few)) (loop .inv .3 i),
+      λ i. within-wider (scaledLimit + rowLimit * loop .k) sizeLimit _ (omega (arith, c .before .before .before .before .before .pre .0 .long .few)) (loop .inv .3 i),
     )
 
 pub put-entries-spec : {M : Type 1} → statement M

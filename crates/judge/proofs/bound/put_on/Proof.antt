@@ -7,6 +7,7 @@ use lib.IntN.{_+ℤ_}
 use lib.ListN.{length, getD, drop, set, length-set}
 use mir.Syntax.{w64}
 use mir.Val.{SFits, toZ, ofZ}
+use Rattle.integers.specs.Order.{within-wider}
 use Rattle.integers.specs.Machine.{fit}
 use Rattle.integers.specs.Linear.{Within}
 use Rattle.rules.specs.Limits.{maxMultiplier}
@@ -15,8 +16,8 @@ use Rattle.rules.specs.Mask.{setOf}
 use Rattle.rules.specs.Bound.{weights}
 use Rattle.rules.specs.Scatter.{scatter}
 use Rattle.judge.specs.Rows.{sizeLimit}
-use Rattle.judge.proofs.SignedLaws.{sized, wider, plus-fits, plus-reads}
-use Rattle.judge.proofs.CheckLaws.{member-below}
+use Rattle.rules.proofs.Duality.{below-at}
+use Rattle.judge.proofs.SignedLaws.{sized, plus-fits, plus-reads}
 use Rattle.judge.proofs.RowLaws.{side-within, put-within, scatter-more, scatter-end, scatter-all}
 use Rattle.judge.proofs.bound.put_on.Statement.{statement}
 use Rattle.judge.proofs.bound.put_on.Tie as tie
@@ -33,7 +34,7 @@ abbrev μ-loop : tie.MeasureT-loop
 loop-holds : tie.Need-loop-holds Inv-loop μ-loop
 loop-holds c =
     let args = c .before .args in
-    (omega arith, refl, scatter-all (args .multiplier) (args .mask) (args .members .now) (args .reduced .now), λ i. wider sizeLimit (sizeLimit + maxMultiplier * 0) _ (omega arith) (c .before .pre .3 i))
+    (omega arith, refl, scatter-all (args .multiplier) (args .mask) (args .members .now) (args .reduced .now), λ i. within-wider sizeLimit (sizeLimit + maxMultiplier * 0) _ (omega arith) (c .before .pre .3 i))
 
 mul-i : tie.Need-mul-i Inv-loop μ-loop
 mul-i c = omega arith
@@ -53,7 +54,7 @@ mul-reduced c = omega (arith, c .before .shared-slice-known2 .given (c .before .
 inside : (c : tie.After-shared-slice-known2 Inv-loop μ-loop) → getD (c .before .before .before .before .args .members .now) (c .before .before .loop .k) 0 < length (c .before .before .loop .reduced)
 inside c =
     let start = c .before .before .before .before in
-    omega (arith, c .before .before .loop .inv .1, member-below (length (start .args .reduced .now)) (start .args .members .now) (c .before .before .loop .k) (start .pre .0) (c .before .loop-test .taken))
+    omega (arith, c .before .before .loop .inv .1, below-at (length (start .args .reduced .now)) (start .args .members .now) (c .before .before .loop .k) (c .before .loop-test .taken) (start .pre .0))
 
 slice-copy-out-reduced : tie.Need-slice-copy-out-reduced Inv-loop μ-loop
 slice-copy-out-reduced c = inside (c .before)
@@ -98,7 +99,7 @@ loop-again c =
           (put ∙ ap (λ z. set (loop .reduced) i (at (loop .reduced) i +ℤ z)) (c .before .weight .ensures))
           ∙ scatter-more (args .multiplier) (loop .left) (loop .k) (args .members .now) (loop .reduced) (c .before .before .before .loop-test .taken)
           ∙ loop .inv .2,
-      λ j. sized (ap (λ l. at l j) put) (wider (sizeLimit + maxMultiplier * loop .k + maxMultiplier) (sizeLimit + maxMultiplier * (loop .k + 1)) _ (omega arith)
+      λ j. sized (ap (λ l. at l j) put) (within-wider (sizeLimit + maxMultiplier * loop .k + maxMultiplier) (sizeLimit + maxMultiplier * (loop .k + 1)) _ (omega arith)
           (put-within (sizeLimit + maxMultiplier * loop .k) maxMultiplier (loop .reduced) i w (weighed (c .before)) (loop .inv .3) j)) .1,
     )
 

@@ -8,13 +8,14 @@ use mir.Syntax.{w16, w64}
 use mir.Val.{toZ, ofZ}
 use mir.Facts.{toZ-ofZ}
 use borrow.Author.Needs.{needs}
+use Rattle.integers.specs.Order.{within-wider}
 use Rattle.integers.specs.Machine.{fit}
 use Rattle.integers.specs.Linear.{Within}
 use Rattle.integers.specs.Product.{within-*}
 use Rattle.rules.specs.Limits.{maxBits, maxScale}
 use Rattle.rules.specs.Table.{at}
 use Rattle.judge.specs.Rows.{frameSize, Scaled}
-use Rattle.judge.proofs.SignedLaws.{sized, wider, pos-within}
+use Rattle.judge.proofs.SignedLaws.{sized, pos-within}
 use Rattle.judge.proofs.RowLaws.{scaled-more}
 use Rattle.judge.proofs.bound.scale_frame.Statement.{statement}
 use Rattle.judge.proofs.bound.scale_frame.Tie as tie
@@ -38,7 +39,7 @@ wide-requires : tie.Need-wide-requires Inv-loop μ-loop
 wide-requires c κs = tt
 
 times-requires : tie.Need-times-requires Inv-loop μ-loop
-times-requires c κs = (c .before .before .before .before .pre .1, wider frameSize (maxBits * frameSize) _ (omega arith) (sized (toZ-ofZ (fit w64 (c .wide .result) (c .wide .ok))) (c .wide .ensures .1) .1))
+times-requires c κs = (c .before .before .before .before .pre .1, within-wider frameSize (maxBits * frameSize) _ (omega arith) (sized (toZ-ofZ (fit w64 (c .wide .result) (c .wide .ok))) (c .wide .ensures .1) .1))
 
 mul-t11 : tie.Need-mul-t11 Inv-loop μ-loop
 mul-t11 c = search needs

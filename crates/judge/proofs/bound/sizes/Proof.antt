@@ -8,13 +8,14 @@ use mir.Syntax.{w64}
 use mir.Val.{SFits}
 use mir.Facts.{toZ-ofZ}
 use borrow.Author.Needs.{needs}
+use Rattle.integers.specs.Order.{within-wider}
 use Rattle.integers.specs.Machine.{fit}
 use Rattle.integers.specs.Product.{abs}
 use Rattle.integers.specs.Sum.{sumTo}
 use Rattle.rules.specs.Limits.{maxBits}
 use Rattle.rules.specs.Table.{at}
 use Rattle.judge.specs.Rows.{sizeLimit}
-use Rattle.judge.proofs.SignedLaws.{sized, wider, Summed, summed-none, summed-fits, summed-more, sum-next}
+use Rattle.judge.proofs.SignedLaws.{sized, Summed, summed-none, summed-fits, summed-more, sum-next}
 use Rattle.judge.proofs.bound.sizes.Statement.{statement}
 use Rattle.judge.proofs.bound.sizes.Tie as tie
 
@@ -62,7 +63,7 @@ returns : tie.Need-returns Inv-loop μ-loop
 returns c =
     let loop = c .before .loop in
     let all : loop .i ≡ length (c .before .before .args .reduced .now) = omega arith in
-    (loop .inv .1 .0 ∙ ap (λ n. sumTo n (λ j. abs (at (c .before .before .args .reduced .now) j))) all, wider (sizeLimit * loop .i) (maxBits * sizeLimit) _ (omega arith) (loop .inv .1 .1))
+    (loop .inv .1 .0 ∙ ap (λ n. sumTo n (λ j. abs (at (c .before .before .args .reduced .now) j))) all, within-wider (sizeLimit * loop .i) (maxBits * sizeLimit) _ (omega arith) (loop .inv .1 .1))
 
 pub sizes-spec : {M : Type 1} → statement M
 sizes-spec =

@@ -7,7 +7,7 @@ use Rattle.rules.specs.Table.{bitsAt}
 use Rattle.rules.specs.Parity.{odd, firstBroken}
 use Rattle.rules.specs.Input.{bitsOf}
 use Rattle.rules.proofs.Duality.{Below}
-use Rattle.judge.specs.Held.{partAt, partsFrom}
+use Rattle.table.specs.Held.{partAt, partsFrom}
 use Rattle.judge.proofs.CheckLaws.{broken-here, broken-later, broken-none, parts-all}
 use Rattle.judge.proofs.checks.first_broken.Statement.{statement}
 use Rattle.judge.proofs.checks.first_broken.Tie as tie

@@ -7,7 +7,8 @@ use borrow.Author.Needs.{needs}
 use Rattle.rules.specs.Table.{bitsAt}
 use Rattle.rules.specs.Parity.{_⊕_, odd}
 use Rattle.rules.specs.Input.{bitsOf}
-use Rattle.judge.proofs.CheckLaws.{member-below, odd-more, odd-end}
+use Rattle.rules.proofs.Duality.{below-at}
+use Rattle.judge.proofs.CheckLaws.{odd-more, odd-end}
 use Rattle.judge.proofs.checks.odd_check.Statement.{statement}
 use Rattle.judge.proofs.checks.odd_check.Tie as tie
 
@@ -32,7 +33,7 @@ cast-i c = omega (arith, c .shared-slice-known3 .given (c .before .before .loop 
 shared-slice-read-flipped : tie.Need-shared-slice-read-flipped Inv-loop μ-loop
 shared-slice-read-flipped c =
     let start = c .before .before .before .before .before .before in
-    member-below (length (start .args .word .now)) (start .args .members .now) (c .before .before .before .loop .k) (start .pre) (c .before .before .loop-test .taken)
+    below-at (length (start .args .word .now)) (start .args .members .now) (c .before .before .before .loop .k) (c .before .before .loop-test .taken) (start .pre)
 
 flipped-requires : tie.Need-flipped-requires Inv-loop μ-loop
 flipped-requires c κs = tt

@@ -3,9 +3,11 @@ use mathlib.Core.Path.{_≡_, sym, _∙_, ap}
 use Prim.Native.Nat.{_-_, _≤_, _+_}
 use native.Mathlib.Omega.{arith}
 use Rattle.rules.specs.Certificate.{itemsAt}
-use Rattle.judge.specs.Held.{degreeAt}
-use Rattle.judge.specs.Refusals.{beforeAt, orElse, itemsRefusal}
-use Rattle.judge.proofs.RefusalLaws.{else-refused, else-next, items-more, items-end, items-all}
+use Rattle.table.specs.Held.{degreeAt}
+use Rattle.inputs.specs.Refusals.{orElse}
+use Rattle.judge.specs.Refusals.{beforeAt, itemsRefusal}
+use Rattle.inputs.proofs.RefusalLaws.{else-refused, else-next}
+use Rattle.judge.proofs.RefusalLaws.{items-more, items-end, items-all}
 use Rattle.judge.proofs.entries.entries_refusal.Statement.{statement}
 use Rattle.judge.proofs.entries.entries_refusal.Tie as tie
 

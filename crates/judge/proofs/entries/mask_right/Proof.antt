@@ -2,6 +2,7 @@
 use mathlib.Core.Path.{_≡_, sym, _∙_, ap}
 use Prim.Native.Nat.{ℕ, _*_, _%_, _^_}
 use native.Mathlib.Omega.{arith}
+use native.Mathlib.Nat.{one-mul}
 use lib.Dec.{ltb}
 use lib.Count.{ones}
 use lib.Pow.{shl-exact}
@@ -21,13 +22,10 @@ cast-result-2 c = search needs
 shl-result : tie.Need-shl-result
 shl-result c = search needs
 
-one-times : (n : ℕ) → 1 * n ≡ n
-one-times n = omega arith
-
 returns : tie.Need-returns
 unfolding maskRight
 returns c =
-    ap (ltb (c .before .args .mask)) (shl-exact {a = 1} 1 (c .before .args .d) 64 (omega arith) (omega arith) ∙ one-times (2 ^ c .before .args .d))
+    ap (ltb (c .before .args .mask)) (shl-exact {a = 1} 1 (c .before .args .d) 64 (omega arith) (omega arith) ∙ one-mul (2 ^ c .before .args .d))
     ∙ sym (and-holds _ _ (eq-eqb (ones (c .before .args .mask) % 2) 1 (c .if1 .taken)))
 
 returns-2 : tie.Need-returns-2

@@ -1,6 +1,6 @@
 -- `judge_table` meets its contract. Assumes nothing.
 use mathlib.Core.Path.{_∙_}
-use Rattle.judge.proofs.HeldLaws.{held-ordered}
+use Rattle.table.proofs.HeldLaws.{held-ordered}
 use Rattle.judge.proofs.StageLaws.{unrefused, judge-turned, judge-passes}
 use Rattle.judge.proofs.stages.judge_table.Statement.{statement}
 use Rattle.judge.proofs.stages.judge_table.Tie as tie

@@ -1,9 +1,9 @@
 -- `refusal_of` meets its contract: each return has the tests that led there. Assumes nothing.
 use mathlib.Core.Path.{sym, _∙_, ap, ap₂}
-use Rattle.inputs.specs.Refusals.{wordRefusal}
-use Rattle.judge.proofs.RefusalLaws.{else-refused, else-next}
-use Rattle.judge.specs.Held.{degreeAt}
-use Rattle.judge.specs.Refusals.{orElse, certificateRefusal}
+use Rattle.inputs.specs.Refusals.{wordRefusal, orElse}
+use Rattle.inputs.proofs.RefusalLaws.{else-refused, else-next}
+use Rattle.table.specs.Held.{degreeAt}
+use Rattle.judge.specs.Refusals.{certificateRefusal}
 use Rattle.judge.proofs.stages.refusal_of.Statement.{statement}
 use Rattle.judge.proofs.stages.refusal_of.Tie as tie
 

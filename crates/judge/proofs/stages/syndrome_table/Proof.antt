@@ -2,7 +2,7 @@
 use mathlib.Core.Path.{sym, _∙_, ap, subst}
 use mathlib.Core.Option.{some, none}
 use borrow.Author.Needs.{needs}
-use Rattle.judge.specs.Held.{Held}
+use Rattle.table.specs.Held.{Held}
 use Rattle.judge.specs.Reply.{foundIn}
 use Rattle.judge.proofs.StageLaws.{word-long, syndrome-turned, syndrome-found}
 use Rattle.judge.proofs.stages.syndrome_table.Statement.{statement}

@@ -8,7 +8,7 @@ use mir.Facts.{toZ-ofZ}
 use borrow.Author.Needs.{needs}
 use Rattle.integers.specs.Machine.{fit, eq-lit}
 use Rattle.rules.specs.Certificate.{entriesOf}
-use Rattle.judge.specs.Held.{degreeAt, Held}
+use Rattle.table.specs.Held.{degreeAt, Held}
 use Rattle.judge.specs.Rows.{AllPlaced}
 use Rattle.judge.specs.Reply.{foundIn}
 use Rattle.judge.proofs.RefusalLaws.{certificate-passed}

@@ -8,6 +8,7 @@ use mir.Syntax.{w16, w64}
 use mir.Facts.{toZ-ofZ}
 use mir.Val.{SFits, toZ, ofZ}
 use borrow.Author.Needs.{needs}
+use Rattle.integers.specs.Order.{within-wider}
 use Rattle.integers.specs.Linear.{Within}
 use Rattle.integers.specs.Machine.{fit}
 use Rattle.integers.specs.Sum.{sumTo}
@@ -16,7 +17,7 @@ use Rattle.rules.specs.Table.{at, bit}
 use Rattle.rules.specs.Parity.{turn, agreement}
 use Rattle.rules.specs.Input.{bitsOf}
 use Rattle.judge.specs.Rows.{frameSize}
-use Rattle.judge.proofs.SignedLaws.{Summed, summed-none, summed-fits, summed-more, sum-next, wider, sized}
+use Rattle.judge.proofs.SignedLaws.{Summed, summed-none, summed-fits, summed-more, sum-next, sized}
 use Rattle.judge.proofs.CheckLaws.{bits-at}
 use Rattle.judge.proofs.sums.agreement_sum.Statement.{statement}
 use Rattle.judge.proofs.sums.agreement_sum.Tie as tie
@@ -85,7 +86,7 @@ unfolding agreement
 returns c =
     let loop = c .before .loop in
     let all : loop .i ≡ length (c .before .before .before .args .frame .now) = omega arith in
-    (loop .inv .1 .0 ∙ ap (λ n. sumTo n (λ j. turn (bit (bitsOf (c .before .before .before .args .word .now)) j) (at (c .before .before .before .args .frame .now) j))) all, wider (frameSize * loop .i) (maxBits * frameSize) _ (omega arith) (loop .inv .1 .1))
+    (loop .inv .1 .0 ∙ ap (λ n. sumTo n (λ j. turn (bit (bitsOf (c .before .before .before .args .word .now)) j) (at (c .before .before .before .args .frame .now) j))) all, within-wider (frameSize * loop .i) (maxBits * frameSize) _ (omega arith) (loop .inv .1 .1))
 
 pub agreement-sum-spec : {M : Type 1} → statement M
 agreement-sum-spec =

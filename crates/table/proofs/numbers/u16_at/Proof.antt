@@ -1,45 +1,46 @@
--- `u16_at` meets its contract: a byte is below 256. Assumes nothing.
-use mathlib.Core.Path.{refl}
-use Prim.Native.Nat.{_+_}
+-- `u16_at` meets its contract: past the end both bytes are 0. Assumes nothing.
+use Prim.Native.Nat.{_+_, _≤_}
 use native.Mathlib.Omega.{arith}
+use lib.ListN.{length, List·getD-eq-default}
+use borrow.Author.Needs.{needs}
 use Rattle.rules.specs.Bytes.{u16At}
 use Rattle.table.proofs.numbers.u16_at.Statement.{statement}
 use Rattle.table.proofs.numbers.u16_at.Tie as tie
 
-shared-slice-read-low : tie.Need-shared-slice-read-low
-shared-slice-read-low c = omega arith
-
-cast-low : tie.Need-cast-low
-cast-low c = omega (arith, c .shared-slice-known .given (c .before .args .at))
-
-add-high : tie.Need-add-high
-add-high c = omega arith
-
-shared-slice-read-high : tie.Need-shared-slice-read-high
-shared-slice-read-high c = omega arith
-
-cast-high : tie.Need-cast-high
-cast-high c = omega (arith, c .shared-slice-known2 .given (c .before .before .args .at + 1))
-
-mul-result : tie.Need-mul-result
-mul-result c = omega (arith, c .shared-slice-known2 .given (c .before .before .args .at + 1))
-
-add-result : tie.Need-add-result
-add-result c = omega (arith, c .shared-slice-known2 .given (c .before .before .args .at), c .shared-slice-known2 .given (c .before .before .args .at + 1))
-
 returns : tie.Need-returns
 unfolding u16At
-returns c = (refl, omega (arith, c .shared-slice-known2 .given (c .before .before .args .at), c .shared-slice-known2 .given (c .before .before .args .at + 1)))
+returns c =
+    let bytes = c .before .before .args .bytes .now in
+    let next : length bytes ≤ c .before .before .args .at + 1 = omega arith in
+    (omega (arith, List·getD-eq-default bytes 0 (c .if1 .taken), List·getD-eq-default bytes 0 next), omega arith)
+
+byte-at-requires : tie.Need-byte-at-requires
+byte-at-requires c κs = search needs
+
+add-byte-at : tie.Need-add-byte-at
+add-byte-at c = search needs
+
+byte-at-requires-2 : tie.Need-byte-at-requires-2
+byte-at-requires-2 c κs = search needs
+
+mul-result : tie.Need-mul-result
+mul-result c = search needs
+
+add-result : tie.Need-add-result
+add-result c = search needs
+
+returns-2 : tie.Need-returns-2
+unfolding u16At
+returns-2 c = (omega arith, omega arith)
 
 pub u16-at-spec : {M : Type 1} → statement M
 u16-at-spec =
     tie.close
     (tie.spec
-    shared-slice-read-low
-    cast-low
-    add-high
-    shared-slice-read-high
-    cast-high
+    returns
+    byte-at-requires
+    add-byte-at
+    byte-at-requires-2
     mul-result
     add-result
-    returns)
+    returns-2)

@@ -1,12 +1,12 @@
--- `read_code` meets its contract: a part of the buffer is as long as the record says. Assumes nothing.
+-- `read_part` meets its contract: a part of the buffer is as long as the record says. Assumes nothing.
 use native.Mathlib.Omega.{arith}
 use lib.ListN.{length-take}
 use borrow.Author.Needs.{needs}
-use Rattle.cut_cases.proofs.read_code.Statement.{statement}
-use Rattle.cut_cases.proofs.read_code.Tie as tie
+use Rattle.stream.proofs.read_part.Statement.{statement}
+use Rattle.stream.proofs.read_part.Tie as tie
 
-read-number-requires : tie.Need-read-number-requires
-read-number-requires c κs = search needs
+read-u32-requires : tie.Need-read-u32-requires
+read-u32-requires c κs = search needs
 
 returns : tie.Need-returns
 returns c = search needs
@@ -32,11 +32,11 @@ same-length-2 c = search needs
 returns-3 : tie.Need-returns-3
 returns-3 c = search needs
 
-pub read-code-spec : {M : Type 1} → statement M
-read-code-spec =
+pub read-part-spec : {M : Type 1} → statement M
+read-part-spec =
     tie.close
     (tie.spec
-    read-number-requires
+    read-u32-requires
     returns
     slice-relend-prefix-read-full
     slice-aggregate-read-full

@@ -2,26 +2,27 @@
 use mathlib.Core.Path.{_≡_, refl, sym, _∙_, ap, ap₂, subst}
 use mathlib.Core.List.{List, [], _∷_, _++_}
 use Prim.Native.Nat.{ℕ, zero, suc, _+_, _-_, _≤_, _<_}
+use native.Mathlib.Nat.{add-zero, zero-add, le-add-right, le-of-eq, le-of-suc-le-suc, not-suc-le-zero}
 use native.Mathlib.Omega.{arith}
 use native.Mathlib.Numerals.{add-one}
 use lib.IntN.{pos}
 use lib.ListN.{length, getD, take, drop, length-append, length-drop, drop-of-length-le, List·getD-append}
 use lib.Seq.{length-take-le, take-append-le, drop-append-le, drop-cons}
-use Rattle.rules.specs.Limits.{maxDegree, maxBits, maxChecks, maxEdges, contentsEnd}
-use Rattle.rules.specs.Refusal.{Answer, refused, gives, Reply, replyOf}
+use Rattle.integers.specs.Count.{first-in, one-on}
+use Rattle.rules.specs.Limits.{maxBits, maxChecks, maxEdges, contentsEnd}
+use Rattle.rules.specs.Refusal.{refused, gives, Reply}
 use Rattle.rules.specs.Table.{Table, edges, checksOf}
-use Rattle.rules.specs.CodeFile.{tableAt, codeFile, tableValues, codeFileReply}
+use Rattle.rules.specs.CodeFile.{tableAt, codeFile, codeFileReply}
 use Rattle.rules.proofs.Duality.{Below}
-use Rattle.rules.proofs.Optimal.{AllBelow}
-use Rattle.rules.proofs.Tables.{Degrees, Sound, file-sound}
+use Rattle.rules.proofs.Judged.{members-below}
+use Rattle.rules.proofs.Tables.{Sound, degree-at, file-sound}
 use Rattle.rules.proofs.FileLaws.{bodies-length}
 use Rattle.table.specs.Starts.{startsOf}
 use Rattle.table.specs.Loaded.{laid, loaded}
+use Rattle.table.specs.Held.{degreeAt, partAt, partsFrom, tableIn, Part, Ordered, Held}
 use Rattle.table.proofs.StartsLaws.{starts-length, starts-next, check-part}
 use Rattle.table.proofs.AcceptedLaws.{readable, refused-is}
-use Rattle.table.proofs.LoadedLaws.{loaded-room}
-use Rattle.judge.specs.Held.{degreeAt, partAt, partsFrom, tableIn, Part, Ordered, Held}
-use Rattle.judge.proofs.CheckLaws.{none-below, less-before}
+use Rattle.table.proofs.LoadedLaws.{laid-reply, loaded-room}
 
 -- ---- check by check
 pub parts-length : (starts members : List ℕ) (j k : ℕ) → length (partsFrom starts members j k) ≡ k
@@ -31,21 +32,12 @@ parts-length starts members j (suc k) = ap suc (parts-length starts members (j +
 
 parts-from : (starts members : List ℕ) (i k j : ℕ) → j < k → getD (partsFrom starts members i k) j [] ≡ partAt starts members (i + j)
 unfolding partsFrom
-parts-from starts members i zero j h = absurd (none-below j h)
-parts-from starts members i (suc k) zero h = ap (partAt starts members) (at-zero i)
-  where
-    at-zero : (i : ℕ) → i ≡ i + 0
-    at-zero i = omega arith
-parts-from starts members i (suc k) (suc j) h = parts-from starts members (i + 1) k j (less-before j k h) ∙ ap (partAt starts members) (shift i j)
-  where
-    shift : (i j : ℕ) → i + 1 + j ≡ i + suc j
-    shift i j = omega arith
+parts-from starts members i zero j h = absurd (not-suc-le-zero h)
+parts-from starts members i (suc k) zero h = ap (partAt starts members) (sym (add-zero i))
+parts-from starts members i (suc k) (suc j) h = parts-from starts members (i + 1) k j (le-of-suc-le-suc h) ∙ ap (partAt starts members) (one-on i j)
 
 pub parts-at : (starts members : List ℕ) (m j : ℕ) → j < m → getD (partsFrom starts members 0 m) j [] ≡ partAt starts members j
-parts-at starts members m j h = parts-from starts members 0 m j h ∙ ap (partAt starts members) (none j)
-  where
-    none : (j : ℕ) → 0 + j ≡ j
-    none j = omega arith
+parts-at starts members m j h = parts-from starts members 0 m j h ∙ ap (partAt starts members) (zero-add j)
 
 pub part-length : (n : ℕ) (starts members : List ℕ) (j : ℕ) → Part n starts members j → length (partAt starts members j) ≡ degreeAt starts j
 part-length n starts members j p =
@@ -57,35 +49,13 @@ held-ordered n m starts members h j k = h j k .start
 -- ---- from the table to the slices: what is past the starts and the members does not matter
 starts-most : (s : ℕ) (cs : List (List ℕ)) (j : ℕ) → j ≤ length cs → getD (startsOf s cs) j 0 ≤ s + length (edges cs)
 unfolding startsOf
-starts-most s [] zero h = self s
-  where
-    self : (s : ℕ) → s ≤ s + 0
-    self s = omega arith
-starts-most s [] (suc j) h = absurd (over-none j h)
-  where
-    over-none : (j : ℕ) → suc j ≤ 0 → ⊥
-    over-none j h = omega arith
-starts-most s (ms ∷ cs) zero h = more s (length (ms ++ edges cs))
-  where
-    more : (s k : ℕ) → s ≤ s + k
-    more s k = omega arith
-starts-most s (ms ∷ cs) (suc j) h = regroup s (length ms) (length (edges cs)) (length (ms ++ edges cs)) (getD (startsOf (s + length ms) cs) j 0) (length-append ms (edges cs)) (starts-most (s + length ms) cs j (before j (length cs) h))
+starts-most s [] zero h = le-add-right s 0
+starts-most s [] (suc j) h = absurd (not-suc-le-zero h)
+starts-most s (ms ∷ cs) zero h = le-add-right s (length (ms ++ edges cs))
+starts-most s (ms ∷ cs) (suc j) h = regroup s (length ms) (length (edges cs)) (length (ms ++ edges cs)) (getD (startsOf (s + length ms) cs) j 0) (length-append ms (edges cs)) (starts-most (s + length ms) cs j (le-of-suc-le-suc h))
   where
     regroup : (s a b c x : ℕ) → c ≡ a + b → x ≤ s + a + b → x ≤ s + c
     regroup s a b c x e h = omega arith
-
-    before : (j k : ℕ) → suc j ≤ suc k → j ≤ k
-    before j k h = omega arith
-
-below-at : (n : ℕ) (cs : List (List ℕ)) (j : ℕ) → j < length cs → AllBelow n cs → Below n (getD cs j [])
-below-at n [] j h b = absurd (none-below j h)
-below-at n (ms ∷ cs) zero h b = b .0
-below-at n (ms ∷ cs) (suc j) h b = below-at n cs j (less-before j (length cs) h) (b .1)
-
-degree-at : (cs : List (List ℕ)) (j : ℕ) → j < length cs → Degrees cs → length (getD cs j []) ≤ maxDegree
-degree-at [] j h d = absurd (none-below j h)
-degree-at (ms ∷ cs) zero h d = d .0 .1
-degree-at (ms ∷ cs) (suc j) h d = degree-at cs j (less-before j (length cs) h) (d .1)
 
 module _ (t : Table) (more₁ more₂ : List ℕ) where
   abbrev cs : List (List ℕ)
@@ -124,19 +94,10 @@ module _ (t : Table) (more₁ more₂ : List ℕ) where
 
   parts-are : (k j : ℕ) → j + k ≡ checksOf t → partsFrom starts members j k ≡ drop j cs
   unfolding partsFrom
-  parts-are zero j e = sym (drop-of-length-le cs (all j (checksOf t) e))
-    where
-      all : (j k : ℕ) → j + 0 ≡ k → k ≤ j
-      all j k e = omega arith
+  parts-are zero j e = sym (drop-of-length-le cs (le-of-eq (sym e ∙ add-zero j)))
   parts-are (suc k) j e =
-      let h = inside j k (checksOf t) e in
-      ap₂ _∷_ (part-is j h) (parts-are k (j + 1) (shift j k (checksOf t) e) ∙ ap (λ i. drop i cs) (add-one j)) ∙ sym (drop-cons cs j [] h)
-    where
-      inside : (j k m : ℕ) → j + suc k ≡ m → j < m
-      inside j k m e = omega arith
-
-      shift : (j k m : ℕ) → j + suc k ≡ m → j + 1 + k ≡ m
-      shift j k m e = omega arith
+      let h = first-in j k (checksOf t) (le-of-eq e) in
+      ap₂ _∷_ (part-is j h) (parts-are k (j + 1) (one-on j k ∙ e) ∙ ap (λ i. drop i cs) (add-one j)) ∙ sym (drop-cons cs j [] h)
 
   table-held : Sound t → Held (t .bits) (checksOf t) starts members × (tableIn (t .bits) (checksOf t) starts members ≡ t)
   table-held s = (
@@ -144,10 +105,10 @@ module _ (t : Table) (more₁ more₂ : List ℕ) where
       start = record {
         room = omega (arith, starts-length 0 cs, length-append (startsOf 0 cs) more₁);
         order = omega (arith, next-is j h);
-        degree = omega (arith, next-is j h, degree-at cs j h (s .degrees));
+        degree = omega (arith, next-is j h, degree-at cs j h (s .degrees) .1);
       };
       end = omega (arith, end-is j h, length-append (edges cs) more₂);
-      inside = subst (Below (t .bits)) (sym (part-is j h)) (below-at (t .bits) cs j h (s .below));
+      inside = subst (Below (t .bits)) (sym (part-is j h)) (members-below (t .bits) cs j h (s .below));
     },
     ap (λ x. record { bits = t .bits; checks = x }) (parts-are (checksOf t) 0 (omega arith)),
   )
@@ -158,11 +119,6 @@ pub record Opened (file : List ℕ) (n m : ℕ) (starts members : List ℕ) : Ty
   pub held : Held n m starts members
   pub same : tableIn n m starts members ≡ tableAt file n m
   pub few : n ≤ maxBits
-
-laid-reply : (a : Answer Table) (s ms : List ℕ) → laid a s ms .reply ≡ replyOf tableValues a
-unfolding laid
-laid-reply (refused k) s ms = refl
-laid-reply (gives t) s ms = refl
 
 module _ (file s₀ ms₀ : List ℕ) (r : Reply) (s ms : List ℕ) (hs : maxChecks < length s₀) (hm : maxEdges ≤ length ms₀)
     (e : record { reply = r; starts = s; members = ms } ≡ loaded file s₀ ms₀) where

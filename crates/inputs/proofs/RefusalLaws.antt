@@ -1,0 +1,47 @@
+-- A refusal's number, 0 for none: which of two comes first, and what it is in front of an answer. Assumes nothing.
+use mathlib.Core.Path.{_≡_, refl, sym, ap}
+use mathlib.Core.Bool.{Bool, true, false, cond}
+use mathlib.Core.List.{List, []}
+use Prim.Native.Nat.{ℕ, zero, suc}
+use native.Mathlib.Nat.{suc-ne-zero}
+use lib.IntN.{ℤ}
+use Rattle.rules.specs.Refusal.{Answer, must, replyOf}
+use Rattle.inputs.specs.Refusals.{orElse, turnedDown}
+
+-- ---- of two
+pub else-refused : (j k : ℕ) → (j ≡ 0 → ⊥) → orElse j k ≡ j
+else-refused zero k f = absurd (f refl)
+else-refused (suc j) k f = refl
+
+pub else-next : (j k : ℕ) → j ≡ 0 → orElse j k ≡ k
+else-next j k e = ap (λ x. orElse x k) e
+
+pub else-none : (j k : ℕ) → orElse j k ≡ 0 → (j ≡ 0) × (k ≡ 0)
+else-none zero k e = (refl, e)
+else-none (suc j) k e = absurd (suc-ne-zero j e)
+
+-- ---- of a test
+pub cond-none : (b : Bool) (j k : ℕ) → cond b j (suc k) ≡ 0 → (b ≡ true) × (j ≡ 0)
+cond-none true j k e = (refl, e)
+cond-none false j k e = absurd (suc-ne-zero k e)
+
+-- ---- in front of an answer
+module _ {A : Type 0} where
+  pub test-number : (b : Bool) (k r : ℕ) (a : Answer A) → must b (suc k) (turnedDown r a) ≡ turnedDown (cond b r (suc k)) a
+  unfolding must turnedDown
+  test-number true k r a = refl
+  test-number false k r a = refl
+
+  pub turned-else : (j k : ℕ) (a : Answer A) → turnedDown j (turnedDown k a) ≡ turnedDown (orElse j k) a
+  unfolding turnedDown
+  turned-else zero k a = refl
+  turned-else (suc j) k a = refl
+
+  pub reply-refused : (f : A → List ℤ) (k : ℕ) (a : Answer A) → (k ≡ 0 → ⊥) → record { number = k; values = [] } ≡ replyOf f (turnedDown k a)
+  unfolding turnedDown replyOf
+  reply-refused f zero a h = absurd (h refl)
+  reply-refused f (suc k) a h = refl
+
+  pub reply-passes : (f : A → List ℤ) (k : ℕ) (a : Answer A) → k ≡ 0 → replyOf f a ≡ replyOf f (turnedDown k a)
+  unfolding turnedDown
+  reply-passes f k a e = ap (λ j. replyOf f (turnedDown j a)) (sym e)

@@ -1,0 +1,51 @@
+-- `read_i16_part` meets its contract: a part of the buffer is as long as the record says. Assumes nothing.
+use native.Mathlib.Omega.{arith}
+use lib.ListN.{length-take}
+use borrow.Author.Needs.{needs}
+use Rattle.stream.proofs.read_i16_part.Statement.{statement}
+use Rattle.stream.proofs.read_i16_part.Tie as tie
+
+read-u32-requires : tie.Need-read-u32-requires
+read-u32-requires c κs = search needs
+
+returns : tie.Need-returns
+returns c = search needs
+
+slice-relend-prefix-read-i16 : tie.Need-slice-relend-prefix-read-i16
+slice-relend-prefix-read-i16 c = search needs
+
+slice-aggregate-read-i16 : tie.Need-slice-aggregate-read-i16
+slice-aggregate-read-i16 c = simp length-take (omega arith)
+
+read-i16-requires : tie.Need-read-i16-requires
+read-i16-requires c κs = search needs
+
+mul-if2 : tie.Need-mul-if2
+mul-if2 c = search needs
+
+same-length : tie.Need-same-length
+same-length c = search needs
+
+returns-2 : tie.Need-returns-2
+returns-2 c = search needs
+
+same-length-2 : tie.Need-same-length-2
+same-length-2 c = search needs
+
+returns-3 : tie.Need-returns-3
+returns-3 c = search needs
+
+pub read-i16-part-spec : {M : Type 1} → statement M
+read-i16-part-spec =
+    tie.close
+    (tie.spec
+    read-u32-requires
+    returns
+    slice-relend-prefix-read-i16
+    slice-aggregate-read-i16
+    read-i16-requires
+    mul-if2
+    same-length
+    returns-2
+    same-length-2
+    returns-3)
