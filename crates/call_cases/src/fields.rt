@@ -1,7 +1,7 @@
 // A record's operation and its fields, little-endian.
 use libc::STDIN_FILENO;
 use stream::i32_of;
-use stream::u16_of;
+use table::numbers::u16_of;
 ghost use Prim.Native.Nat.{_+_, _≤_};
 ghost use lib.ListN.{length};
 

@@ -3,11 +3,11 @@
 use super::entries::check_at;
 use super::entries::mask_at;
 use super::entries::multiplier_at;
+use super::numbers::u16_at;
 use super::starts::start_at;
 use super::sums::agreement_sum;
 use super::sums::wide;
 use table::limits::MAX_BITS;
-use table::numbers::u16_at;
 ghost use mathlib.Core.Path.{_≡_};
 ghost use Prim.Native.Nat.{ℕ, _%_, _*_, _≤_, _<_};
 ghost use lib.Dec.{eqb};

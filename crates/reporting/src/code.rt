@@ -2,12 +2,20 @@
 use libc::STDIN_FILENO;
 use table::limits::MAX_CHECKS;
 use table::limits::MAX_EDGES;
-use table::numbers::u16_at;
-ghost use Prim.Native.Nat.{_≤_};
+use table::numbers::u16_of;
+ghost use Prim.Native.Nat.{_+_, _*_, _≤_, _<_};
 ghost use lib.ListN.{length};
 
 // The longest code file.
 pub(crate) const FILE_LIMIT: usize = 4 + 4 * MAX_CHECKS + 2 * MAX_EDGES;
+
+// The number at byte `at`, little-endian.
+pub(crate) fn u16_at(bytes: &[u8], at: usize) -> usize
+    requires { ⌜ at + 1 < length (now bytes) ⌝ }
+    ensures { λ r. ⌜ r < 65536 ⌝ }
+{
+    u16_of(bytes[at], bytes[at + 1])
+}
 
 // Reads on to byte `end`, and answers where the input ended.
 fn read_on(file: &mut [u8], at: usize, end: usize) -> usize
@@ -19,7 +27,7 @@ fn read_on(file: &mut [u8], at: usize, end: usize) -> usize
 
 // "E is the sum of counts"
 fn total_count(file: &[u8], checks: usize) -> usize
-    requires { ⌜ checks ≤ 2048 ⌝ }
+    requires { ⌜ (4 + 4 * checks ≤ length (now file)) × (checks ≤ 2048) ⌝ }
 {
     let mut edges: usize = 0;
     let mut j: usize = 0;

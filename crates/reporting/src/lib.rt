@@ -4,6 +4,7 @@ mod code;
 
 use code::FILE_LIMIT;
 use code::read_code;
+use code::u16_at;
 use decoder::Called;
 use decoder::Outcome;
 use decoder::Record;
@@ -16,7 +17,6 @@ use table::Checked;
 use table::limits::MAX_BITS;
 use table::limits::MAX_CHECKS;
 use table::limits::MAX_EDGES;
-use table::numbers::u16_at;
 ghost use Prim.Native.Nat.{_≤_};
 ghost use lib.ListN.{length};
 
@@ -63,7 +63,9 @@ fn print_agreement(agreement: Agreed) {
 }
 
 // "After certified: rounds, agreement, cuts": the cuts are the certificate's q.
-fn print_certified(code: &[u8], frame: &[i16], rounds: u32, word: &[u8], certificate: &[u8]) {
+fn print_certified(code: &[u8], frame: &[i16], rounds: u32, word: &[u8], certificate: &[u8])
+    requires { ⌜ 2 ≤ length (now certificate) ⌝ }
+{
     print_number(b" certified ", rounds as u64);
     print_agreement(judge::agreement(code, frame, word));
     print_number(b" ", u16_at(certificate, 0) as u64);

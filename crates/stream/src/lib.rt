@@ -2,6 +2,7 @@
 // written.
 use libc::STDIN_FILENO;
 use libc::STDOUT_FILENO;
+use table::numbers::u16_of;
 ghost use mathlib.Core.Path.{_≡_};
 ghost use Prim.Native.Nat.{_+_, _*_, _≤_, _<_};
 ghost use lib.IntN.{pos};
@@ -91,19 +92,6 @@ fn signed(n: usize) -> i16
         return n as i16;
     }
     !((65535 - n) as i16)
-}
-
-fn wide(x: u8) -> usize
-    ensures { λ r. ⌜ (r ≡ x) × (r ≤ 255) ⌝ }
-{
-    x as usize
-}
-
-// The little-endian number of two bytes.
-pub fn u16_of(low: u8, high: u8) -> usize
-    ensures { λ r. ⌜ (r ≡ low + 256 * high) × (r < 65536) ⌝ }
-{
-    wide(low) + 256 * wide(high)
 }
 
 // Reads a little-endian number of four bytes.

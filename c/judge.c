@@ -1,0 +1,63 @@
+/* Has a word and a certificate judged: judge CODE FRAME WORD CERTIFICATE, each a file in document 01's
+ * format (the word one byte a bit, 0 or 1). Prints the verdict; exit status 0 only for certified. */
+#include <inttypes.h>
+#include <stdio.h>
+#include <stdlib.h>
+
+#include "jugnayap.h"
+
+/* Longer than any file that is accepted: a longer one is cut, and refused for its length. */
+enum { LONGEST = 65536 };
+
+typedef struct {
+    uint8_t bytes[LONGEST];
+    size_t length;
+} File;
+
+static void read_file(const char *name, File *file)
+{
+    FILE *in = fopen(name, "rb");
+    if (in == NULL) {
+        perror(name);
+        exit(2);
+    }
+    file->length = fread(file->bytes, 1, LONGEST, in);
+    fclose(in);
+}
+
+/* Little-endian numbers of 16 bits; an odd byte at the end makes the frame one number too long. */
+static size_t numbers_of(const File *file, int16_t *numbers)
+{
+    size_t count = (file->length + 1) / 2;
+    for (size_t i = 0; i < count; i++) {
+        unsigned high = 2 * i + 1 < file->length ? file->bytes[2 * i + 1] : 0x80;
+        numbers[i] = (int16_t)(file->bytes[2 * i] | high << 8);
+    }
+    return count;
+}
+
+int main(int argc, char **argv)
+{
+    static File code, frame, word, certificate;
+    static int16_t numbers[LONGEST / 2];
+    if (argc != 5) {
+        fprintf(stderr, "usage: judge CODE FRAME WORD CERTIFICATE\n");
+        return 2;
+    }
+    read_file(argv[1], &code);
+    read_file(argv[2], &frame);
+    read_file(argv[3], &word);
+    read_file(argv[4], &certificate);
+    size_t count = numbers_of(&frame, numbers);
+    JugnayapVerdict v = jugnayap_judge(code.bytes, code.length, numbers, count, word.bytes, word.length,
+                                       certificate.bytes, certificate.length);
+    if (v.number != 0)
+        printf("refused %" PRIu32 "\n", v.number);
+    else if (v.kind == JUGNAYAP_BROKEN)
+        printf("check %" PRId64 " broken\n", v.value);
+    else if (v.kind == JUGNAYAP_PASSED)
+        printf("certified\n");
+    else
+        printf("gap %" PRId64 "\n", v.value);
+    return v.number == 0 && v.kind == JUGNAYAP_PASSED ? 0 : 1;
+}
