@@ -7,7 +7,6 @@ use check::check_cut;
 use inputs::limits::UNIT;
 use limits::ASKED_TOO_MUCH;
 use scan::Scan;
-use scan::above;
 use scan::bit;
 use scan::scan_first;
 use table::Checked;
@@ -58,6 +57,16 @@ pub fn clip(x: i32) -> i32
         return UNIT;
     }
     x
+}
+
+// What a height adds to a left side: 0 for a negative one.
+pub fn above(h: i32) -> u32
+    ensures { λ r. ⌜ r ≡ up h ⌝ }
+{
+    if h < 0 {
+        return 0;
+    }
+    h as u32
 }
 
 fn lesser(a: usize, b: usize) -> usize

@@ -1,4 +1,5 @@
 // One pass over a check's values: their signs and their heights, U less each size.
+use super::above;
 use inputs::limits::UNIT;
 ghost use mathlib.Core.Path.{_≡_};
 ghost use mathlib.Core.List.{[]};
@@ -24,16 +25,6 @@ fn height_of(x: i32) -> i32
         return UNIT + x;
     }
     UNIT - x
-}
-
-// What a height adds to a left side: 0 for a negative one.
-pub(crate) fn above(h: i32) -> u32
-    ensures { λ r. ⌜ r ≡ up h ⌝ }
-{
-    if h < 0 {
-        return 0;
-    }
-    h as u32
 }
 
 // Bit k alone.

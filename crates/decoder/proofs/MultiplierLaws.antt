@@ -267,15 +267,3 @@ start-most x h k = size (pos 8192 -ℤ x) (simp lin (omega arithZ)) (simp lin (o
     size : (z : ℤ) → pos 0 ≤ℤ z → z ≤ℤ pos 8388608 → natAbs z ≤ 8388608
     size (pos n) h k = omega (arith, le-out k)
     size (negsuc n) h k = absurd (omega arithZ)
-
-pub up-none : (z : ℤ) → z <ℤ pos 0 → 0 ≡ up z
-up-none (pos n) h = absurd (omega arithZ)
-up-none (negsuc n) h = refl
-
-pub up-all : (z : ℤ) → pos 0 ≤ℤ z → natAbs z ≡ up z
-up-all (pos n) h = refl
-up-all (negsuc n) h = absurd (omega arithZ)
-
-pub natural : (z : ℤ) → pos 0 ≤ℤ z → pos (natAbs z) ≡ z
-natural (pos n) h = refl
-natural (negsuc n) h = absurd (omega arithZ)

@@ -40,23 +40,23 @@ clip-first u d (negsuc n) h =
     ap (λ z. divZ z d) (clip-neg (u * d) (pos (suc n))) ∙ div-neg (clipZ (u * d) (pos (suc n))) d ∙ ap negℤ (natural u d (suc n) h)
     ∙ sym (clip-neg u (divZ (pos (suc n)) d)) ∙ ap (clipZ u) (sym (div-neg (pos (suc n)) d))
 
+pub natural-is : (z : ℤ) → pos 0 ≤ℤ z → z ≡ pos (natAbs z)
+natural-is (pos n) h = refl
+natural-is (negsuc n) h = absurd (omega arithZ)
+
 -- ---- the code's clipping: m is the limit, and n what it reads as its negation
 module _ (x l : ℤ) (h : pos 0 ≤ℤ l) where
-  limit-is : (l : ℤ) → pos 0 ≤ℤ l → l ≡ pos (natAbs l)
-  limit-is (pos n) h = refl
-  limit-is (negsuc n) h = absurd (omega arithZ)
-
   pub clipped-low : x <ℤ (pos 0 -ℤ l) → pos 0 -ℤ l ≡ clipZ (natAbs l) x
-  clipped-low k = minus-is l ∙ ap negℤ (limit-is l h) ∙ sym (clip-low (natAbs l) x (subst (λ z. x <ℤ z) (minus-is l ∙ ap negℤ (limit-is l h)) k))
+  clipped-low k = minus-is l ∙ ap negℤ (natural-is l h) ∙ sym (clip-low (natAbs l) x (subst (λ z. x <ℤ z) (minus-is l ∙ ap negℤ (natural-is l h)) k))
     where
       minus-is : (l : ℤ) → pos 0 -ℤ l ≡ negℤ l
       minus-is l = simp lin (omega arithZ)
 
   pub clipped-high : l <ℤ x → l ≡ clipZ (natAbs l) x
-  clipped-high k = limit-is l h ∙ sym (clip-high (natAbs l) x (subst (λ z. z <ℤ x) (limit-is l h) k))
+  clipped-high k = natural-is l h ∙ sym (clip-high (natAbs l) x (subst (λ z. z <ℤ x) (natural-is l h) k))
 
   pub clipped-mid : (pos 0 -ℤ l) ≤ℤ x → x ≤ℤ l → x ≡ clipZ (natAbs l) x
-  clipped-mid k j = sym (clip-mid (natAbs l) x (mid (natAbs l) x (subst (λ z. (pos 0 -ℤ z) ≤ℤ x) (limit-is l h) k) (subst (λ z. x ≤ℤ z) (limit-is l h) j)))
+  clipped-mid k j = sym (clip-mid (natAbs l) x (mid (natAbs l) x (subst (λ z. (pos 0 -ℤ z) ≤ℤ x) (natural-is l h) k) (subst (λ z. x ≤ℤ z) (natural-is l h) j)))
     where
       mid : (n : ℕ) (x : ℤ) → (pos 0 -ℤ pos n) ≤ℤ x → x ≤ℤ pos n → Within n x
       mid n x = simp lin (omega arithZ)

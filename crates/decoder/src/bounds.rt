@@ -7,6 +7,9 @@ ghost use lib.Signed.{_≤ℤ_};
 ghost use Rattle.rules.specs.Input.{eachWithin};
 ghost use Rattle.rules.specs.Run.{sound};
 
+// "8,192 x rounds done"
+const OFFSET_PER_ROUND: u32 = 8192;
+
 // x is from -limit to limit.
 pub(crate) fn within(x: i32, limit: i32) -> bool
     requires { ⌜ pos 0 ≤ℤ limit ⌝ }
@@ -40,5 +43,5 @@ pub(crate) fn is_sound(rounds: u32, copies: &[i32], offsets: &[i32]) -> bool
     if !all_within(copies, Record::UNIT) {
         return false;
     }
-    all_within(offsets, (8192 * rounds) as i32)
+    all_within(offsets, (OFFSET_PER_ROUND * rounds) as i32)
 }

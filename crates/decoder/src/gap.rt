@@ -1,5 +1,6 @@
 // The gap of a round's multipliers, scale 1 (document 01, "Certificates"): reduced numbers, bound and agreement.
 use super::common::COMMON_DEGREE;
+use table::limits::MAX_BITS;
 ghost use mathlib.Core.Path.{_≡_};
 ghost use mathlib.Core.List.{[]};
 ghost use Prim.Native.Nat.{_+_, _≤_, _%_};
@@ -197,7 +198,7 @@ pub(crate) fn closes(
     requires { ⌜ GapFits (length (now spins)) (now frame) (now spins) (now starts) (now members) (now multipliers) (now masks) ⌝ }
     ensures { λ r. ⌜ r ≡ isZero (gap (length (now (spins .entry))) 1 (now (frame .entry)) (rowsFrom (checksFrom (now (starts .entry)) (now (members .entry))) (now (multipliers .entry)) (now (masks .entry))) (negatives (now (spins .entry)))) ⌝ }
 {
-    let mut numbers = [0i32; 2048];
+    let mut numbers = [0i32; MAX_BITS];
     let n = frame.len();
     let least = bound_of(
         frame,

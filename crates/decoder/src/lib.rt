@@ -25,6 +25,8 @@ use clear::clear_first;
 use perform::perform_sized;
 use table::Checked;
 use table::limits::BUFFER_SHORT;
+use table::limits::MAX_CHECKS;
+use table::limits::MAX_EDGES;
 ghost use mathlib.Core.Path.{_≡_};
 ghost use Rattle.rules.specs.Run as rule;
 ghost use Rattle.decoder.specs.Reply.{progressOf, startedOf, outcomeOf};
@@ -47,7 +49,7 @@ impl Record {
     pub const ROUND_LIMIT: u32 = 1024;
 
     // U: spin +U is bit 0, spin -U is bit 1
-    pub const UNIT: i32 = 4096;
+    pub const UNIT: i32 = inputs::limits::UNIT;
 
     // "a start gives 0 and running"
     pub fn fresh() -> Self
@@ -124,8 +126,8 @@ pub fn rounds(
     ensures { λ r. ⌜ (record { answer = outcomeOf (r .outcome); run = record { progress = progressOf (r .run); buffers = record { spins = now (spins .exit); copies = now (copies .exit); offsets = now (offsets .exit); multipliers = now (multipliers .exit); masks = now (masks .exit); word = now (word .exit); certificate = now (certificate .exit) } } })
         ≡ rule.call (now (code .entry)) (now (frame .entry)) wanted (record { progress = progressOf run; buffers = record { spins = now (spins .entry); copies = now (copies .entry); offsets = now (offsets .entry); multipliers = now (multipliers .entry); masks = now (masks .entry); word = now (word .entry); certificate = now (certificate .entry) } }) ⌝ }
 {
-    let mut starts = [0u16; 2049];
-    let mut members = [0u16; 8192];
+    let mut starts = [0u16; MAX_CHECKS + 1];
+    let mut members = [0u16; MAX_EDGES];
     let lent = Lent {
         spins: spins.len(),
         copies: copies.len(),

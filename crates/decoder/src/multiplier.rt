@@ -1,11 +1,12 @@
 // The least multiplier of a cut, found from above on the heights that the cut search leaves. With F the
 // sum of the lifted heights above 0 and k their number, b falls by (F - 2U) / k until that is 0.
+use cut::above;
 use inputs::limits::UNIT;
 ghost use mathlib.Core.Path.{_≡_};
 ghost use Prim.Native.Nat.{_-_, _*_, _/_, _≤_, min};
 ghost use lib.ListN.{length};
 ghost use lib.IntN.{pos};
-ghost use Rattle.integers.specs.Linear.{Within, up};
+ghost use Rattle.integers.specs.Linear.{Within};
 ghost use Rattle.integers.specs.Sum.{AllWithin};
 ghost use Rattle.rules.specs.Limits.{unit};
 ghost use Rattle.decoder.specs.Lifted.{lifted, sumAt, countAt, sumZ, Rising, LeastAt};
@@ -17,16 +18,6 @@ const REACH: u32 = 2 * UNIT as u32;
 pub struct Slope {
     pub sum: u32,
     pub count: u32,
-}
-
-// 0 for what is negative.
-fn above(h: i32) -> u32
-    ensures { λ r. ⌜ r ≡ up h ⌝ }
-{
-    if h < 0 {
-        return 0;
-    }
-    h as u32
 }
 
 // A height lifted by b.

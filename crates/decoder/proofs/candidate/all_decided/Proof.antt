@@ -1,41 +1,37 @@
--- `all_decided` meets its contract: the spins from i on decide. Assumes nothing.
+-- `all_decided` meets its contract: what is found and the spins from i on decide. Assumes nothing.
 use mathlib.Core.Path.{_≡_, refl, sym, _∙_, ap}
-use mathlib.Core.Bool.{not}
-use Prim.Native.Nat.{_-_, _≤_}
+use mathlib.Core.Bool.{not, _&&_, and-true, and-assoc}
+use Prim.Native.Nat.{_+_, _-_, _≤_}
 use native.Mathlib.Omega.{arith}
 use lib.ListN.{length, drop}
 use mir.Syntax.{w32}
-use mir.Val.{SFits, ofZ}
+use mir.Facts.{toZ-ofZ}
 use borrow.Author.Needs.{needs}
-use Rattle.integers.specs.Machine.{fit, eq-lit}
+use Rattle.integers.specs.Machine.{fit}
 use Rattle.rules.specs.Table.{at}
-use Rattle.table.proofs.AnswerLaws.{and-fails, and-holds}
+use Rattle.rules.specs.Round.{isZero}
 use Rattle.decoder.specs.Candidate.{noZero}
-use Rattle.decoder.proofs.SignLaws.{is-zero, not-zero, no-zero-more, no-zero-end}
+use Rattle.decoder.proofs.SignLaws.{no-zero-more, no-zero-end}
 use Rattle.decoder.proofs.candidate.all_decided.Statement.{statement}
 use Rattle.decoder.proofs.candidate.all_decided.Tie as tie
 
 abbrev Inv-loop : tie.InvT-loop
-Inv-loop spins i₀ i = (i ≤ length spins) × (noZero spins ≡ noZero (drop i spins))
+Inv-loop spins all₀ i₀ all i = (i ≤ length spins) × (noZero spins ≡ (all && noZero (drop i spins)))
 
 abbrev μ-loop : tie.MeasureT-loop
-μ-loop spins i₀ i = length spins - i
+μ-loop spins all₀ i₀ all i = length spins - i
 
 loop-holds : tie.Need-loop-holds Inv-loop μ-loop
 loop-holds c = (omega arith, refl)
 
-mul-if1 : tie.Need-mul-if1 Inv-loop μ-loop
-mul-if1 c = search needs
+mul-decided : tie.Need-mul-decided Inv-loop μ-loop
+mul-decided c = search needs
 
-shared-slice-copy-out-if1 : tie.Need-shared-slice-copy-out-if1 Inv-loop μ-loop
-shared-slice-copy-out-if1 c = search needs
+shared-slice-copy-out-decided : tie.Need-shared-slice-copy-out-decided Inv-loop μ-loop
+shared-slice-copy-out-decided c = search needs
 
-returns : tie.Need-returns Inv-loop μ-loop
-returns c =
-    let args = c .before .before .before .before .args in
-    let loop = c .before .before .before .loop in
-    let el : SFits w32 (at (args .spins .now) (loop .i)) = fit w32 (at (args .spins .now) (loop .i)) (c .before .if12 .given) in
-    sym (loop .inv .1 ∙ no-zero-more (args .spins .now) (loop .i) (c .before .before .loop-test .taken) ∙ and-fails _ _ (ap not (is-zero (at (args .spins .now) (loop .i)) (eq-lit el (c .if1 .taken)))))
+decided-requires : tie.Need-decided-requires Inv-loop μ-loop
+decided-requires c κs = search needs
 
 add-i : tie.Need-add-i Inv-loop μ-loop
 add-i c = search needs
@@ -45,13 +41,20 @@ loop-less c = search needs
 
 loop-again : tie.Need-loop-again Inv-loop μ-loop
 loop-again c =
-    let args = c .before .before .before .before .args in
-    let loop = c .before .before .before .loop in
-    let el : SFits w32 (at (args .spins .now) (loop .i)) = fit w32 (at (args .spins .now) (loop .i)) (c .before .if12 .given) in
-    (omega arith, loop .inv .1 ∙ no-zero-more (args .spins .now) (loop .i) (c .before .before .loop-test .taken) ∙ and-holds _ _ (ap not (not-zero (at (args .spins .now) (loop .i)) (λ e. c .if1 .left (ap (ofZ w32) e)))))
+    let s = c .before .before .before .before .args .spins .now in
+    let l = c .before .before .before .loop in
+    let rest = noZero (drop (l .i + 1) s) in
+    let read = toZ-ofZ (fit w32 (at s (l .i)) (c .before .decided-arg .given)) in (
+      omega arith,
+      l .inv .1 ∙ ap (λ b. l .all && b) (no-zero-more s (l .i) (omega arith)) ∙ sym (and-assoc (l .all) (not (isZero (at s (l .i)))) rest)
+          ∙ ap (λ b. b && rest) (sym (c .decided .ensures ∙ ap (λ z. l .all && not (isZero z)) read)),
+    )
 
-returns-2 : tie.Need-returns-2 Inv-loop μ-loop
-returns-2 c = sym (c .before .loop .inv .1 ∙ no-zero-end (c .before .before .args .spins .now) (c .before .loop .i) (c .loop-test .left))
+returns : tie.Need-returns Inv-loop μ-loop
+returns c =
+    let s = c .before .before .args .spins .now in
+    let l = c .before .loop in
+    sym (l .inv .1 ∙ ap (λ b. l .all && b) (no-zero-end s (l .i) (omega arith)) ∙ and-true (l .all))
 
 pub all-decided-spec : {M : Type 1} → statement M
 all-decided-spec =
@@ -60,10 +63,10 @@ all-decided-spec =
     Inv-loop
     μ-loop
     loop-holds
-    mul-if1
-    shared-slice-copy-out-if1
-    returns
+    mul-decided
+    shared-slice-copy-out-decided
+    decided-requires
     add-i
     loop-less
     loop-again
-    returns-2)
+    returns)

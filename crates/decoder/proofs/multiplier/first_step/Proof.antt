@@ -11,7 +11,8 @@ use mir.Facts.{toZ-ofZ}
 use borrow.Author.Needs.{needs}
 use Rattle.integers.specs.Machine.{fit, to-unsigned}
 use Rattle.decoder.specs.Lifted.{sumAt, sumZ}
-use Rattle.decoder.proofs.MultiplierLaws.{level-met, together-fits, start-fits, start-most, natural}
+use Rattle.decoder.proofs.MultiplierLaws.{level-met, together-fits, start-fits, start-most}
+use Rattle.decoder.proofs.QuotientLaws.{natural-is}
 use Rattle.decoder.proofs.multiplier.first_step.Statement.{statement}
 use Rattle.decoder.proofs.multiplier.first_step.Tie as tie
 
@@ -77,7 +78,7 @@ returns c =
     let lack = pos 8192 -ℤ sumZ (a .heights .now) in (
       omega (arith, alone-most (c .before)),
       subst (λ n. 8192 ≤ sumAt (a .heights .now) ((n + (length (a .heights .now) - 1)) / length (a .heights .now))) (ap natAbs (sym (together-is (c .before))))
-          (level-met (a .heights .now) (natAbs lack) (c .before .before .pre .some) (natural lack (lack-fits (c .before) .1))),
+          (level-met (a .heights .now) (natAbs lack) (c .before .before .pre .some) (sym (natural-is lack (lack-fits (c .before) .1)))),
     )
 
 returns-2 : tie.Need-returns-2

@@ -5,8 +5,8 @@ use mir.Facts.{toZ-ofZ}
 use Rattle.integers.specs.Linear.{lin, arithZ, _⩽_}
 use Rattle.integers.specs.Machine.{to-unsigned}
 use Rattle.cut.proofs.ValueLaws.{up-none, up-all}
-use Rattle.cut.proofs.scan.above.Statement.{statement}
-use Rattle.cut.proofs.scan.above.Tie as tie
+use Rattle.cut.proofs.above.Statement.{statement}
+use Rattle.cut.proofs.above.Tie as tie
 
 returns : tie.Need-returns
 returns c = sym (up-none (c .before .args .h) (simp lin (omega arithZ)))
