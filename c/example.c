@@ -3,6 +3,7 @@
 #include <stdio.h>
 
 #include "jugnayap.h"
+#include "verdict.h"
 
 enum { BITS = 3, CHECKS = 1, EDGES = 3, CERTIFICATE = 4 + 10 * CHECKS };
 
@@ -40,18 +41,10 @@ static size_t certificate_length(const uint8_t *certificate)
     return 4 + 10 * (size_t)(certificate[0] | certificate[1] << 8);
 }
 
-static void print_verdict(const Buffers *b)
+static JugnayapVerdict judged(const Buffers *b)
 {
-    JugnayapVerdict v = jugnayap_judge(code, sizeof code, frame, BITS, b->word, BITS, b->certificate,
-                                       certificate_length(b->certificate));
-    if (v.number != 0)
-        printf("judge refused %" PRIu32 "\n", v.number);
-    else if (v.kind == JUGNAYAP_BROKEN)
-        printf("judge check %" PRId64 " broken\n", v.value);
-    else if (v.kind == JUGNAYAP_PASSED)
-        printf("judge certified\n");
-    else
-        printf("judge gap %" PRId64 "\n", v.value);
+    return jugnayap_judge(code, sizeof code, frame, BITS, b->word, BITS, b->certificate,
+                          certificate_length(b->certificate));
 }
 
 static void print_certified(uint32_t rounds, const Buffers *b)
@@ -63,8 +56,8 @@ static void print_certified(uint32_t rounds, const Buffers *b)
     printf("\nrounds %" PRIu32 "\nagreement %" PRId64 "\ncertificate", rounds, a.agreement);
     for (size_t i = 0; i < certificate_length(b->certificate); i++)
         printf(" %02X", b->certificate[i]);
-    printf("\n");
-    print_verdict(b);
+    printf("\njudge ");
+    print_verdict(judged(b));
 }
 
 int main(void)

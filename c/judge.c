@@ -1,10 +1,10 @@
 /* Has a word and a certificate judged: judge CODE FRAME WORD CERTIFICATE, each a file in document 01's
  * format (the word one byte a bit, 0 or 1). Prints the verdict; exit status 0 only for certified. */
-#include <inttypes.h>
 #include <stdio.h>
 #include <stdlib.h>
 
 #include "jugnayap.h"
+#include "verdict.h"
 
 /* Longer than any file that is accepted: a longer one is cut, and refused for its length. */
 enum { LONGEST = 65536 };
@@ -51,13 +51,6 @@ int main(int argc, char **argv)
     size_t count = numbers_of(&frame, numbers);
     JugnayapVerdict v = jugnayap_judge(code.bytes, code.length, numbers, count, word.bytes, word.length,
                                        certificate.bytes, certificate.length);
-    if (v.number != 0)
-        printf("refused %" PRIu32 "\n", v.number);
-    else if (v.kind == JUGNAYAP_BROKEN)
-        printf("check %" PRId64 " broken\n", v.value);
-    else if (v.kind == JUGNAYAP_PASSED)
-        printf("certified\n");
-    else
-        printf("gap %" PRId64 "\n", v.value);
+    print_verdict(v);
     return v.number == 0 && v.kind == JUGNAYAP_PASSED ? 0 : 1;
 }
