@@ -6,7 +6,7 @@ use mathlib.Core.List.{List, [], _∷_, _++_}
 use mathlib.Core.Option.{some}
 use Prim.Native.Nat.{ℕ, suc, _+_}
 use native.Mathlib.Numerals.{one-add}
-use native.Mathlib.Omega.{arith}
+use native.Mathlib.Nat.{zero-add}
 use lib.Dec.{eqb}
 use lib.ListN.{length}
 use lib.IntN.{ℤ}
@@ -53,10 +53,7 @@ cuts-from : (cs : List (List ℕ)) (es : List Entry) → AllProper cs es → cut
 unfolding cutsFrom
 cuts-from cs [] p = refl
 cuts-from [] (e ∷ es) p = absurd p
-cuts-from (ms ∷ cs) (inactive ∷ es) p = none (cutsFrom (masksOf es)) ∙ cuts-from cs es (p .1)
-  where
-    none : (n : ℕ) → 0 + n ≡ n
-    none n = omega arith
+cuts-from (ms ∷ cs) (inactive ∷ es) p = zero-add (cutsFrom (masksOf es)) ∙ cuts-from cs es (p .1)
 cuts-from (ms ∷ cs) (active b ts ∷ es) p = ap₂ (λ t n. cond t 0 1 + n) (not-none ts (p .0 .0)) (cuts-from cs es (p .1)) ∙ one-add (cutsIn es)
 
 contents-from : (j : ℕ) (cs : List (List ℕ)) (es : List Entry) → AllProper cs es → contentsFrom j (multipliersOf es) (masksOf es) ≡ contentBytes j es

@@ -4,7 +4,7 @@ use mathlib.Core.Bool.{Bool, true, false, cond, false≢true}
 use mathlib.Core.List.{List, [], _∷_}
 use mathlib.Core.Logic.{_⊎_, inl, inr}
 use Prim.Native.Nat.{ℕ, zero, suc, _+_, _*_, _-_, _/_, _≤_, _<_, min}
-use native.Mathlib.Nat.{add-assoc, add-comm, mul-comm, suc-mul, lt-div-mul-add}
+use native.Mathlib.Nat.{add-assoc, add-comm, mul-comm, suc-mul, lt-div-mul-add, le-add-right}
 use native.Mathlib.Omega.{arith}
 use native.Mathlib.Numerals.{add-one}
 use lib.Seq.{take-all}
@@ -16,11 +16,11 @@ use mir.Val.{SFits}
 use Rattle.integers.specs.Linear.{lin, arithZ, _⩽_, Within, up, le-out, lt-ltZ}
 use Rattle.integers.specs.Product.{natAbs-≤}
 use Rattle.integers.specs.Sum.{AllWithin}
-use Rattle.rules.specs.Parity.{side, left, odd, Alike}
+use Rattle.rules.specs.Parity.{left, odd, Alike}
 use Rattle.rules.specs.Step.{clips, moves, short, multiplier}
 use Rattle.rules.proofs.CutRule.{Cuts}
-use Rattle.rules.proofs.Multiplier.{moves-zero, Least, multiplier-least, multiplier-unique}
-use Rattle.cut.specs.Heights.{height, heightsOf, higher, highest}
+use Rattle.rules.proofs.Multiplier.{moves-zero, multiplier-least, multiplier-unique}
+use Rattle.cut.specs.Heights.{height, heightsOf, highest}
 use Rattle.decoder.specs.Lifted.{lifted, lifting, tally, sumAt, countAt, sumZ, Rising, LeastAt}
 use Rattle.decoder.proofs.SumLaws.{sum-within}
 use Rattle.decoder.proofs.LiftedLaws.{short-of, met-of, of-short}
@@ -83,10 +83,7 @@ highest-in h (k ∷ hs) w = go (ltZ h (highest (k ∷ hs))) (highest-in k hs (w 
 
 in-sum : (b : ℕ) (x : ℤ) (hs : List ℤ) → In x hs → lifted b x ≤ tally (lifted b) hs
 in-sum b x [] i = absurd i
-in-sum b x (h ∷ hs) (inl e) = subst (λ z. lifted b x ≤ lifted b z + tally (lifted b) hs) e (first (lifted b x) (tally (lifted b) hs))
-  where
-    first : (a n : ℕ) → a ≤ a + n
-    first a n = omega arith
+in-sum b x (h ∷ hs) (inl e) = subst (λ z. lifted b x ≤ lifted b z + tally (lifted b) hs) e (le-add-right (lifted b x) (tally (lifted b) hs))
 in-sum b x (h ∷ hs) (inr i) = later (lifted b h) (lifted b x) (tally (lifted b) hs) (in-sum b x hs i)
   where
     later : (c a n : ℕ) → a ≤ n → a ≤ c + n

@@ -49,7 +49,7 @@ module _ (n : ℕ) (ss ms : List ℕ) (h : Holds n ss ms) where
   }
 
 -- ---- the answer: a run that has not ended has done every round that was due
-answers : (s : Status) (a b : ℕ) → (s ≡ running → a ≡ b) → answerAt s a b ≡ gives s
+pub answers : (s : Status) (a b : ℕ) → (s ≡ running → a ≡ b) → answerAt s a b ≡ gives s
 answers running a b h = ap (λ t. cond t (gives running) (refused multiplierLarge)) (eq-eqb a b (h refl))
 answers certified a b h = refl
 answers spent a b h = refl

@@ -2,7 +2,7 @@
 use mathlib.Core.Path.{_≡_, refl, ap, ap₂}
 use mathlib.Core.List.{List, [], _∷_}
 use Prim.Native.Nat.{ℕ, zero, suc, _≤_, _<_}
-use native.Mathlib.Nat.{le-of-suc-le-suc, suc-inj}
+use native.Mathlib.Nat.{le-of-suc-le-suc, suc-inj, lt-of-lt-of-le}
 use native.Mathlib.Omega.{arith}
 use lib.ListN.{length, take}
 use lib.IntN.{ℤ, _-ℤ_}
@@ -21,10 +21,7 @@ take-within b (suc n) (x ∷ xs) h = (h .0, take-within b n xs (h .1))
 -- ---- members below n
 pub below-more : (n k : ℕ) (ms : List ℕ) → n ≤ k → Below n ms → Below k ms
 below-more n k [] h b = tt
-below-more n k (m ∷ ms) h b = (wider m n k (b .0) h, below-more n k ms h (b .1))
-  where
-    wider : (m n k : ℕ) → m < n → n ≤ k → m < k
-    wider m n k p q = omega arith
+below-more n k (m ∷ ms) h b = (lt-of-lt-of-le (b .0) h, below-more n k ms h (b .1))
 
 -- ---- differences
 pub minus-length : (vs zs : List ℤ) → length vs ≡ length zs → length (minus vs zs) ≡ length vs

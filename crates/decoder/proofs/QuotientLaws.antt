@@ -16,7 +16,7 @@ inside m n = simp lin (omega arithZ)
 past : (m n : ℕ) → m < n → pos m <ℤ pos n
 past m n = simp lin (omega arithZ)
 
-at-least : (m n : ℕ) → m ≤ n → pos m ⩽ pos n
+pub at-least : (m n : ℕ) → m ≤ n → pos m ⩽ pos n
 at-least m n = simp lin (omega arithZ)
 
 -- of what is not negative

@@ -3,14 +3,14 @@ use mathlib.Core.Path.{_≡_, refl, sym, _∙_, ap, subst}
 use mathlib.Core.Bool.{cond}
 use mathlib.Core.List.{List, [], _∷_, _++_}
 use Prim.Native.Nat.{ℕ, _+_, _*_, _≤_, _<_}
-use native.Mathlib.Nat.{add-assoc}
+use native.Mathlib.Nat.{add-assoc, zero-add}
 use native.Mathlib.Omega.{arith}
 use native.Mathlib.Decide.{ℕ-discrete}
 use lib.Dec.{eqb}
 use lib.ListN.{length, set, length-set}
 use lib.Seq.{getD-set-same, getD-set-other}
 use lib.IntN.{ℤ, pos, natAbs, _+ℤ_}
-use borrow.Author.Tests.{eq-eqb, ne-eqb}
+use borrow.Author.Tests.{eq-eqb}
 use Rattle.integers.specs.Linear.{Within, le-out}
 use Rattle.integers.specs.Product.{natAbs-≤, abs-add}
 use Rattle.integers.specs.Sum.{AllWithin}
@@ -49,10 +49,7 @@ pub room-more : (m : ℕ) (ms : List ℕ) (ls : List ℤ) (w : ℤ) → Within 8
 room-more m ms ls w hw r = λ i h. room-step ms ls m i w hw (subst (λ n. i < n) (length-set ls m (at ls m +ℤ w)) h) r
 
 degree-append : (i : ℕ) (xs ys : List ℕ) → degreeOf i (xs ++ ys) ≡ degreeOf i xs + degreeOf i ys
-degree-append i [] ys = none (degreeOf i ys)
-  where
-    none : (n : ℕ) → n ≡ 0 + n
-    none n = omega arith
+degree-append i [] ys = sym (zero-add (degreeOf i ys))
 degree-append i (x ∷ xs) ys = ap (λ n. cond (eqb x i) 1 0 + n) (degree-append i xs ys) ∙ sym (add-assoc (cond (eqb x i) 1 0) (degreeOf i xs) (degreeOf i ys))
 
 pub room-first : (xs ys : List ℕ) (ls : List ℤ) → Room (xs ++ ys) ls → Room xs ls

@@ -11,12 +11,6 @@ use lib.Seq.{drop-cons, sets, sets-eq}
 use Rattle.rules.specs.Buffers.{over}
 
 -- the code's `i + 2` and `i + 3`
-pub two-past : (i : ℕ) → i + 2 ≡ suc (suc i)
-two-past i = omega arith
-
-pub three-past : (i : ℕ) → i + 3 ≡ suc (suc (suc i))
-three-past i = omega arith
-
 module _ {A : Type 0} where
   -- what is left at k, in the code's `k + 1`
   pub drop-next : (l : List A) (k : ℕ) (d : A) → k < length l → drop k l ≡ getD l k d ∷ drop (k + 1) l

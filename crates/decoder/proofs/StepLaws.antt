@@ -1,8 +1,7 @@
 -- One check's step as the code takes it: from the mask of the cut to the multiplier, and to what the step leaves. Assumes nothing.
 use mathlib.Core.Path.{_≡_, refl, sym, _∙_, ap, ap₂, subst}
 use mathlib.Core.List.{List, _++_, append-nil}
-use mathlib.Core.Option.{Option, some, none}
-use mathlib.Core.Bool.{Bool}
+use mathlib.Core.Option.{some, none}
 use Prim.Native.Nat.{ℕ, _≤_, min}
 use native.Mathlib.Decide.{ℕ-discrete}
 use native.Mathlib.Omega.{arith}

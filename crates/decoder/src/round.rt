@@ -11,7 +11,6 @@ ghost use mathlib.Core.Path.{_≡_};
 ghost use Prim.Native.Nat.{_+_, _*_, _≤_, _<_};
 ghost use lib.ListN.{length};
 ghost use Rattle.rules.specs.Round.{round};
-ghost use Rattle.rules.specs.Run.{written, stateIn};
 ghost use Rattle.decoder.specs.Layout.{checksFrom, tableOf};
 ghost use Rattle.decoder.specs.Closing.{GapFits};
 ghost use Rattle.decoder.specs.Ready.{Given, Ready};

@@ -1,33 +1,27 @@
 -- A refused call for rounds gives the record back as handed in, and no buffer is changed; a record of unknown status is refused with 43 in its turn.
 -- Assumes nothing.
 use mathlib.Core.Path.{_≡_, refl, sym, _∙_, ap, ap₂}
-use mathlib.Core.Bool.{cond}
 use mathlib.Core.List.{List}
 use Prim.Native.Nat.{ℕ, zero, suc, _+_}
 use lib.Dec.{leb, eqb}
 use lib.ListN.{length}
 use lib.IntN.{ℤ}
-use borrow.Author.Tests.{eq-eqb}
 use Rattle.rules.specs.Limits.{roundLimit, frameLimit}
-use Rattle.rules.specs.Refusal.{Answer, refused, gives, must, replyOf, frameLength, frameRange, askedTooMuch, bufferShort, runEnded, runDamaged, multiplierLarge}
+use Rattle.rules.specs.Refusal.{Answer, refused, gives, must, replyOf, frameLength, frameRange, askedTooMuch, bufferShort, runEnded, runDamaged}
 use Rattle.rules.specs.Table.{Table}
 use Rattle.rules.specs.CodeFile.{codeFile}
 use Rattle.rules.specs.Input.{eachWithin, onFrame}
 use Rattle.rules.specs.Buffers.{Buffers, Lengths, lengthsOf, needs, fits}
-use Rattle.rules.specs.Run.{Status, running, certified, spent, Run, iterate, stateIn, isRunning, sound, admits, answerAt, perform, callOn, callBy, call}
+use Rattle.rules.specs.Run.{Run, iterate, stateIn, isRunning, sound, admits, perform, callOn, callBy, call}
 use Rattle.rules.proofs.AnswerLaws.{refused≢gives, must-gives}
 use Rattle.rules.proofs.Runs.{Safe}
 use Rattle.rules.proofs.Counted.{all-counted}
 use Rattle.decoder.proofs.AdmitLaws.{sound-safe}
+use Rattle.decoder.proofs.PerformLaws.{answers}
 use Rattle.jugnayap.specs.declared.JugnayapRun.{JugnayapRun}
 use Rattle.jugnayap.specs.Numbers.{statusAt, progressBy, progressAt, runAfter, callLeft}
 
 -- ---- a call that passes every test is not refused: 44 never comes
-answers : (s : Status) (a b : ℕ) → (s ≡ running → a ≡ b) → answerAt s a b ≡ gives s
-answers running a b h = ap (λ t. cond t (gives running) (refused multiplierLarge)) (eq-eqb a b (h refl))
-answers certified a b h = refl
-answers spent a b h = refl
-
 module _ (l : List ℤ) (wanted : ℕ) (r : Run) where
   admitted-safe : (t : Table) (lent : Lengths) (u : Unit {0}) → admits t l wanted lent r ≡ gives u → Safe t r
   unfolding admits onFrame

@@ -1,6 +1,6 @@
 -- `first_step` meets its contract: either step is enough. Assumes nothing.
 use mathlib.Core.Path.{_≡_, sym, _∙_, ap, subst}
-use Prim.Native.Nat.{_+_, _-_, _/_, _≤_, _<_}
+use Prim.Native.Nat.{_+_, _-_, _/_, _≤_}
 use native.Mathlib.Omega.{arith}
 use lib.IntN.{pos, natAbs, _-ℤ_}
 use lib.Signed.{_≤ℤ_}

@@ -1,17 +1,9 @@
 -- `least_multiplier` meets its contract: b meets V's inequality all the time, and falls. Assumes nothing.
-use mathlib.Core.Path.{_≡_, sym, _∙_, ap, subst}
 use Prim.Native.Nat.{_-_, _≤_, _<_}
 use native.Mathlib.Omega.{arith}
-use lib.IntN.{pos, natAbs, _-ℤ_}
-use lib.Signed.{_≤ℤ_}
-use mir.Syntax.{w32}
-use mir.Val.{SFits, toZ, ofZ}
-use mir.Facts.{toZ-ofZ}
 use borrow.Author.Needs.{needs}
-use Rattle.integers.specs.Machine.{to-unsigned}
-use Rattle.decoder.specs.Lifted.{sumAt, countAt}
+use Rattle.decoder.specs.Lifted.{sumAt}
 use Rattle.decoder.proofs.LiftedLaws.{next-step, least-found}
-use Rattle.decoder.proofs.MultiplierLaws.{start-fits, start-most}
 use Rattle.decoder.proofs.multiplier.least_multiplier.Statement.{statement}
 use Rattle.decoder.proofs.multiplier.least_multiplier.Tie as tie
 

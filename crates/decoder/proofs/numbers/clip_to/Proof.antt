@@ -1,13 +1,15 @@
 -- `clip_to` meets its contract. Assumes nothing.
-use mathlib.Core.Path.{_≡_, sym, _∙_, ap, ap₂, subst}
-use lib.IntN.{ℤ, pos, negℤ, natAbs, _-ℤ_}
+use mathlib.Core.Path.{_≡_, _∙_, ap, subst}
+use lib.IntN.{ℤ, pos, _-ℤ_}
 use lib.Signed.{_≤ℤ_, _<ℤ_, ltZ}
 use mathlib.Core.Bool.{true, false}
 use mir.Syntax.{w32}
 use mir.Val.{toZ, ofZ}
 use mir.Facts.{toZ-ofZ}
 use Rattle.integers.specs.Linear.{lin, arithZ}
+use Rattle.integers.specs.Order.{ltZ-lt}
 use Rattle.integers.specs.Machine.{known}
+use Rattle.cut.proofs.HeightLaws.{not-above}
 use Rattle.decoder.proofs.QuotientLaws.{clipped-low, clipped-high, clipped-mid}
 use Rattle.decoder.proofs.numbers.clip_to.Statement.{statement}
 use Rattle.decoder.proofs.numbers.clip_to.Tie as tie
@@ -23,16 +25,10 @@ minus-is c = toZ-ofZ (sub-if1 c) ∙ ap (λ z. pos 0 -ℤ z) (toZ-ofZ (c .fits .
 
 -- what the code's comparisons say
 below : (x x' y y' : ℤ) → x ≡ x' → y ≡ y' → ltZ x y ≡ true → x' <ℤ y'
-below x x' y y' e f h = subst (λ z. z <ℤ y') e (subst (λ z. x <ℤ z) f (plain x y h))
-  where
-    plain : (x y : ℤ) → ltZ x y ≡ true → x <ℤ y
-    plain x y = simp lin (omega arithZ)
+below x x' y y' e f h = subst (λ z. z <ℤ y') e (subst (λ z. x <ℤ z) f (ltZ-lt x y h))
 
 not-below : (x x' y y' : ℤ) → x ≡ x' → y ≡ y' → ltZ x y ≡ false → y' ≤ℤ x'
-not-below x x' y y' e f h = subst (λ z. y' ≤ℤ z) e (subst (λ z. z ≤ℤ x) f (plain x y h))
-  where
-    plain : (x y : ℤ) → ltZ x y ≡ false → y ≤ℤ x
-    plain x y = simp lin (omega arithZ)
+not-below x x' y y' e f h = subst (λ z. y' ≤ℤ z) e (subst (λ z. z ≤ℤ x) f (not-above x y h))
 
 returns : tie.Need-returns
 returns c =

@@ -1,6 +1,6 @@
 -- `spin_of` meets its contract: clipped to U times the degree, then divided. Assumes nothing.
-use mathlib.Core.Path.{_≡_, sym, _∙_, ap, ap₂, subst}
-use Prim.Native.Nat.{ℕ, _*_, _≤_}
+use mathlib.Core.Path.{_≡_, sym, _∙_, ap₂, subst}
+use Prim.Native.Nat.{_*_}
 use native.Mathlib.Omega.{arith}
 use lib.IntN.{pos, natAbs}
 use lib.Signed.{_≤ℤ_}
@@ -8,17 +8,13 @@ use mir.Syntax.{w32}
 use mir.Val.{toZ}
 use mir.Facts.{toZ-ofZ, toZ-pos}
 use borrow.Author.Needs.{needs}
-use Rattle.integers.specs.Linear.{lin, arithZ}
 use Rattle.integers.specs.Clip.{clipZ}
 use Rattle.integers.specs.Machine.{fit}
 use Rattle.rules.specs.Round.{divided}
 use Rattle.decoder.specs.Totals.{spinOf}
-use Rattle.decoder.proofs.QuotientLaws.{clip-first}
+use Rattle.decoder.proofs.QuotientLaws.{at-least, clip-first}
 use Rattle.decoder.proofs.spins.spin_of.Statement.{statement}
 use Rattle.decoder.proofs.spins.spin_of.Tie as tie
-
-from : (m n : ℕ) → m ≤ n → pos m ≤ℤ pos n
-from m n = simp lin (omega arithZ)
 
 mul-most : tie.Need-mul-most
 mul-most c = search needs
@@ -33,13 +29,13 @@ degree-is : (c : tie.Start) → toZ w32 (c .args .degree) ≡ pos (c .args .degr
 degree-is c = toZ-pos w32 (omega (arith, c .fits .degree))
 
 clip-to-requires : tie.Need-clip-to-requires
-clip-to-requires c κs = subst (λ z. pos 0 ≤ℤ z) (sym (most-is c)) (from 0 (4096 * c .args .degree) (omega arith))
+clip-to-requires c κs = subst (λ z. pos 0 ≤ℤ z) (sym (most-is c)) (at-least 0 (4096 * c .args .degree) (omega arith))
 
 cast-divided : tie.Need-cast-divided
 cast-divided c = search needs
 
 divided-requires : tie.Need-divided-requires
-divided-requires c κs = subst (λ z. pos 1 ≤ℤ z) (sym (degree-is (c .before))) (from 1 (c .before .args .degree) (c .before .pre))
+divided-requires c κs = subst (λ z. pos 1 ≤ℤ z) (sym (degree-is (c .before))) (at-least 1 (c .before .args .degree) (c .before .pre))
 
 returns : tie.Need-returns
 unfolding spinOf divided

@@ -1,5 +1,5 @@
 -- `multiplier_for` meets its contract. Assumes nothing.
-use mathlib.Core.Path.{_≡_, refl, sym, subst}
+use mathlib.Core.Path.{refl, sym, subst}
 use mir.Facts.{toZ-ofZ}
 use Rattle.decoder.specs.Lifted.{Rising}
 use Rattle.decoder.proofs.step.multiplier_for.Statement.{statement}

@@ -1,9 +1,8 @@
 -- `put32` meets its contract: the stores are `sets`. Assumes nothing.
 use native.Mathlib.Omega.{arith}
-use native.Mathlib.Numerals.{add-one}
+use native.Mathlib.Numerals.{add-one, add-two, add-three}
 use lib.ListN.{length-set}
 use borrow.Author.Needs.{needs}
-use Rattle.decoder.proofs.SetsLaws.{two-past, three-past}
 use Rattle.decoder.proofs.written.put32.Statement.{statement}
 use Rattle.decoder.proofs.written.put32.Tie as tie
 
@@ -44,7 +43,7 @@ same-length : tie.Need-same-length
 same-length c = search needs
 
 returns : tie.Need-returns
-returns c = simp (add-one, two-past, three-past)
+returns c = simp (add-one, add-two, add-three)
 
 pub put32-spec : {M : Type 1} → statement M
 put32-spec =
