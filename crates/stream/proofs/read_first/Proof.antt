@@ -1,7 +1,8 @@
--- `read_first` meets its contract: no more is read than the part has room for. Assumes nothing.
+-- `read_first` meets its contract: only the first part is handed on. Assumes nothing.
 use native.Mathlib.Omega.{arith}
 use lib.ListN.{length-take}
 use borrow.Author.Needs.{needs}
+use Rattle.stream.proofs.NumberLaws.{front-read}
 use Rattle.stream.proofs.read_first.Statement.{statement}
 use Rattle.stream.proofs.read_first.Tie as tie
 
@@ -19,7 +20,9 @@ same-length c = search needs
 
 returns : tie.Need-returns
 returns c =
-    omega (arith, c .before .before .read-full .ensures .0, c .before .before .read-full .kept .1 .0, length-take (c .before .before .before .before .before .args .size) (c .before .before .before .before .before .args .bytes .now))
+    let args = c .before .before .before .before .before .args in
+    let read = c .before .before .read-full in
+    front-read (read .result) (args .size) (read .last .1 .0) (args .bytes .now) (search needs) (read .kept .1 .0) (read .ensures .0)
 
 pub read-first-spec : {M : Type 1} → statement M
 read-first-spec =

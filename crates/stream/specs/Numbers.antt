@@ -1,0 +1,43 @@
+-- Signed 16-bit numbers on a stream, as a frame has them, and what a reader leaves in its buffer. Definitions only. Assumes nothing.
+use mathlib.Core.Path.{_≡_}
+use mathlib.Core.Logic.{_⊎_}
+use mathlib.Core.List.{List, [], _∷_, _++_}
+use Prim.Native.Nat.{ℕ, zero, suc, _*_, _/_, _≤_, min}
+use lib.ListN.{length, drop}
+use lib.IntN.{ℤ}
+use mir.Syntax.{w16}
+use mir.Val.{toZ}
+use Rattle.rules.specs.Bytes.{u16At}
+use Rattle.rules.specs.Buffers.{over}
+
+-- the first k numbers of little-endian bytes
+unfoldable pub numbersOf : List ℕ → ℕ → List ℤ
+numbersOf bs zero = []
+numbersOf bs (suc k) = numbersOf bs k ++ (toZ w16 (u16At bs (2 * k)) ∷ [])
+
+-- the bytes read at once for so many numbers, of which 4,096 at the most
+abbrev pub bytesFor : ℕ → ℕ
+bytesFor n = 2 * min n 4096
+
+-- what a record's part answers that is longer than it may be, or cut short: no 32-bit number
+abbrev pub notWhole : ℕ
+notWhole = 4294967296
+
+-- r of the bytes are read, and what is past the n that were asked for stays
+pub record Read (r n : ℕ) (new old : List ℕ) : Type 0 where
+  pub few : r ≤ n
+  pub rest : drop n new ≡ drop n old
+
+-- r bytes of numbers are read: the numbers that they make stand in front, and the others stay
+pub record ReadNumbers (r : ℕ) (bytes : List ℕ) (new old : List ℤ) : Type 0 where
+  pub few : r ≤ bytesFor (length old)
+  pub numbers : new ≡ over (numbersOf bytes (r / 2)) old
+
+-- and where the bytes are not shown
+pub record ReadFront (r : ℕ) (new old : List ℤ) : Type 0 where
+  pub few : r ≤ bytesFor (length old)
+  pub rest : drop (r / 2) new ≡ drop (r / 2) old
+
+-- a record's part is not whole, or as long as it says, and what is past it stays
+abbrev pub PartRead : {A : Type 0} → ℕ → List A → List A → Type 0
+PartRead r new old = (r ≡ notWhole) ⊎ ((r ≤ length old) × (drop r new ≡ drop r old))
