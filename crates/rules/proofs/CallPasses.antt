@@ -1,9 +1,8 @@
 -- "Those the decoder writes pass", of a call: where a call for rounds answers certified, the judge certifies the word's first n bytes and the
 -- certificate's first 4 + 10q bytes, as they stand in the buffers afterwards, on the same file and frame. Assumes nothing.
 use mathlib.Core.Path.{_≡_, refl, sym, _∙_, ap, ap₂, subst}
-use mathlib.Core.Bool.{Bool, true, false, false≢true}
+use mathlib.Core.Bool.{true, false, false≢true}
 use mathlib.Core.List.{List, [], _∷_}
-use mathlib.Core.Option.{some}
 use Prim.Native.Nat.{ℕ, _+_, _≤_, _<_}
 use native.Mathlib.Omega.{arith}
 use lib.Dec.{leb, eqb}
@@ -11,7 +10,7 @@ use borrow.Author.Tests.{eqb-true}
 use lib.ListN.{length, take}
 use lib.IntN.{ℤ}
 use Rattle.rules.specs.Limits.{unit, frameLimit, roundLimit, maxChecks, certificateLength}
-use Rattle.rules.specs.Refusal.{Answer, refused, gives, must, frameLength, frameRange, askedTooMuch, bufferShort, runEnded, runDamaged}
+use Rattle.rules.specs.Refusal.{Answer, refused, gives, frameLength, frameRange, askedTooMuch, bufferShort, runEnded}
 use Rattle.rules.specs.Table.{Table, checksOf}
 use Rattle.rules.specs.CodeFile.{codeFile}
 use Rattle.rules.specs.Input.{eachWithin, onFrame}
@@ -21,8 +20,7 @@ use Rattle.rules.specs.Bytes.{u16At}
 use Rattle.rules.specs.Certificate.{cutsIn, certificateOf, entriesOf}
 use Rattle.rules.specs.Judge.{passes, judge}
 use Rattle.rules.specs.Buffers.{Lengths, lengthsOf, needs, fits, over}
-use Rattle.rules.specs.Run.{Status, running, certified, spent, Run, bytesOf, overWord, overCertificate, stateIn, iterate, isRunning, sound, admits, Called, perform, callOn, callBy, call}
-use Rattle.rules.specs.Calls.{Call}
+use Rattle.rules.specs.Run.{Status, running, certified, spent, Run, bytesOf, overWord, overCertificate, stateIn, iterate, isRunning, admits, Called, perform, callOn, callBy, call}
 use Rattle.rules.proofs.AnswerLaws.{refused≢gives, must-gives}
 use Rattle.rules.proofs.Tables.{file-sound}
 use Rattle.rules.proofs.Pass.{AllLaid, stepsIn, steps-laid, entries-length}

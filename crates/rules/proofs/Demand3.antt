@@ -2,23 +2,19 @@
 use mathlib.Core.Path.{_≡_, refl, sym, _∙_, ap, subst}
 use mathlib.Core.Bool.{Bool}
 use mathlib.Core.List.{List, [], _∷_}
-use mathlib.Core.Option.{Option, some, none}
-use Prim.Native.Nat.{ℕ, suc, _+_, _≤_}
+use Prim.Native.Nat.{ℕ, _+_, _≤_}
 use native.Mathlib.Omega.{arith}
-use lib.ListN.{take}
 use lib.IntN.{ℤ}
 use Rattle.rules.specs.Table.{Table}
 use Rattle.rules.specs.Parity.{plus, turns, Codeword}
 use Rattle.rules.specs.Input.{bitsOf}
-use Rattle.rules.specs.Round.{State, round}
 use Rattle.rules.specs.Buffers.{Buffers}
-use Rattle.rules.specs.Run.{running, certified, Run, bytesOf, overWord, statusAt, moved, stateIn, iterate}
+use Rattle.rules.specs.Run.{Run, bytesOf, stateIn, iterate}
 use Rattle.rules.specs.Calls.{Call, startedRun, wantedIn}
-use Rattle.rules.specs.Demand3.{Best, FreshStart, AllLent, listFrom, CertifiesOn, SamePlace, SamePlaces, Demand3}
+use Rattle.rules.specs.Demand3.{Best, FreshStart, AllLent, listFrom, CertifiesOn, SamePlace, SamePlaces, RoundsDone, Demand3}
 use Rattle.rules.proofs.Tables.{file-sound}
 use Rattle.rules.proofs.Optimal.{round-best}
 use Rattle.rules.proofs.WrittenPasses.{bits-bytes, bytes-length}
-use Rattle.rules.proofs.BufferLaws.{take-over}
 use Rattle.rules.proofs.RoundSizes.{round-sized}
 use Rattle.rules.proofs.Runs.{Ends, iterate-ends}
 use Rattle.rules.proofs.Lends.{callsOn, lent-list}
@@ -26,6 +22,7 @@ use Rattle.rules.proofs.Twins.{Worded, Twin, iterate-twin, Alike, call-
 use Rattle.rules.proofs.Lists.{callFor, says-status, Stands, found, found-ends, catch}
 use Rattle.rules.proofs.CallPasses.{ended-made, ended-word}
 use Rattle.rules.proofs.Fresh.{started-twin, all-part}
+use Rattle.rules.proofs.Counted.{list-rounds}
 
 -- ---- a list in the words of the theory
 on-table : (file : List ℕ) (t : Table) (l : List ℤ) (xs : List Call) (b : Buffers) → FreshStart file t b → AllLent b xs → listFrom file l xs b ≡ callsOn t l xs (startedRun file b)
@@ -72,6 +69,7 @@ demand3 file t l c calls a b fa fb cw ha hb = record {
       subst (Best t l) (bytes-inj (p .word) w (sym (ended-word t l _ p) ∙ ends w k bs h .writes))
       (round-best t l (stateIn t (p .last .buffers)) (p .word) (file-sound file t (fa .isTable) .below)
       (sym (bytes-length (p .word)) ∙ round-sized t l (stateIn t (p .last .buffers)) .word (p .word) (p .by)) (p .by));
+  done = subst (RoundsDone t l calls (startedRun file a)) (sym (on-table file t l calls a fa ha)) (list-rounds file t l a fa calls);
   twin = subst (λ ds. SamePlaces t c ds (listFrom file (turns c l) calls b)) (sym (on-table file t l calls a fa ha))
       (subst (SamePlaces t c (callsOn t l calls (startedRun file a))) (sym (on-table file t (turns c l) calls b fb hb))
       (places-twin t c l calls (startedRun file a) (startedRun file b) cw (started-twin file t c a b fa fb)));
