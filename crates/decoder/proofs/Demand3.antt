@@ -5,7 +5,7 @@ use mathlib.Core.Bool.{Bool, _&&_}
 use mathlib.Core.List.{List, [], _∷_}
 use Prim.Native.Nat.{ℕ, _≤_}
 use lib.Dec.{leb}
-use lib.ListN.{length}
+use lib.ListN.{length, take}
 use lib.IntN.{ℤ}
 use contract.Lifetimes.{Lfts}
 use denote.Ref.{now}
@@ -16,11 +16,12 @@ use Rattle.rules.specs.Refusal.{Answer, refused, gives, then, must, bufferShort
 use Rattle.rules.specs.Table.{Table, edgesOf}
 use Rattle.rules.specs.Parity.{plus, turns, Codeword}
 use Rattle.rules.specs.CodeFile.{codeFile}
-use Rattle.rules.specs.Buffers.{Buffers}
+use Rattle.rules.specs.Buffers.{Buffers, over}
 use Rattle.rules.specs.Run.{Progress, Run, Called, call, Started, startBy, start, fresh}
-use Rattle.rules.specs.Calls.{Call, lend, giveBack, lentCall, callList, wantedIn}
-use Rattle.rules.specs.Demand3.{Best, FreshStart, AllLent, listFrom, CertifiesOn, SamePlaces, Demand3}
+use Rattle.rules.specs.Calls.{Call, lend, giveBack, lentCall, callList, StartLent, startOn, startedRun, wantedIn}
+use Rattle.rules.specs.Demand3.{Best, FreshStart, AllLent, listFrom, CertifiesOn, SamePlaces, RoundsDone, Demand3}
 use Rattle.rules.proofs.AnswerLaws.{refused≢gives, gives-inj}
+use Rattle.rules.proofs.Fresh.{started-copies, started-offsets}
 use Rattle.rules.proofs.Demand3.{demand3}
 use Rattle.decoder.specs.Reply.{progressOf, startedOf, outcomeOf}
 use Rattle.decoder.proofs.start as st
@@ -105,60 +106,68 @@ chain-is {file} {l} (more {calls} {r} {ds} x o ef el ew er h) =
 abbrev pub startedWith : Buffers → List ℤ → List ℤ → Buffers
 startedWith b z y = record { spins = b .spins; copies = z; offsets = y; multipliers = b .multipliers; masks = b .masks; word = b .word; certificate = b .certificate }
 
--- a start on these buffers that is not refused, and calls from what it left; `ds` is what each call comes to
+-- a start that is lent first parts of these buffers and is not refused, and calls from what it left; `ds` is what each call comes to
 pub record CodeRun (file : List ℕ) (l : List ℤ) (calls : List Call) (b : Buffers) (ds : List Called) : Type 0 where
   pub first : StartCall
+  pub lentFirst : StartLent
   pub sameFile : startsFile first ≡ file
-  pub sameCopies : startsCopies first ≡ b .copies
-  pub sameOffsets : startsOffsets first ≡ b .offsets
+  pub sameCopies : startsCopies first ≡ take (lentFirst .copies) (b .copies)
+  pub sameOffsets : startsOffsets first ≡ take (lentFirst .offsets) (b .offsets)
   pub progress : Progress
   pub begun : startGave first .answer ≡ gives progress
-  pub chain : Chain file l calls (record { progress = progress; buffers = startedWith b (startGave first .copies) (startGave first .offsets) }) ds
+  pub chain : Chain file l calls (record { progress = progress; buffers = startedWith b (over (startGave first .copies) (b .copies)) (over (startGave first .offsets) (b .offsets)) }) ds
   pub lent : AllLent b calls
-
-started-is : {file : List ℕ} {l : List ℤ} {calls : List Call} {b : Buffers} {ds : List Called} (h : CodeRun file l calls b ds) → startGave (h .first) ≡ start file (b .copies) (b .offsets)
-started-is {file} {b = b} h = start-says (h .first) ∙ ap (λ g. start g (startsCopies (h .first)) (startsOffsets (h .first))) (h .sameFile) ∙ ap₂ (start file) (h .sameCopies) (h .sameOffsets)
 
 only-fresh : (z y : List ℤ) (a : Answer Table) (p : Progress) → startBy z y a .answer ≡ gives p → p ≡ fresh
 only-fresh z y (refused k) p e = absurd (refused≢gives e)
 only-fresh z y (gives t) p e = sym (gives-inj _ _ e)
 
-begins-fresh : {file : List ℕ} {l : List ℤ} {calls : List Call} {b : Buffers} {ds : List Called} (h : CodeRun file l calls b ds) → h .progress ≡ fresh
-unfolding start
-begins-fresh {file} {b = b} h = only-fresh (b .copies) (b .offsets)
-    (then (codeFile file) (λ t. must (leb (edgesOf t) (length (b .copies)) && leb (edgesOf t) (length (b .offsets))) bufferShort (gives t))) (h .progress)
-    (ap (λ d. d .answer) (sym (started-is h)) ∙ h .begun)
+module _ {file : List ℕ} {l : List ℤ} {calls : List Call} {b : Buffers} {ds : List Called} (h : CodeRun file l calls b ds) where
+  started-is : startGave (h .first) ≡ startOn file (h .lentFirst) b
+  started-is = start-says (h .first) ∙ ap (λ g. start g (startsCopies (h .first)) (startsOffsets (h .first))) (h .sameFile) ∙ ap₂ (start file) (h .sameCopies) (h .sameOffsets)
 
-fresh-start : {file : List ℕ} {l : List ℤ} {calls : List Call} {b : Buffers} {ds : List Called} (t : Table) → codeFile file ≡ gives t → CodeRun file l calls b ds → FreshStart file t b
-fresh-start t e h = record { isTable = e; started = ap (λ d. d .answer) (sym (started-is h)) ∙ h .begun ∙ ap gives (begins-fresh h) }
+  begins-fresh : h .progress ≡ fresh
+  unfolding start
+  begins-fresh =
+      let z = take (h .lentFirst .copies) (b .copies) in
+      let y = take (h .lentFirst .offsets) (b .offsets) in
+      only-fresh z y (then (codeFile file) (λ t. must (leb (edgesOf t) (length z) && leb (edgesOf t) (length y)) bufferShort (gives t))) (h .progress)
+      (ap (λ d. d .answer) (sym started-is) ∙ h .begun)
 
-run-is : {file : List ℕ} {l : List ℤ} {calls : List Call} {b : Buffers} {ds : List Called} → CodeRun file l calls b ds → ds ≡ listFrom file l calls b
-run-is {file} {l} {calls} {b} h = chain-is (h .chain)
-    ∙ ap₂ (λ p d. callList file l calls (record { progress = p; buffers = startedWith b (d .copies) (d .offsets) })) (begins-fresh h) (started-is h)
+  module _ (t : Table) (isFile : codeFile file ≡ gives t) where
+    fresh-start : FreshStart file t b
+    fresh-start = record { isTable = isFile; lent = h .lentFirst; started = ap (λ d. d .answer) (sym started-is) ∙ h .begun ∙ ap gives begins-fresh }
+
+    run-is : ds ≡ listFrom file l calls b
+    run-is = chain-is (h .chain)
+        ∙ ap₂ (λ p d. callList file l calls (record { progress = p; buffers = startedWith b (over (d .copies) (b .copies)) (over (d .offsets) (b .offsets)) })) begins-fresh started-is
+        ∙ ap₂ (λ z y. callList file l calls (record { progress = fresh; buffers = startedWith b z y })) (started-copies file t b fresh-start) (started-offsets file t b fresh-start)
 
 -- ---- demand 3: the list on the frame comes to `da`, the same list on the negated frame to `db`
-pub record CodeDemand3 (file : List ℕ) (t : Table) (l : List ℤ) (c : List Bool) (da db : List Called) : Type 0 where
+pub record CodeDemand3 (file : List ℕ) (t : Table) (l : List ℤ) (c : List Bool) (calls : List Call) (a : Buffers) (da db : List Called) : Type 0 where
   pub best : (w : List Bool) (k : ℕ) (bs : List ℕ) → CertifiesOn t w k bs da → Best t l w
+  pub done : RoundsDone t l calls (startedRun file a) da
   pub twin : SamePlaces t c da db
   pub others : (w : List Bool) (k : ℕ) (bs : List ℕ) → CertifiesOn t w k bs da
       → (calls : List Call) (d : Buffers) (ds : List Called) → CodeRun file (turns c l) calls d ds
       → k ≤ wantedIn calls ds → CertifiesOn t (plus c w) k bs ds
 
 pub code-demand3 : (file : List ℕ) (t : Table) (l : List ℤ) (c : List Bool) (calls : List Call) (a b : Buffers) (da db : List Called)
-    → codeFile file ≡ gives t → Codeword t c → CodeRun file l calls a da → CodeRun file (turns c l) calls b db → CodeDemand3 file t l c da db
+    → codeFile file ≡ gives t → Codeword t c → CodeRun file l calls a da → CodeRun file (turns c l) calls b db → CodeDemand3 file t l c calls a da db
 code-demand3 file t l c calls a b da db e cw ha hb = record {
-  best = λ w k bs h. whole .best w k bs (subst (CertifiesOn t w k bs) (run-is ha) h);
-  twin = subst (λ x. SamePlaces t c x db) (sym (run-is ha)) (subst (SamePlaces t c (listFrom file l calls a)) (sym (run-is hb)) (whole .twin));
+  best = λ w k bs h. whole .best w k bs (subst (CertifiesOn t w k bs) (run-is ha t e) h);
+  done = subst (RoundsDone t l calls (startedRun file a)) (sym (run-is ha t e)) (whole .done);
+  twin = subst (λ x. SamePlaces t c x db) (sym (run-is ha t e)) (subst (SamePlaces t c (listFrom file l calls a)) (sym (run-is hb t e)) (whole .twin));
   others = λ w k bs h xs d ds hd g.
-      subst (CertifiesOn t (plus c w) k bs) (sym (run-is hd))
-      (whole .others w k bs (subst (CertifiesOn t w k bs) (run-is ha) h) d (fresh-start t e hd) xs (hd .lent) (subst (λ x. k ≤ wantedIn xs x) (run-is hd) g));
+      subst (CertifiesOn t (plus c w) k bs) (sym (run-is hd t e))
+      (whole .others w k bs (subst (CertifiesOn t w k bs) (run-is ha t e) h) d (fresh-start hd t e) xs (hd .lent) (subst (λ x. k ≤ wantedIn xs x) (run-is hd t e) g));
 }
   where
     whole : Demand3 file t l c calls a b
-    whole = demand3 file t l c calls a b (fresh-start t e ha) (fresh-start t e hb) cw (ha .lent) (hb .lent)
+    whole = demand3 file t l c calls a b (fresh-start ha t e) (fresh-start hb t e) cw (ha .lent) (hb .lent)
 
 -- beside the proofs of the two functions: demand 3 and they cannot come apart
 pub proved : {M : Type 1} → st-statement M × (rd-statement M
     × ((file : List ℕ) (t : Table) (l : List ℤ) (c : List Bool) (calls : List Call) (a b : Buffers) (da db : List Called)
-    → codeFile file ≡ gives t → Codeword t c → CodeRun file l calls a da → CodeRun file (turns c l) calls b db → CodeDemand3 file t l c da db))
+    → codeFile file ≡ gives t → Codeword t c → CodeRun file l calls a da → CodeRun file (turns c l) calls b db → CodeDemand3 file t l c calls a da db))
 proved = (start-met, (rounds-met, code-demand3))

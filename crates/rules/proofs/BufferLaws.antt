@@ -34,6 +34,13 @@ over-take zero (x ∷ new) old h = absurd (omega arith)
 over-take (suc n) (x ∷ new) [] h = ap (λ z. x ∷ z) (append-nil new ∙ sym (take-all n new (le-of-suc-le-suc h)) ∙ ap (take n) (sym (append-nil new)))
 over-take (suc n) (x ∷ new) (y ∷ old) h = ap (λ z. x ∷ z) (over-take n new old (le-of-suc-le-suc h))
 
+-- a write to a first part, given back, is the write to the whole
+pub over-lent : {A : Type 0} (n : ℕ) (new old : List A) → length new ≤ n → over (over new (take n old)) old ≡ over new old
+over-lent n [] old h = over-part n old
+over-lent zero (x ∷ new) old h = absurd (omega arith)
+over-lent (suc n) (x ∷ new) [] h = ap (λ z. x ∷ z) (append-nil (new ++ []))
+over-lent (suc n) (x ∷ new) (y ∷ old) h = ap (λ z. x ∷ z) (over-lent n new old (le-of-suc-le-suc h))
+
 -- what is past a write stays
 over-drop : {A : Type 0} (n : ℕ) (new old : List A) → length new ≤ n → drop n (over new old) ≡ drop n old
 over-drop n [] old h = refl

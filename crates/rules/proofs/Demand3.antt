@@ -2,29 +2,27 @@
 use mathlib.Core.Path.{_≡_, refl, sym, _∙_, ap, subst}
 use mathlib.Core.Bool.{Bool}
 use mathlib.Core.List.{List, [], _∷_}
-use mathlib.Core.Option.{Option, some, none}
-use Prim.Native.Nat.{ℕ, suc, _+_, _≤_}
+use Prim.Native.Nat.{ℕ, _+_, _≤_}
 use native.Mathlib.Omega.{arith}
-use lib.ListN.{take}
 use lib.IntN.{ℤ}
 use Rattle.rules.specs.Table.{Table}
 use Rattle.rules.specs.Parity.{plus, turns, Codeword}
 use Rattle.rules.specs.Input.{bitsOf}
-use Rattle.rules.specs.Round.{State, round}
 use Rattle.rules.specs.Buffers.{Buffers}
-use Rattle.rules.specs.Run.{running, certified, Run, bytesOf, overWord, statusAt, moved, stateIn, iterate}
+use Rattle.rules.specs.Run.{Run, bytesOf, stateIn, iterate}
 use Rattle.rules.specs.Calls.{Call, startedRun, wantedIn}
-use Rattle.rules.specs.Demand3.{Best, FreshStart, AllLent, listFrom, CertifiesOn, SamePlace, SamePlaces, Demand3}
+use Rattle.rules.specs.Demand3.{Best, FreshStart, AllLent, listFrom, CertifiesOn, SamePlace, SamePlaces, RoundsDone, Demand3}
 use Rattle.rules.proofs.Tables.{file-sound}
 use Rattle.rules.proofs.Optimal.{round-best}
 use Rattle.rules.proofs.WrittenPasses.{bits-bytes, bytes-length}
-use Rattle.rules.proofs.BufferLaws.{take-over}
 use Rattle.rules.proofs.RoundSizes.{round-sized}
-use Rattle.rules.proofs.Runs.{coming, iterate-keeps, running≢certified, uncertified}
+use Rattle.rules.proofs.Runs.{Ends, iterate-ends}
 use Rattle.rules.proofs.Lends.{callsOn, lent-list}
 use Rattle.rules.proofs.Twins.{Worded, Twin, iterate-twin, Alike, call-twin}
 use Rattle.rules.proofs.Lists.{callFor, says-status, Stands, found, found-ends, catch}
+use Rattle.rules.proofs.CallPasses.{ended-made, ended-word}
 use Rattle.rules.proofs.Fresh.{started-twin, all-part}
+use Rattle.rules.proofs.Counted.{list-rounds}
 
 -- ---- a list in the words of the theory
 on-table : (file : List ℕ) (t : Table) (l : List ℤ) (xs : List Call) (b : Buffers) → FreshStart file t b → AllLent b xs → listFrom file l xs b ≡ callsOn t l xs (startedRun file b)
@@ -33,30 +31,6 @@ on-table file t l xs b f h = lent-list file t l xs (startedRun file b) (f .isTab
 -- ---- bytes tell the word
 bytes-inj : (v w : List Bool) → bytesOf v ≡ bytesOf w → v ≡ w
 bytes-inj v w e = sym (bits-bytes v) ∙ ap bitsOf e ∙ bits-bytes w
-
--- ---- a certified run was certified by one of its rounds
-record Proved (t : Table) (l : List ℤ) (r : Run) : Type 0 where
-  made : 1 ≤ r .progress .rounds
-  from : State
-  word : List Bool
-  by : round t l from .word ≡ some word
-  shows : take (t .bits) (r .buffers .word) ≡ bytesOf word
-
-moved-proved : (t : Table) (l : List ℤ) (r : Run) → moved r (coming t l r) .progress .status ≡ certified → Proved t l (moved r (coming t l r))
-moved-proved t l r e = go (coming t l r .word) refl e
-  where
-    go : (o : Option (List Bool)) → coming t l r .word ≡ o → statusAt (suc (r .progress .rounds)) o ≡ certified → Proved t l (moved r (coming t l r))
-    go none p q = absurd (uncertified (suc (r .progress .rounds)) q)
-    go (some w) p q = record {
-      made = omega arith;
-      from = stateIn t (r .buffers);
-      word = w;
-      by = p;
-      shows = ap (λ o. take (t .bits) (overWord o (r .buffers .word))) p ∙ take-over (t .bits) (bytesOf w) (r .buffers .word) (round-sized t l (stateIn t (r .buffers)) .word w p);
-    }
-
-iterate-proved : (t : Table) (l : List ℤ) (k : ℕ) (r : Run) → r .progress .status ≡ running → iterate t l k r .progress .status ≡ certified → Proved t l (iterate t l k r)
-iterate-proved t l k r e = iterate-keeps t l (λ q. q .progress .status ≡ certified → Proved t l q) (λ q p. moved-proved t l q) k r (λ p. absurd (running≢certified (sym e ∙ p)))
 
 -- ---- the end, turned
 stands-turn : (t : Table) (c : List Bool) (w : List Bool) (k : ℕ) (bs : List ℕ) (r q : Run) → 1 ≤ k → Twin t c r q → Stands t w k bs r → Stands t (plus c w) k bs q
@@ -92,13 +66,15 @@ pub demand3 : (file : List ℕ) (t : Table) (l : List ℤ) (c : List Bool) (call
 unfolding iterate
 demand3 file t l c calls a b fa fb cw ha hb = record {
   best = λ w k bs h. let p = proved w k bs h in
-      subst (Best t l) (bytes-inj (p .word) w (sym (p .shows) ∙ ends w k bs h .writes))
-      (round-best t l (p .from) (p .word) (file-sound file t (fa .isTable) .below) (sym (bytes-length (p .word)) ∙ round-sized t l (p .from) .word (p .word) (p .by)) (p .by));
+      subst (Best t l) (bytes-inj (p .word) w (sym (ended-word t l _ p) ∙ ends w k bs h .writes))
+      (round-best t l (stateIn t (p .last .buffers)) (p .word) (file-sound file t (fa .isTable) .below)
+      (sym (bytes-length (p .word)) ∙ round-sized t l (stateIn t (p .last .buffers)) .word (p .word) (p .by)) (p .by));
+  done = subst (RoundsDone t l calls (startedRun file a)) (sym (on-table file t l calls a fa ha)) (list-rounds file t l a fa calls);
   twin = subst (λ ds. SamePlaces t c ds (listFrom file (turns c l) calls b)) (sym (on-table file t l calls a fa ha))
       (subst (SamePlaces t c (callsOn t l calls (startedRun file a))) (sym (on-table file t (turns c l) calls b fb hb))
       (places-twin t c l calls (startedRun file a) (startedRun file b) cw (started-twin file t c a b fa fb)));
   others = λ w k bs h d fd xs hd g.
-      let made = subst (λ n. 1 ≤ n) (ends w k bs h .took) (proved w k bs h .made) in
+      let made = subst (λ n. 1 ≤ n) (ends w k bs h .took) (ended-made t l _ (proved w k bs h)) in
       subst (CertifiesOn t (plus c w) k bs) (sym (on-table file t (turns c l) xs d fd hd))
       (caught k bs (plus c w) d (stands-turn t c w k bs (iterate t l k (startedRun file a)) (iterate t (turns c l) k (startedRun file d)) made
       (iterate-twin t c l cw k (startedRun file a) (startedRun file d) (started-twin file t c a d fa fd)) (ends w k bs h))
@@ -108,8 +84,8 @@ demand3 file t l c calls a b fa fb cw ha hb = record {
     ends : (w : List Bool) (k : ℕ) (bs : List ℕ) → CertifiesOn t w k bs (listFrom file l calls a) → Stands t w k bs (iterate t l k (startedRun file a))
     ends w k bs h = found-ends t l (startedRun file a) w k bs refl (found t l (startedRun file a) w k bs 0 calls (subst (CertifiesOn t w k bs) (on-table file t l calls a fa ha) h))
 
-    proved : (w : List Bool) (k : ℕ) (bs : List ℕ) → CertifiesOn t w k bs (listFrom file l calls a) → Proved t l (iterate t l k (startedRun file a))
-    proved w k bs h = iterate-proved t l k (startedRun file a) refl (ends w k bs h .marked)
+    proved : (w : List Bool) (k : ℕ) (bs : List ℕ) → CertifiesOn t w k bs (listFrom file l calls a) → Ends t l (iterate t l k (startedRun file a))
+    proved w k bs h = iterate-ends t l k (startedRun file a) refl (ends w k bs h .marked)
 
     caught : (k : ℕ) (bs : List ℕ) (v : List Bool) (d : Buffers) → Stands t v k bs (iterate t (turns c l) k (startedRun file d)) → (xs : List Call) → 1 ≤ k
         → k ≤ wantedIn xs (callsOn t (turns c l) xs (startedRun file d)) → CertifiesOn t v k bs (callsOn t (turns c l) xs (startedRun file d))

@@ -4,9 +4,10 @@ use mathlib.Core.Bool.{Bool, true, false, _&&_}
 use mathlib.Core.List.{List, [], _∷_}
 use Prim.Native.Nat.{ℕ, zero, suc, _*_, _≤_}
 use native.Mathlib.Omega.{arith}
+use native.Mathlib.Nat.{le-trans}
 use lib.Dec.{leb}
-use borrow.Author.Tests.{leb-true}
-use lib.ListN.{length, take, length-replicate}
+use borrow.Author.Tests.{leb-true, le-leb}
+use lib.ListN.{length, take, length-take, length-replicate}
 use lib.IntN.{ℤ, pos}
 use Rattle.integers.specs.Order.{within-zero}
 use Rattle.integers.specs.Sum.{AllWithin}
@@ -17,12 +18,12 @@ use Rattle.rules.specs.Parity.{turns}
 use Rattle.rules.specs.CodeFile.{codeFile}
 use Rattle.rules.specs.Buffers.{Buffers, lengthsOf, over}
 use Rattle.rules.specs.Run.{stateIn, Started, zeros, startBy, start, fresh}
-use Rattle.rules.specs.Calls.{Call, startedRun}
+use Rattle.rules.specs.Calls.{Call, startOn, startedRun}
 use Rattle.rules.specs.Demand3.{FreshStart, AllLent}
 use Rattle.rules.proofs.Basics.{and-both}
 use Rattle.rules.proofs.Signs.{turn-zero}
-use Rattle.rules.proofs.AnswerLaws.{refused≢gives, then-of}
-use Rattle.rules.proofs.BufferLaws.{take-over, over-length, fits-part}
+use Rattle.rules.proofs.AnswerLaws.{refused≢gives, must-true, then-of}
+use Rattle.rules.proofs.BufferLaws.{take-over, over-lent, over-length, fits-part}
 use Rattle.rules.proofs.RoundTurns.{signs, turnState}
 use Rattle.rules.proofs.Runs.{Safe, running≢certified}
 use Rattle.rules.proofs.Lends.{AllPart}
@@ -54,9 +55,32 @@ zeroed file t z y isFile e = subst (Zeroed t z y) (sym tested)
         ≡ startBy z y (must (leb (edgesOf t) (length z) && leb (edgesOf t) (length y)) bufferShort (gives t))
     tested = ap (startBy z y) (then-of (codeFile file) t (λ x. must (leb (edgesOf x) (length z) && leb (edgesOf x) (length y)) bufferShort (gives x)) isFile)
 
+-- a start with room enough is not refused
+roomy : (file : List ℕ) (t : Table) (z y : List ℤ) → codeFile file ≡ gives t → edgesOf t ≤ length z → edgesOf t ≤ length y → start file z y .answer ≡ gives fresh
+unfolding start
+roomy file t z y isFile h k = ap (λ a. startBy z y a .answer) (then-of (codeFile file) t (λ x. must (leb (edgesOf x) (length z) && leb (edgesOf x) (length y)) bufferShort (gives x)) isFile
+    ∙ must-true (leb (edgesOf t) (length z) && leb (edgesOf t) (length y)) bufferShort (gives t) (ap₂ _&&_ (le-leb (edgesOf t) (length z) h) (le-leb (edgesOf t) (length y) k)))
+
+part-least : (n : ℕ) (l : List ℤ) → length (take n l) ≤ length l
+part-least n l = omega (arith, length-take n l)
+
 module _ (file : List ℕ) (t : Table) (b : Buffers) (f : FreshStart file t b) where
+  on-parts : Zeroed t (take (f .lent .copies) (b .copies)) (take (f .lent .offsets) (b .offsets)) (startOn file (f .lent) b)
+  on-parts = zeroed file t (take (f .lent .copies) (b .copies)) (take (f .lent .offsets) (b .offsets)) (f .isTable) (f .started)
+
   at-start : Zeroed t (b .copies) (b .offsets) (start file (b .copies) (b .offsets))
-  at-start = zeroed file t (b .copies) (b .offsets) (f .isTable) (f .started)
+  at-start = zeroed file t (b .copies) (b .offsets) (f .isTable)
+      (roomy file t (b .copies) (b .offsets) (f .isTable) (le-trans (on-parts .room .0) (part-least (f .lent .copies) (b .copies))) (le-trans (on-parts .room .1) (part-least (f .lent .offsets) (b .offsets))))
+
+  fits-in : (n : ℕ) (l : List ℤ) → edgesOf t ≤ length (take n l) → length (zeros (edgesOf t)) ≤ n
+  fits-in n l h = omega (arith, zeros-length (edgesOf t), length-take n l)
+
+  -- what a start that is lent parts leaves in the whole is what it would leave if it were lent the whole
+  pub started-copies : over (startOn file (f .lent) b .copies) (b .copies) ≡ start file (b .copies) (b .offsets) .copies
+  started-copies = ap (λ x. over x (b .copies)) (on-parts .copies) ∙ over-lent (f .lent .copies) (zeros (edgesOf t)) (b .copies) (fits-in (f .lent .copies) (b .copies) (on-parts .room .0)) ∙ sym (at-start .copies)
+
+  pub started-offsets : over (startOn file (f .lent) b .offsets) (b .offsets) ≡ start file (b .copies) (b .offsets) .offsets
+  started-offsets = ap (λ x. over x (b .offsets)) (on-parts .offsets) ∙ over-lent (f .lent .offsets) (zeros (edgesOf t)) (b .offsets) (fits-in (f .lent .offsets) (b .offsets) (on-parts .room .1)) ∙ sym (at-start .offsets)
 
   zero-part : (x old : List ℤ) → x ≡ over (zeros (edgesOf t)) old → take (edgesOf t) x ≡ zeros (edgesOf t)
   zero-part x old e = ap (take (edgesOf t)) e ∙ take-over (edgesOf t) (zeros (edgesOf t)) old (zeros-length (edgesOf t))

@@ -23,6 +23,7 @@ pub mod Runs
 pub mod Lends
 pub mod Twins
 pub mod Lists
+pub mod CallPasses
 pub mod Fresh
 pub mod Counted
 pub mod Demand3

@@ -14,11 +14,11 @@ use lib.ListN.{take}
 use lib.IntN.{ℤ}
 use Rattle.rules.specs.Refusal.{Answer, refused, gives, multiplierLarge}
 use Rattle.rules.specs.Table.{Table, checksOf}
-use Rattle.rules.specs.Run.{Status, running, certified, spent, Run, bytesOf, moved, next, iterate, admits, answerAt, Called, perform, callOn}
+use Rattle.rules.specs.Run.{Status, running, certified, spent, Run, bytesOf, next, iterate, admits, answerAt, Called, perform, callOn}
 use Rattle.rules.specs.Calls.{Call, wantedBy, wantedIn, Certifies, here, later}
 use Rattle.rules.proofs.AnswerLaws.{refused≢gives, gives-inj}
 use Rattle.rules.proofs.Lends.{callsOn}
-use Rattle.rules.proofs.Runs.{coming, next-cases, ended-stays, iterate-stays, iterate-plus, running≢certified, spent≢running}
+use Rattle.rules.proofs.Runs.{Moves, next-cases, ended-stays, iterate-stays, iterate-plus, running≢certified, spent≢running}
 
 -- one round more, counted at either end
 pub count-next : (a b n s : ℕ) → a ≡ b + s → b ≡ suc n → a ≡ n + suc s
@@ -36,13 +36,13 @@ unfolding iterate
 reach t l zero r = record { steps = 0; within = omega arith; same = refl; counted = omega arith }
 reach t l (suc j) r = go (next-cases t l r) (reach t l j r) (reach t l j (next t l r))
   where
-    go : (next t l r ≡ r) ⊎ (next t l r ≡ moved r (coming t l r)) → Reach t l j r → Reach t l j (next t l r) → Reach t l (suc j) r
+    go : (next t l r ≡ r) ⊎ Moves t l r → Reach t l j r → Reach t l j (next t l r) → Reach t l (suc j) r
     go (inl e) p q = record { steps = p .steps; within = le-step (p .within); same = p .same ∙ ap (iterate t l j) (sym e); counted = ap (λ x. iterate t l j x .progress .rounds) e ∙ p .counted }
-    go (inr e) p q = record {
+    go (inr m) p q = record {
       steps = suc (q .steps);
       within = suc-le-suc-iff .1 (q .within);
       same = q .same;
-      counted = count-next (iterate t l j (next t l r) .progress .rounds) (next t l r .progress .rounds) (r .progress .rounds) (q .steps) (q .counted) (ap (λ x. x .progress .rounds) e);
+      counted = count-next (iterate t l j (next t l r) .progress .rounds) (next t l r .progress .rounds) (r .progress .rounds) (q .steps) (q .counted) (ap (λ x. x .progress .rounds) (m .is));
     }
 
 -- ---- calls
@@ -84,7 +84,7 @@ list-after t l r i (x ∷ xs) = ap (after t l xs) (call-extends t l r i x) ∙ l
     a = takes (admitsFor t l x (iterate t l i r)) (x .wanted)
 
 -- ---- where a list certifies, the iteration is certified
-answer-certified : (s : Status) (a b : ℕ) → answerAt s a b ≡ gives certified → s ≡ certified
+pub answer-certified : (s : Status) (a b : ℕ) → answerAt s a b ≡ gives certified → s ≡ certified
 answer-certified running a b e = absurd (go (eqb a b) e)
   where
     go : (t : Bool) → cond t (gives running) (refused multiplierLarge) ≡ gives certified → ⊥

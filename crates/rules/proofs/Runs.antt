@@ -31,25 +31,33 @@ abbrev pub coming : Table → List ℤ → Run → Round
 coming t l r = round t l (stateIn t (r .buffers))
 
 -- ---- it stays, or it moves and counts
-pub next-cases : (t : Table) (l : List ℤ) (r : Run) → (next t l r ≡ r) ⊎ (next t l r ≡ moved r (coming t l r))
+pub record Moves (t : Table) (l : List ℤ) (r : Run) : Type 0 where
+  pub isRunning : r .progress .status ≡ running
+  pub small : tooLarge (coming t l r .entries) ≡ false
+  pub is : next t l r ≡ moved r (coming t l r)
+
+pub next-cases : (t : Table) (l : List ℤ) (r : Run) → (next t l r ≡ r) ⊎ Moves t l r
 unfolding next
-next-cases t l r = go (r .progress .status) (tooLarge (coming t l r .entries)) refl
+next-cases t l r = go (r .progress .status) refl (tooLarge (coming t l r .entries)) refl
   where
-    go : (s : Status) (b : Bool) → tooLarge (coming t l r .entries) ≡ b → (nextBy s r (coming t l r) ≡ r) ⊎ (nextBy s r (coming t l r) ≡ moved r (coming t l r))
-    go running true e = inl (ap (λ b. cond b r (moved r (coming t l r))) e)
-    go running false e = inr (ap (λ b. cond b r (moved r (coming t l r))) e)
-    go certified b e = inl refl
-    go spent b e = inl refl
+    by : (s : Status) → r .progress .status ≡ s → next t l r ≡ nextBy s r (coming t l r)
+    by s p = ap (λ x. nextBy x r (coming t l r)) p
+
+    go : (s : Status) → r .progress .status ≡ s → (b : Bool) → tooLarge (coming t l r .entries) ≡ b → (next t l r ≡ r) ⊎ Moves t l r
+    go running p true e = inl (by running p ∙ ap (λ b. cond b r (moved r (coming t l r))) e)
+    go running p false e = inr (record { isRunning = p; small = e; is = by running p ∙ ap (λ b. cond b r (moved r (coming t l r))) e })
+    go certified p b e = inl (by certified p)
+    go spent p b e = inl (by spent p)
 
 -- what holds of a run and is kept by each round holds ever after
-pub iterate-keeps : (t : Table) (l : List ℤ) (P : Run → Type 0) → ((r : Run) → P r → P (moved r (coming t l r))) → (k : ℕ) (r : Run) → P r → P (iterate t l k r)
+pub iterate-keeps : (t : Table) (l : List ℤ) (P : Run → Type 0) → ((r : Run) → Moves t l r → P r → P (moved r (coming t l r))) → (k : ℕ) (r : Run) → P r → P (iterate t l k r)
 unfolding iterate
 iterate-keeps t l P f zero r p = p
 iterate-keeps t l P f (suc k) r p = iterate-keeps t l P f k (next t l r) (go (next-cases t l r))
   where
-    go : (next t l r ≡ r) ⊎ (next t l r ≡ moved r (coming t l r)) → P (next t l r)
+    go : (next t l r ≡ r) ⊎ Moves t l r → P (next t l r)
     go (inl e) = subst P (sym e) p
-    go (inr e) = subst P (sym e) (f r p)
+    go (inr m) = subst P (sym (m .is)) (f r m p)
 
 pub ended-stays : (t : Table) (l : List ℤ) (r : Run) → (r .progress .status ≡ running → ⊥) → next t l r ≡ r
 unfolding next
@@ -97,7 +105,7 @@ held-moved t l b r h = record {
     p = written-past t (coming t l r) (r .buffers) (round-sized t l (stateIn t (r .buffers))) (h .long)
 
 pub iterate-held : (t : Table) (l : List ℤ) (k : ℕ) (b : Buffers) (r : Run) → Held t b r → Held t b (iterate t l k r)
-iterate-held t l k b r h = iterate-keeps t l (Held t b) (held-moved t l b) k r h
+iterate-held t l k b r h = iterate-keeps t l (Held t b) (λ q m. held-moved t l b q) k r h
 
 -- ---- 43's limits hold before every round of a run that they held of at first
 pub record Safe (t : Table) (r : Run) : Type 0 where
@@ -116,6 +124,24 @@ uncertified k = go (leb roundLimit k)
     go : (b : Bool) → cond b spent running ≡ certified → ⊥
     go true e = spent≢certified e
     go false e = running≢certified e
+
+-- ---- a certified run was certified by its last round
+pub record Ends (t : Table) (l : List ℤ) (q : Run) : Type 0 where
+  pub last : Run
+  pub moves : Moves t l last
+  pub same : q ≡ moved last (coming t l last)
+  pub word : List Bool
+  pub by : coming t l last .word ≡ some word
+
+moved-ends : (t : Table) (l : List ℤ) (r : Run) → Moves t l r → moved r (coming t l r) .progress .status ≡ certified → Ends t l (moved r (coming t l r))
+moved-ends t l r m e = go (coming t l r .word) refl e
+  where
+    go : (o : Option (List Bool)) → coming t l r .word ≡ o → statusAt (suc (r .progress .rounds)) o ≡ certified → Ends t l (moved r (coming t l r))
+    go none p q = absurd (uncertified (suc (r .progress .rounds)) q)
+    go (some w) p q = record { last = r; moves = m; same = refl; word = w; by = p }
+
+pub iterate-ends : (t : Table) (l : List ℤ) (k : ℕ) (r : Run) → r .progress .status ≡ running → iterate t l k r .progress .status ≡ certified → Ends t l (iterate t l k r)
+iterate-ends t l k r e = iterate-keeps t l (λ q. q .progress .status ≡ certified → Ends t l q) (λ q m p. moved-ends t l q m) k r (λ p. absurd (running≢certified (sym e ∙ p)))
 
 status-early : (k : ℕ) (o : Option (List Bool)) → statusAt k o ≡ running → k < roundLimit
 status-early k none e = go (leb roundLimit k) refl e
@@ -148,7 +174,7 @@ safe-moved t l r h = record {
     here = state-written t (coming t l r) (r .buffers) (round-sized t l (stateIn t (r .buffers)))
 
 pub iterate-safe : (t : Table) (l : List ℤ) (k : ℕ) (r : Run) → Safe t r → Safe t (iterate t l k r)
-iterate-safe t l k r h = iterate-keeps t l (Safe t) (safe-moved t l) k r h
+iterate-safe t l k r h = iterate-keeps t l (Safe t) (λ q m. safe-moved t l q) k r h
 
 -- ---- a multiplier never exceeds 2 · 4,096 + 8,192 · 1,023 = 8,388,608, in a resumed run too
 at-most : (a b : ℕ) (es : List Entry) → a ≤ b → AtMost a es → AtMost b es

@@ -1,14 +1,15 @@
 -- A list of calls for rounds in one run, and what demand 3 says of such lists (document 01, "One round"; document 00, demand 3). Definitions only.
 -- Assumes nothing.
 use mathlib.Core.Path.{_≡_}
-use mathlib.Core.Bool.{Bool}
+use mathlib.Core.Bool.{Bool, cond}
 use mathlib.Core.List.{List, [], _∷_}
-use Prim.Native.Nat.{ℕ, _+_}
+use Prim.Native.Nat.{ℕ, _+_, _-_}
+use lib.Dec.{eqb}
 use lib.ListN.{take}
 use lib.IntN.{ℤ}
-use Rattle.rules.specs.Refusal.{Answer, refused, gives}
+use Rattle.rules.specs.Refusal.{Answer, refused, gives, multiplierLarge}
 use Rattle.rules.specs.Buffers.{Buffers, Lengths, partOf, overAll}
-use Rattle.rules.specs.Run.{Status, certified, Progress, Run, Called, call, Started, start, fresh, bytesOf}
+use Rattle.rules.specs.Run.{Status, certified, Run, Called, call, Started, start, fresh, bytesOf}
 
 -- "A call in it may want any number of rounds, above 1,024 too, or be lent too short a part of a buffer"
 pub record Call : Type 0 where
@@ -29,6 +30,14 @@ lentCall file l x r = giveBack (call file l (x .wanted) (lend (x .lent) r)) r
 abbrev pub callList : List ℕ → List ℤ → List Call → Run → List Called
 callList file l [] r = []
 callList file l (x ∷ xs) r = lentCall file l x r ∷ callList file l xs (lentCall file l x r .run)
+
+-- A start is lent first parts of copies and offsets.
+pub record StartLent : Type 0 where
+  pub copies : ℕ
+  pub offsets : ℕ
+
+abbrev pub startOn : List ℕ → StartLent → Buffers → Started
+startOn file n b = start file (take (n .copies) (b .copies)) (take (n .offsets) (b .offsets))
 
 -- "The list begins at what the start left"
 abbrev pub startedRun : List ℕ → Buffers → Run
@@ -54,6 +63,21 @@ abbrev pub wantedIn : List Call → List Called → ℕ
 wantedIn [] ds = 0
 wantedIn (x ∷ xs) [] = 0
 wantedIn (x ∷ xs) (d ∷ ds) = wantedBy (d .answer) (x .wanted) + wantedIn xs ds
+
+-- the run after a list that began with r
+abbrev pub runAfter : Run → List Called → Run
+runAfter r [] = r
+runAfter r (d ∷ ds) = runAfter (d .run) ds
+
+-- "those wanted by its calls not refused, and those a call counted before 44, added up", of a run that had done n rounds before
+abbrev pub countedBy : Answer Status → ℕ → ℕ → ℕ
+countedBy (refused k) v n = cond (eqb k multiplierLarge) n 0
+countedBy (gives s) v n = v
+
+abbrev pub countedIn : ℕ → List Call → List Called → ℕ
+countedIn n [] ds = 0
+countedIn n (x ∷ xs) [] = 0
+countedIn n (x ∷ xs) (d ∷ ds) = countedBy (d .answer) (x .wanted) (d .run .progress .rounds - n) + countedIn (d .run .progress .rounds) xs ds
 
 -- "A list certifies w if one of its calls answers certified and writes w; w took the rounds done by then. A call's multipliers are the m numbers it
 -- leaves in their buffer": of n bits and m checks

@@ -2,17 +2,18 @@
 use mathlib.Core.Path.{_≡_}
 use mathlib.Core.Bool.{Bool, true}
 use mathlib.Core.List.{List, [], _∷_}
-use Prim.Native.Nat.{ℕ, _≤_}
+use Prim.Native.Nat.{ℕ, _≤_, min}
 use lib.ListN.{take}
 use lib.IntN.{ℤ, pos, _*ℤ_}
 use Rattle.integers.specs.Linear.{_⩽_}
+use Rattle.rules.specs.Limits.{roundLimit}
 use Rattle.rules.specs.Refusal.{gives}
 use Rattle.rules.specs.Table.{Table, checksOf}
 use Rattle.rules.specs.Parity.{plus, turns, Codeword, agreement, Point, pointAgreement}
 use Rattle.rules.specs.CodeFile.{codeFile}
 use Rattle.rules.specs.Buffers.{Buffers, lengthsOf, fits}
-use Rattle.rules.specs.Run.{certified, bytesOf, Called, fresh, start}
-use Rattle.rules.specs.Calls.{Call, callList, startedRun, wantedIn, Certifies}
+use Rattle.rules.specs.Run.{running, certified, Run, bytesOf, iterate, Called, fresh}
+use Rattle.rules.specs.Calls.{Call, callList, StartLent, startOn, startedRun, wantedIn, runAfter, countedIn, Certifies}
 
 -- "no codeword and no point of the parity relaxation agrees with the frame better than w"
 pub record Best (t : Table) (l : List ℤ) (w : List Bool) : Type 0 where
@@ -20,10 +21,12 @@ pub record Best (t : Table) (l : List ℤ) (w : List Bool) : Type 0 where
   pub overCodewords : (c : List Bool) → Codeword t c → agreement (t .bits) l c ⩽ agreement (t .bits) l w
   pub overPoints : (d : ℕ) (p : List ℤ) → Point t d p → pointAgreement (t .bits) l p ⩽ pos d *ℤ agreement (t .bits) l w
 
--- "made from a fresh start": the file is the table's, and a start on these buffers, whatever they hold, is not refused
+-- "made from a fresh start": the file is the table's, and a start that is lent first parts of these buffers, whatever they hold, is not refused. What
+-- it leaves is what it would leave if it were lent the whole (proofs/Fresh).
 pub record FreshStart (file : List ℕ) (t : Table) (b : Buffers) : Type 0 where
   pub isTable : codeFile file ≡ gives t
-  pub started : start file (b .copies) (b .offsets) .answer ≡ gives fresh
+  pub lent : StartLent
+  pub started : startOn file lent b .answer ≡ gives fresh
 
 -- each call is lent parts of these buffers, long enough or too short
 abbrev pub AllLent : Buffers → List Call → Type 0
@@ -53,11 +56,18 @@ SamePlaces t c [] (y ∷ ys) = ⊥
 SamePlaces t c (x ∷ xs) [] = ⊥
 SamePlaces t c (x ∷ xs) (y ∷ ys) = SamePlace t c x y × SamePlaces t c xs ys
 
+-- "The rounds done after a list are those wanted by its calls not refused, and those a call counted before 44, added up, but none beyond the round
+-- that ends the run": the run, let do its 1,024 rounds, has ended, and by then has done as many as the round that ends it says
+pub record RoundsDone (t : Table) (l : List ℤ) (calls : List Call) (r : Run) (ds : List Called) : Type 0 where
+  pub ends : iterate t l roundLimit r .progress .status ≡ running → ⊥
+  pub rounds : runAfter r ds .progress .rounds ≡ min (countedIn 0 calls ds) (iterate t l roundLimit r .progress .rounds)
+
 -- "For every table, frame and codeword c of that table, and for every list of calls for rounds, refused ones included, made from a fresh start":
 -- the list runs on the buffers a, "the same list from a fresh start of its own, on the frame with its numbers negated under the ones of c" on b
 pub record Demand3 (file : List ℕ) (t : Table) (l : List ℤ) (c : List Bool) (calls : List Call) (a b : Buffers) : Type 0 where
   -- "if the list certifies a word w, no codeword and no point of the parity relaxation agrees with the frame better than w"
   pub best : (w : List Bool) (k : ℕ) (bs : List ℕ) → CertifiesOn t w k bs (listFrom file l calls a) → Best t l w
+  pub done : RoundsDone t l calls (startedRun file a) (listFrom file l calls a)
   -- "And whatever the list comes to, the same list [..] has at each place the same answer, the same rounds done and the same multipliers, and where
   -- the first certifies w it certifies w plus c modulo 2"
   pub twin : SamePlaces t c (listFrom file l calls a) (listFrom file (turns c l) calls b)
