@@ -28,3 +28,5 @@ pub mod Fresh
 pub mod Counted
 pub mod Demand3
 pub mod ScatterLaws
+pub mod AnnouncedLaws
+pub mod ReportLaws

@@ -1,19 +1,55 @@
--- The frame report's lines (document 01, "The frame report"): what the program prints of each frame. Definitions only. Assumes nothing.
-use mathlib.Core.List.{List, [], _∷_}
+-- The frame report (document 01, "The frame report"): how much of the input is the code file, and what the program prints of each frame. Definitions,
+-- and the lengths of a few files by computation. Assumes nothing.
+use mathlib.Core.Path.{_≡_, refl}
+use mathlib.Core.Bool.{cond, _||_}
+use mathlib.Core.List.{List, [], _∷_, map}
 use Prim.Native.Nat.{ℕ}
-use lib.ListN.{replicate, take}
-use lib.IntN.{ℤ, pos}
-use Rattle.rules.specs.Limits.{roundLimit}
+use lib.Dec.{ltb}
+use lib.ListN.{length, replicate, take}
+use lib.IntN.{ℤ}
+use Rattle.rules.specs.Limits.{maxChecks, maxEdges, contentsEnd, fileLength, roundLimit}
 use Rattle.rules.specs.Refusal.{Answer, refused, gives}
 use Rattle.rules.specs.Bytes.{u16At}
 use Rattle.rules.specs.Table.{Table}
 use Rattle.rules.specs.Parity.{agreement}
-use Rattle.rules.specs.CodeFile.{codeFile}
+use Rattle.rules.specs.CodeFile.{contents, totalCount, codeFile}
 use Rattle.rules.specs.Input.{bitsOf}
 use Rattle.rules.specs.Buffers.{Buffers, Lengths, needs}
-use Rattle.rules.specs.Run.{Status, running, certified, spent, Run, Called, call, zeros}
+use Rattle.rules.specs.Run.{Status, running, certified, spent, Run, call, zeros}
 use Rattle.rules.specs.Calls.{startedRun}
 
+-- ---- the code file on standard input
+-- "The code file is as long as its contents say": from how many of its bytes are there, m and E. The four in front say m, and the contents E. A file of
+-- more than 2,048 checks (2) or 8,192 edges (3 or 4) is refused whatever follows, so nothing more of it is asked for.
+abbrev pub announcedBy : ℕ → ℕ → ℕ → ℕ
+announcedBy have m e =
+    cond (ltb have 4 || ltb maxChecks m) 4
+    (cond (ltb have (contentsEnd m) || ltb maxEdges e) (contentsEnd m) (fileLength m e))
+
+-- what the bytes read so far say
+unfoldable pub announced : List ℕ → ℕ
+announced bs = announcedBy (length bs) (u16At bs 2) (totalCount (contents bs 0 (u16At bs 2)))
+
+-- the code file at the front of an input: read on to what is announced, first by no bytes, then by the first four, then by the contents
+abbrev pub fileIn : List ℕ → List ℕ
+fileIn input = take (announced (take (announced (take (announced []) input)) input)) input
+
+-- document 01's 14 bytes as they come, with a frame behind them; 2,049 checks; a count of 8,193
+announced-examples :
+    map announced
+    ((3 ∷ 0 ∷ [])
+    ∷ (3 ∷ 0 ∷ 1 ∷ 0 ∷ [])
+    ∷ (3 ∷ 0 ∷ 1 ∷ 0 ∷ 0 ∷ 0 ∷ 3 ∷ 0 ∷ [])
+    ∷ (3 ∷ 0 ∷ 1 ∷ 0 ∷ 0 ∷ 0 ∷ 3 ∷ 0 ∷ 0 ∷ 0 ∷ 1 ∷ 0 ∷ 2 ∷ 0 ∷ [])
+    ∷ (3 ∷ 0 ∷ 1 ∷ 0 ∷ 0 ∷ 0 ∷ 3 ∷ 0 ∷ 0 ∷ 0 ∷ 1 ∷ 0 ∷ 2 ∷ 0 ∷ 160 ∷ 15 ∷ 160 ∷ 15 ∷ 48 ∷ 248 ∷ [])
+    ∷ (3 ∷ 0 ∷ 1 ∷ 8 ∷ 0 ∷ 0 ∷ 3 ∷ 0 ∷ [])
+    ∷ (3 ∷ 0 ∷ 1 ∷ 0 ∷ 0 ∷ 0 ∷ 1 ∷ 32 ∷ 0 ∷ 0 ∷ [])
+    ∷ [])
+    ≡ 4 ∷ 8 ∷ 14 ∷ 14 ∷ 14 ∷ 4 ∷ 8 ∷ []
+unfolding announced u16At contents totalCount
+announced-examples = refl
+
+-- ---- a frame's line
 -- "After certified: rounds, agreement, cuts"
 pub data Line : Type 0 where
   refusedLine : ℕ → Line

@@ -6,7 +6,7 @@ use table::numbers::u16_of;
 ghost use mathlib.Core.Path.{_≡_};
 ghost use Prim.Native.Nat.{_*_, _≤_, _<_};
 ghost use lib.IntN.{pos, natAbs};
-ghost use lib.ListN.{length, drop};
+ghost use lib.ListN.{length};
 ghost use lib.Signed.{_≤ℤ_};
 ghost use mir.Syntax.{w16, w32};
 ghost use mir.Val.{toZ};

@@ -1,0 +1,193 @@
+-- A frame's line on blank buffers that are longer than they need be; and the agreement of a word that was judged can be asked for. Assumes nothing.
+use mathlib.Core.Path.{_≡_, refl, sym, _∙_, ap, ap₂, subst}
+use mathlib.Core.Bool.{true, _&&_}
+use mathlib.Core.List.{List, _∷_}
+use Prim.Native.Nat.{ℕ, zero, suc, _+_, _*_, _≤_}
+use native.Mathlib.Omega.{arith}
+use native.Mathlib.Nat.{le-of-suc-le-suc}
+use lib.Dec.{leb, eqb}
+use borrow.Author.Tests.{le-leb, eqb-true}
+use lib.ListN.{length, take, drop, replicate, length-take, length-replicate, List·getD-append}
+use lib.Seq.{take-all}
+use lib.IntN.{ℤ, pos}
+use Rattle.rules.specs.Limits.{frameLimit, roundLimit}
+use Rattle.rules.specs.Refusal.{Answer, refused, gives, must, frameLength, frameRange, wordWrong, askedTooMuch, bufferShort, runEnded, runDamaged}
+use Rattle.rules.specs.Bytes.{u16At}
+use Rattle.rules.specs.Table.{Table, edgesOf}
+use Rattle.rules.specs.CodeFile.{codeFile}
+use Rattle.rules.specs.Parity.{agreement}
+use Rattle.rules.specs.Input.{eachWithin, onFrame, eachBit, onWord, bitsOf}
+use Rattle.rules.specs.Judge.{Verdict, judge, agreementOf}
+use Rattle.rules.specs.Buffers.{Buffers, Lengths, lengthsOf, needs, fits, partOf, over}
+use Rattle.rules.specs.Run.{Status, running, certified, spent, fresh, Run, stateIn, iterate, isRunning, sound, admits, Called, perform, callOn, callBy, call, startBy, start, zeros}
+use Rattle.rules.specs.Calls.{lend, giveBack, lentCall, startedRun}
+use Rattle.rules.specs.Report.{Line, refusedLine, certifiedLine, lineAt, blank, lineBy, frameLine}
+use Rattle.rules.proofs.AnswerLaws.{must-gives, must-true, then-of}
+use Rattle.rules.proofs.BufferLaws.{Part, take-over, over-take, over-length, buffers-eq, lengths-part, past-lengths}
+use Rattle.rules.proofs.Runs.{held-start, iterate-held}
+use Rattle.rules.proofs.Lends.{lent-call}
+
+-- ---- a start on longer buffers
+zeros-length : (e : ℕ) → length (zeros e) ≡ e
+zeros-length e = length-replicate e (pos 0)
+
+part-fits : (a b : Lengths) → Part a b → fits a b ≡ true
+unfolding fits
+part-fits a b h = simp (
+  le-leb (a .spins) (b .spins) (h .spins),
+  le-leb (a .copies) (b .copies) (h .copies),
+  le-leb (a .offsets) (b .offsets) (h .offsets),
+  le-leb (a .multipliers) (b .multipliers) (h .multipliers),
+  le-leb (a .masks) (b .masks) (h .masks),
+  le-leb (a .word) (b .word) (h .word),
+  le-leb (a .certificate) (b .certificate) (h .certificate),
+)
+
+part-refl : (a : Lengths) → Part a a
+part-refl a = omega arith
+
+module _ (file : List ℕ) (t : Table) (isFile : codeFile file ≡ gives t) where
+  -- a start with room enough
+  pub started-on : (z y : List ℤ) → edgesOf t ≤ length z → edgesOf t ≤ length y
+      → start file z y ≡ record { answer = gives fresh; copies = over (zeros (edgesOf t)) z; offsets = over (zeros (edgesOf t)) y }
+  unfolding start
+  started-on z y h k =
+      ap (startBy z y)
+      (then-of (codeFile file) t (λ x. must (leb (edgesOf x) (length z) && leb (edgesOf x) (length y)) bufferShort (gives x)) isFile
+      ∙ must-true (leb (edgesOf t) (length z) && leb (edgesOf t) (length y)) bufferShort (gives t) (ap₂ _&&_ (le-leb (edgesOf t) (length z) h) (le-leb (edgesOf t) (length y) k)))
+
+  module _ (b : Buffers) (long : Part (needs t) (lengthsOf b)) where
+    at-start : start file (b .copies) (b .offsets) ≡ record { answer = gives fresh; copies = over (zeros (edgesOf t)) (b .copies); offsets = over (zeros (edgesOf t)) (b .offsets) }
+    at-start = started-on (b .copies) (b .offsets) (long .copies) (long .offsets)
+
+    started-length : (x old : List ℤ) → x ≡ over (zeros (edgesOf t)) old → edgesOf t ≤ length old → edgesOf t ≤ length x
+    started-length x old e h = omega (arith, ap length e, over-length (zeros (edgesOf t)) old (omega (arith, zeros-length (edgesOf t))))
+
+    started-long : Part (needs t) (lengthsOf (startedRun file b .buffers))
+    started-long = record {
+      spins = long .spins;
+      copies = started-length (start file (b .copies) (b .offsets) .copies) (b .copies) (ap (λ s. s .copies) at-start) (long .copies);
+      offsets = started-length (start file (b .copies) (b .offsets) .offsets) (b .offsets) (ap (λ s. s .offsets) at-start) (long .offsets);
+      multipliers = long .multipliers;
+      masks = long .masks;
+      word = long .word;
+      certificate = long .certificate;
+    }
+
+    -- a start on the parts that are needed is the part of a start on the whole
+    part-of-start : (z : List ℤ) → over (zeros (edgesOf t)) (take (edgesOf t) z) ≡ take (edgesOf t) (over (zeros (edgesOf t)) z)
+    part-of-start z = over-take (edgesOf t) (zeros (edgesOf t)) z (omega (arith, zeros-length (edgesOf t)))
+
+    room : (z : List ℤ) → edgesOf t ≤ length z → edgesOf t ≤ length (take (edgesOf t) z)
+    room z h = omega (arith, length-take (edgesOf t) z)
+
+    on-parts : start file (take (edgesOf t) (b .copies)) (take (edgesOf t) (b .offsets))
+        ≡ record { answer = gives fresh; copies = over (zeros (edgesOf t)) (take (edgesOf t) (b .copies)); offsets = over (zeros (edgesOf t)) (take (edgesOf t) (b .offsets)) }
+    on-parts = started-on (take (edgesOf t) (b .copies)) (take (edgesOf t) (b .offsets)) (room (b .copies) (long .copies)) (room (b .offsets) (long .offsets))
+
+    started-part : startedRun file (partOf (needs t) b) ≡ lend (needs t) (startedRun file b)
+    started-part = ap (λ x. record { progress = fresh; buffers = x })
+        (buffers-eq refl
+        (ap (λ s. s .copies) on-parts ∙ part-of-start (b .copies) ∙ ap (λ s. take (edgesOf t) (s .copies)) (sym at-start))
+        (ap (λ s. s .offsets) on-parts ∙ part-of-start (b .offsets) ∙ ap (λ s. take (edgesOf t) (s .offsets)) (sym at-start))
+        refl refl refl refl)
+
+  -- ---- a call keeps the lengths of buffers that are long enough, and does to the whole what it does to the parts that are needed
+  call-lengths : (l : List ℤ) (v : ℕ) (r : Run) → Part (needs t) (lengthsOf (r .buffers)) → lengthsOf (call file l v r .run .buffers) ≡ lengthsOf (r .buffers)
+  unfolding call callOn
+  call-lengths l v r h = ap (λ a. lengthsOf (callBy l v r a .run .buffers)) isFile ∙ go (admits t l v (lengthsOf (r .buffers)) r)
+    where
+      go : (a : Answer (Unit {0})) → lengthsOf (perform t l v r a .run .buffers) ≡ lengthsOf (r .buffers)
+      go (refused k) = refl
+      go (gives u) = past-lengths (needs t) (iterate t l v r .buffers) (r .buffers) (iterate-held t l v (r .buffers) r (held-start t r h) .past)
+
+  long-call : (l : List ℤ) (v : ℕ) (r : Run) → Part (needs t) (lengthsOf (r .buffers)) → call file l v r ≡ giveBack (call file l v (lend (needs t) r)) r
+  unfolding call callOn admits lentCall
+  long-call l v r h =
+      ap (callBy l v r) isFile
+      ∙ ap (λ x. perform t l v r (onFrame t l (must (leb v roundLimit) askedTooMuch (must x bufferShort
+      (must (isRunning (r .progress .status)) runEnded (must (sound (r .progress .rounds) (stateIn t (r .buffers))) runDamaged (gives tt)))))))
+      (part-fits (needs t) (lengthsOf (r .buffers)) h ∙ sym (part-fits (needs t) (needs t) (part-refl (needs t))))
+      ∙ sym (lent-call file t l (record { wanted = v; lent = needs t }) r isFile h)
+
+-- ---- what the line reads of the buffers stands in the parts
+lineIn : Table → List ℤ → Called → Line
+lineIn t l d = lineAt t l (d .run) (d .answer)
+
+u16-front : (new old : List ℕ) → 2 ≤ length new → u16At (over new old) 0 ≡ u16At new 0
+unfolding u16At
+u16-front new old h = ap₂ (λ x y. x + 256 * y) (List·getD-append new (drop (length new) old) 0 0 (omega arith)) (List·getD-append new (drop (length new) old) 0 1 (omega arith))
+
+line-back : (t : Table) (l : List ℤ) (d : Called) (r : Run) → lengthsOf (d .run .buffers) ≡ needs t → lineIn t l (giveBack d r) ≡ lineIn t l d
+unfolding lineIn
+line-back t l d r e = go (d .answer)
+  where
+    go : (a : Answer Status) → lineAt t l (giveBack d r .run) a ≡ lineAt t l (d .run) a
+    go (refused k) = refl
+    go (gives running) = refl
+    go (gives certified) = ap₂ (λ w q. certifiedLine (d .run .progress .rounds) (agreement (t .bits) l (bitsOf w)) q)
+        (take-over (t .bits) (d .run .buffers .word) (r .buffers .word) (ap (λ n. n .word) e) ∙ sym (take-all (t .bits) (d .run .buffers .word) (omega (arith, ap (λ n. n .word) e))))
+        (u16-front (d .run .buffers .certificate) (r .buffers .certificate) (omega (arith, ap (λ n. n .certificate) e)))
+    go (gives spent) = refl
+
+-- the part of a blank buffer is blank
+take-replicate : {A : Type 0} (n k : ℕ) (a : A) → n ≤ k → take n (replicate k a) ≡ replicate n a
+take-replicate zero k a h = refl
+take-replicate (suc n) zero a h = absurd (omega arith)
+take-replicate (suc n) (suc k) a h = ap (λ l. a ∷ l) (take-replicate n k a (le-of-suc-le-suc h))
+
+blank-part : (n g : Lengths) → Part n g → partOf n (blank g) ≡ blank n
+blank-part n g h = buffers-eq (take-replicate (n .spins) (g .spins) (pos 0) (h .spins)) (take-replicate (n .copies) (g .copies) (pos 0) (h .copies))
+    (take-replicate (n .offsets) (g .offsets) (pos 0) (h .offsets)) (take-replicate (n .multipliers) (g .multipliers) 0 (h .multipliers))
+    (take-replicate (n .masks) (g .masks) 0 (h .masks)) (take-replicate (n .word) (g .word) 0 (h .word)) (take-replicate (n .certificate) (g .certificate) 0 (h .certificate))
+
+blank-long : (n g : Lengths) → Part n g → Part n (lengthsOf (blank g))
+blank-long n g h = record {
+  spins = long (n .spins) (g .spins) (pos 0) (h .spins);
+  copies = long (n .copies) (g .copies) (pos 0) (h .copies);
+  offsets = long (n .offsets) (g .offsets) (pos 0) (h .offsets);
+  multipliers = long (n .multipliers) (g .multipliers) 0 (h .multipliers);
+  masks = long (n .masks) (g .masks) 0 (h .masks);
+  word = long (n .word) (g .word) 0 (h .word);
+  certificate = long (n .certificate) (g .certificate) 0 (h .certificate);
+}
+  where
+    long : {A : Type 0} (n k : ℕ) (a : A) → n ≤ k → n ≤ length (replicate k a)
+    long n k a h = subst (λ x. n ≤ x) (sym (length-replicate k a)) h
+
+-- ---- blank buffers of any lengths that are enough give the same line
+pub blank-line : (file : List ℕ) (t : Table) (l : List ℤ) (g : Lengths) → codeFile file ≡ gives t → Part (needs t) g
+    → lineAt t l (call file l roundLimit (startedRun file (blank g)) .run) (call file l roundLimit (startedRun file (blank g)) .answer) ≡ frameLine file l
+unfolding frameLine lineIn
+blank-line file t l g isFile h =
+    let long = blank-long (needs t) g h in
+    let r = startedRun file (blank g) in
+    let enough = started-long file t isFile (blank g) long in
+    let sized = lengths-part (needs t) (r .buffers) enough in
+    let parts = lend (needs t) r in
+    ap (lineIn t l) (long-call file t isFile l roundLimit r enough)
+    ∙ line-back t l (call file l roundLimit parts) r (call-lengths file t isFile l roundLimit parts (subst (Part (needs t)) (sym sized) (part-refl (needs t))) ∙ sized)
+    ∙ ap (λ x. lineIn t l (call file l roundLimit x)) (sym (started-part file t isFile (blank g) long))
+    ∙ ap (λ b. lineIn t l (call file l roundLimit (startedRun file b))) (blank-part (needs t) g h)
+    ∙ ap (lineBy file l) (sym isFile)
+
+pub refused-line : (file : List ℕ) (l : List ℤ) (k : ℕ) → codeFile file ≡ refused k → frameLine file l ≡ refusedLine k
+unfolding frameLine
+refused-line file l k e = ap (lineBy file l) e
+
+-- ---- of a word that was judged the agreement can be asked
+pub record Asked (file : List ℕ) (l : List ℤ) (w : List ℕ) (t : Table) : Type 0 where
+  pub frame : length l ≡ t .bits
+  pub agreed : agreementOf file l w ≡ gives (agreement (t .bits) l (bitsOf w))
+
+pub judged-asked : (file : List ℕ) (l : List ℤ) (w bs : List ℕ) (v : Verdict) (t : Table) → codeFile file ≡ gives t → judge file l w bs ≡ gives v → Asked file l w t
+unfolding judge agreementOf onFrame onWord
+judged-asked file l w bs v t isFile e =
+    let p1 = must-gives (eqb (length l) (t .bits)) frameLength _ v (sym (then-of (codeFile file) t _ isFile) ∙ e) in
+    let p2 = must-gives (eachWithin frameLimit l) frameRange _ v (p1 .1) in
+    let p3 = must-gives (eqb (length w) (t .bits) && eachBit w) wordWrong _ v (p2 .1) in
+    let a = gives (agreement (t .bits) l (bitsOf w)) in
+    record {
+      frame = eqb-true (length l) (t .bits) (p1 .0);
+      agreed = then-of (codeFile file) t _ isFile ∙ must-true _ frameLength _ (p1 .0) ∙ must-true _ frameRange _ (p2 .0) ∙ must-true _ wordWrong a (p3 .0);
+    }
