@@ -139,6 +139,7 @@ module _ {file : List ℕ} {l : List ℤ} {calls : List Call} {b : Buffers} {ds 
     fresh-start = record { isTable = isFile; lent = h .lentFirst; started = ap (λ d. d .answer) (sym started-is) ∙ h .begun ∙ ap gives begins-fresh }
 
     run-is : ds ≡ listFrom file l calls b
+    unfolding fresh-start
     run-is = chain-is (h .chain)
         ∙ ap₂ (λ p d. callList file l calls (record { progress = p; buffers = startedWith b (over (d .copies) (b .copies)) (over (d .offsets) (b .offsets)) })) begins-fresh started-is
         ∙ ap₂ (λ z y. callList file l calls (record { progress = fresh; buffers = startedWith b z y })) (started-copies file t b fresh-start) (started-offsets file t b fresh-start)

@@ -7,7 +7,7 @@ use lib.IntN.{ℤ, pos, negsuc}
 use lib.ListN.{replicate}
 use lib.Count.{ones}
 use Rattle.integers.specs.Clip.{clipZ}
-use Rattle.rules.specs.Refusal.{Reply, must, then, replyOf}
+use Rattle.rules.specs.Refusal.{refused, gives, Reply, must, then, replyOf}
 use Rattle.rules.specs.Bytes.{u16At, u32At}
 use Rattle.rules.specs.Parity.{agreement}
 use Rattle.rules.specs.Mask.{maskRight}
@@ -21,9 +21,9 @@ use Rattle.rules.specs.Certificate.{certificateOf, itemsAt, follows, onI
 use Rattle.rules.specs.Judge.{verdict, judge, judgeReply}
 use Rattle.rules.specs.Buffers.{Buffers, Lengths, fits}
 use Rattle.rules.specs.Run.{running, certified, spent, Run, next, iterate, sound, admits, callOn, call, start}
-use Rattle.rules.specs.Calls.{Call, lentCall}
+use Rattle.rules.specs.Calls.{Call, lentCall, countedBy}
 use Rattle.rules.specs.Report.{Line, certifiedLine, spentLine, blank, frameLine}
-use Rattle.rules.specs.Question.{Question, fileIs, cutIs, judged, startIs, callIs, lineIs, listIs, Place, Said, reply, shown, line, places, Case, asked, said, answerTo}
+use Rattle.rules.specs.Question.{Question, fileIs, cutIs, judged, startIs, callIs, lineIs, listIs, countIs, Place, Said, reply, shown, line, places, counts, Case, asked, said, answerTo}
 use Rattle.rules.specs.Frames.{threeBits, oneBit, frameA, word000}
 
 abbrev no : ℕ → Reply
@@ -248,6 +248,9 @@ lists =
     ∷ place (yes (pos 1 ∷ [])) 3 3333 (1 ∷ 1 ∷ 0 ∷ [])
     ∷ place (no 42) 3 3333 (1 ∷ 1 ∷ 0 ∷ [])
     ∷ []))
+    -- of 1 and 7 rounds wanted, none beyond round 3, which ends the run; a list that wants fewer does all it wants
+    ∷ row (countIs threeBits frameA callsOf (dirty (pos 9) 8)) (counts 3 8 3)
+    ∷ row (countIs threeBits frameA (wants 1 full ∷ wants 5 tooShort ∷ wants 1 full ∷ []) (dirty (pos 9) 8)) (counts 2 2 3)
     ∷ []
 
 -- ---- the three-frame report
@@ -257,6 +260,10 @@ report =
     ∷ row (lineIs threeBits (pos 10 ∷ pos 10 ∷ pos 10 ∷ [])) (line (certifiedLine 1 (pos 30) 0))
     ∷ row (lineIs threeBits (pos 0 ∷ pos 0 ∷ pos 0 ∷ [])) (line (spentLine 1024))
     ∷ []
+
+-- "those a call counted before 44"; of other refusals none
+counted-44 : (countedBy (refused 44) 7 2 ≡ 2) × (countedBy (refused 43) 7 2 ≡ 0) × (countedBy (gives running) 7 2 ≡ 7)
+counted-44 = (refl, refl, refl)
 
 pub cases : List Case
 cases = files ++ cuts ++ certificates ++ calls ++ rounds ++ lists ++ report

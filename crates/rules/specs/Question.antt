@@ -5,6 +5,7 @@ use mathlib.Core.List.{List, [], _∷_}
 use Prim.Native.Nat.{ℕ}
 use lib.ListN.{take}
 use lib.IntN.{ℤ}
+use Rattle.rules.specs.Limits.{roundLimit}
 use Rattle.rules.specs.Refusal.{Answer, refused, gives, Reply, replyOf}
 use Rattle.rules.specs.Table.{Table}
 use Rattle.rules.specs.CodeFile.{codeFile, codeFileReply}
@@ -13,8 +14,8 @@ use Rattle.rules.specs.Bound.{bound}
 use Rattle.rules.specs.Certificate.{scaleOf, itemsOf, rowsAt}
 use Rattle.rules.specs.Judge.{judgeReply}
 use Rattle.rules.specs.Buffers.{Buffers, needs}
-use Rattle.rules.specs.Run.{Status, Run, Called, call, statusValues, Started, start, progressValues}
-use Rattle.rules.specs.Calls.{Call, callList, startedRun}
+use Rattle.rules.specs.Run.{Status, Run, iterate, Called, call, statusValues, Started, start, progressValues}
+use Rattle.rules.specs.Calls.{Call, callList, startedRun, runAfter, countedIn}
 use Rattle.rules.specs.Report.{Line, blank, frameLine}
 
 pub data Question : Type 0 where
@@ -36,6 +37,8 @@ pub data Question : Type 0 where
   lineIs : List ℕ → List ℤ → Question
   -- answer, rounds, multipliers and word at each place of a list of calls from a fresh start
   listIs : List ℕ → List ℤ → List Call → Buffers → Question
+  -- the rounds done after such a list, those that its calls count, and the round that ends the run
+  countIs : List ℕ → List ℤ → List Call → Buffers → Question
 
 pub record Place : Type 0 where
   pub reply : Reply
@@ -49,6 +52,7 @@ pub data Said : Type 0 where
   number : ℤ → Said
   line : Line → Said
   places : List Place → Said
+  counts : ℕ → ℕ → ℕ → Said
   nothing : Said
 
 abbrev shownIn : Called → Said
@@ -68,6 +72,9 @@ onTable (gives t) f = f t
 abbrev ranFresh : List ℕ → List ℤ → ℕ → Table → Called
 ranFresh file l k t = call file l k (startedRun file (blank (needs t)))
 
+abbrev countsOf : Table → List ℤ → List Call → Run → List Called → Said
+countsOf t l xs r ds = counts (runAfter r ds .progress .rounds) (countedIn 0 xs ds) (iterate t l roundLimit r .progress .rounds)
+
 abbrev boundOf : Table → List ℤ → List ℕ → Said
 boundOf t l bs = number (bound (t .bits) (scaleOf bs) l (rowsAt t (itemsOf bs)))
 
@@ -81,6 +88,7 @@ answerTo (shows file l k) = onTable (codeFile file) (λ t. shownIn (ranFresh fil
 answerTo (boundIs file l k) = onTable (codeFile file) (λ t. boundOf t l (ranFresh file l k t .run .buffers .certificate))
 answerTo (lineIs file l) = line (frameLine file l)
 answerTo (listIs file l xs b) = places (placesIn (callList file l xs (startedRun file b)))
+answerTo (countIs file l xs b) = onTable (codeFile file) (λ t. countsOf t l xs (startedRun file b) (callList file l xs (startedRun file b)))
 
 pub record Case : Type 0 where
   pub ask : Question

@@ -1,0 +1,87 @@
+-- "And those the decoder writes pass" (document 00, demand 2), of the code: about every call of `rounds` and every call of `judge` of which their
+-- contracts, as they are proved, hold. The run may be fresh or half done: the call was not refused, so it passes 43. Assumes nothing.
+use mathlib.Core.Path.{_≡_, sym, _∙_, ap, ap₂, subst}
+use mathlib.Core.List.{List}
+use Prim.Native.Nat.{ℕ}
+use lib.ListN.{take}
+use lib.IntN.{ℤ}
+use contract.Lifetimes.{Lfts}
+use denote.Ref.{now}
+use denote.Triple.Clauses as Clauses
+use borrow.Fn.World.{ArgsD, ResD}
+use borrow.Fn.Kinds.{endedOf}
+use Rattle.rules.specs.Limits.{certificateLength}
+use Rattle.rules.specs.Refusal.{gives}
+use Rattle.rules.specs.Table.{Table}
+use Rattle.rules.specs.CodeFile.{codeFile}
+use Rattle.rules.specs.Certificate.{entriesOf}
+use Rattle.rules.specs.Judge.{passes, judge}
+use Rattle.rules.specs.Buffers.{Buffers}
+use Rattle.rules.specs.Run.{certified}
+use Rattle.rules.proofs.CallPasses.{PassesAfter, call-passes}
+use Rattle.judge.specs.Reply.{verdictOf}
+use Rattle.judge.specs.declared.Verdict.the-variants.{Certified}
+use Rattle.judge.proofs.ViewLaws.{verdict-inj}
+use Rattle.judge.proofs.judge as jd
+use Rattle.judge.proofs.judge.Kinds as jd-kinds
+use Rattle.judge.proofs.judge.Reads as jd-reads
+use Rattle.judge.proofs.judge.Statement.{statement as jd-statement}
+use Rattle.judge.proofs.judge.Met.{met as judge-met}
+use Rattle.decoder.specs.Reply.{outcomeOf}
+use Rattle.decoder.specs.declared.Outcome.the-variants as out
+use Rattle.decoder.proofs.rounds.Statement.{statement as rd-statement}
+use Rattle.decoder.proofs.rounds.Met.{met as rounds-met}
+use Rattle.decoder.proofs.Demand3.{RoundsCall, roundsFile, roundsFrame, roundsWanted, roundsRun, roundsGave, rounds-says}
+
+-- ---- a call of `judge` of which its contract holds
+pub record JudgeCall : Type 0 where
+  pub lives : Lfts 4
+  pub args : ArgsD jd.signature lives
+  pub result : ResD jd.signature lives
+  pub exit : Clauses.AtExit (endedOf 4 jd-kinds.ps jd-kinds.r) lives
+  pub holds : jd-reads.Post lives args result exit
+
+abbrev pub judgesFile : JudgeCall → List ℕ
+judgesFile y = now (y .args .0)
+
+abbrev pub judgesFrame : JudgeCall → List ℤ
+judgesFrame y = now (y .args .1 .0)
+
+abbrev pub judgesWord : JudgeCall → List ℕ
+judgesWord y = now (y .args .1 .1 .0)
+
+abbrev pub judgesCertificate : JudgeCall → List ℕ
+judgesCertificate y = now (y .args .1 .1 .1 .0)
+
+pub judge-says : (y : JudgeCall) → verdictOf (y .result) ≡ judge (judgesFile y) (judgesFrame y) (judgesWord y) (judgesCertificate y)
+judge-says y = y .holds
+
+-- ---- the judge is handed the same file and frame, the word's first n bytes and the certificate's first 4 + 10q, as the call has left them
+abbrev leftBy : RoundsCall → Buffers
+leftBy x = roundsGave x .run .buffers
+
+pub record Judges (t : Table) (x : RoundsCall) (y : JudgeCall) : Type 0 where
+  pub file : judgesFile y ≡ roundsFile x
+  pub frame : judgesFrame y ≡ roundsFrame x
+  pub word : judgesWord y ≡ take (t .bits) (leftBy x .word)
+  pub certificate : judgesCertificate y ≡ take (certificateLength (entriesOf (leftBy x .certificate))) (leftBy x .certificate)
+
+pub written-passes : (t : Table) (x : RoundsCall) (y : JudgeCall) → codeFile (roundsFile x) ≡ gives t → Judges t x y
+    → x .result .outcome ≡ out.Certified → y .result ≡ Certified
+written-passes t x y isFile j e = verdict-inj (y .result) Certified (judge-says y ∙ same ∙ left)
+  where
+    same : judge (judgesFile y) (judgesFrame y) (judgesWord y) (judgesCertificate y)
+        ≡ judge (roundsFile x) (roundsFrame x) (take (t .bits) (leftBy x .word)) (take (certificateLength (entriesOf (leftBy x .certificate))) (leftBy x .certificate))
+    same = ap₂ (λ f l. judge f l (judgesWord y) (judgesCertificate y)) (j .file) (j .frame) ∙ ap₂ (judge (roundsFile x) (roundsFrame x)) (j .word) (j .certificate)
+
+    certifies : roundsGave x .answer ≡ gives certified
+    certifies = ap outcomeOf e
+
+    left : judge (roundsFile x) (roundsFrame x) (take (t .bits) (leftBy x .word)) (take (certificateLength (entriesOf (leftBy x .certificate))) (leftBy x .certificate)) ≡ gives passes
+    left = subst (PassesAfter (roundsFile x) (roundsFrame x) t) (sym (rounds-says x))
+        (call-passes (roundsFile x) (roundsFrame x) (roundsWanted x) (roundsRun x) t isFile (ap (λ d. d .answer) (sym (rounds-says x)) ∙ certifies))
+
+-- beside the proofs of the two functions
+pub proved : {M : Type 1} → rd-statement M × (jd-statement M
+    × ((t : Table) (x : RoundsCall) (y : JudgeCall) → codeFile (roundsFile x) ≡ gives t → Judges t x y → x .result .outcome ≡ out.Certified → y .result ≡ Certified))
+proved = (rounds-met, (judge-met, written-passes))

@@ -1,0 +1,1 @@
+// No code: what the proved calls promise together, in proofs/.
