@@ -10,7 +10,7 @@ use Rattle.rules.specs.Bytes.{u16At}
 use Rattle.rules.specs.CodeFile.{contents, totalCount}
 use Rattle.rules.specs.Report.{announcedBy, announced}
 use Rattle.rules.proofs.AnnouncedLaws.{announced-most}
-use Rattle.reporting.specs.ReadOn.{ReadOn}
+use Rattle.reporting.specs.ReadOn.{fileLimit, ReadOn}
 
 pub announced-few : (bs : List ℕ) → length bs < 4 → announced bs ≡ 4
 unfolding announced
@@ -43,5 +43,5 @@ module _ (bs : List ℕ) (m : ℕ) (isM : m ≡ u16At bs 2) where
 pub on-to : (size end got : ℕ) (old new : List ℕ) → size < end → end ≤ length old → got ≤ length new → length new ≡ length (take (end - size) (drop size old)) → size + got ≤ max size end
 on-to size end got old new h k g e = omega (arith, length-take (end - size) (drop size old), length-drop size old)
 
-pub read-most : (size r : ℕ) (new old : List ℕ) → size ≤ fileLength maxChecks maxEdges → ReadOn size r new old → r ≤ fileLength maxChecks maxEdges
+pub read-most : (size r : ℕ) (new old : List ℕ) → size ≤ fileLimit → ReadOn size r new old → r ≤ fileLimit
 read-most size r new old h k = omega (arith, k .to, announced-most (take size old))

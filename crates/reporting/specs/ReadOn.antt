@@ -3,7 +3,12 @@ use mathlib.Core.Path.{_≡_}
 use mathlib.Core.List.{List}
 use Prim.Native.Nat.{ℕ, _≤_, max}
 use lib.ListN.{take}
+use Rattle.rules.specs.Limits.{maxChecks, maxEdges, fileLength}
 use Rattle.rules.specs.Report.{announced}
+
+-- the longest code file
+abbrev pub fileLimit : ℕ
+fileLimit = fileLength maxChecks maxEdges
 
 -- from the first `size` bytes, which stay, on to what they announce at the most
 pub record ReadOn (size r : ℕ) (new old : List ℕ) : Type 0 where

@@ -10,7 +10,7 @@ ghost use Rattle.rules.specs.Limits.{maxChecks, contentsEnd};
 ghost use Rattle.rules.specs.Bytes.{u16At};
 ghost use Rattle.rules.specs.CodeFile.{contents, totalCount};
 ghost use Rattle.rules.specs.Report.{announced};
-ghost use Rattle.reporting.specs.ReadOn.{ReadOn};
+ghost use Rattle.reporting.specs.ReadOn.{fileLimit, ReadOn};
 
 // The longest code file.
 pub(crate) const FILE_LIMIT: usize = 4 + 4 * MAX_CHECKS + 2 * MAX_EDGES;
@@ -61,7 +61,7 @@ pub fn announced(bytes: &[u8]) -> usize
 
 // Reads on from the first `size` bytes to what they announce, and answers where the input ended.
 fn read_on(file: &mut [u8], size: usize) -> usize
-    requires { ⌜ (size ≤ 24580) × (24580 ≤ length (now file)) ⌝ }
+    requires { ⌜ (size ≤ fileLimit) × (fileLimit ≤ length (now file)) ⌝ }
     ensures { λ r. ⌜ ReadOn size r (now (file .exit)) (now (file .entry)) ⌝ }
 {
     let end = announced(&file[..size]);
@@ -71,11 +71,11 @@ fn read_on(file: &mut [u8], size: usize) -> usize
     size + io::read_full(STDIN_FILENO, &mut file[size..end])
 }
 
-// How much of the code file is read: all, or less where the input ends or the file can't be one. None
-// of it announces the first four bytes, these the contents, and the contents the bodies.
+// How much of the code file is read: all, or less where the input ends or the file can't be one. No
+// bytes announce the first four, these the contents, and the contents the bodies.
 pub(crate) fn read_code(file: &mut [u8]) -> usize
-    requires { ⌜ 24580 ≤ length (now file) ⌝ }
-    ensures { λ r. ⌜ r ≤ 24580 ⌝ }
+    requires { ⌜ fileLimit ≤ length (now file) ⌝ }
+    ensures { λ r. ⌜ r ≤ fileLimit ⌝ }
 {
     let head = read_on(file, 0);
     let contents = read_on(file, head);

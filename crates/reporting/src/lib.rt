@@ -21,6 +21,7 @@ use table::limits::MAX_EDGES;
 ghost use mathlib.Core.Path.{_≡_};
 ghost use Prim.Native.Nat.{_≤_};
 ghost use lib.ListN.{length};
+ghost use Rattle.rules.specs.Limits.{maxBits};
 ghost use Rattle.rules.specs.Bytes.{u16At};
 ghost use Rattle.rules.specs.Judge.{agreementOf};
 ghost use Rattle.rules.specs.Report.{frameLine};
@@ -78,7 +79,7 @@ fn decode(code: &[u8], frame: &[i16], word: &mut [u8], certificate: &mut [u8]) -
 
 // The cuts are the certificate's q.
 fn certified_line(code: &[u8], frame: &[i16], rounds: u32, word: &[u8], certificate: &[u8]) -> Line
-    requires { ⌜ 2 ≤ length (now certificate) ⌝ }
+    requires { ⌜ 4 ≤ length (now certificate) ⌝ }
     ensures { λ r. ⌜ lineOf r ≡ certifiedBy rounds (agreementOf (now (code .entry)) (now (frame .entry)) (now (word .entry))) (u16At (now (certificate .entry)) 0) ⌝ }
 {
     let agreed = judge::agreement(code, frame, word);
@@ -127,7 +128,7 @@ fn report_frames(code: &[u8], frame: &mut [i16]) {
 }
 
 fn report_code(code: &[u8], bits: usize, checks: usize, edges: usize)
-    requires { ⌜ bits ≤ 2048 ⌝ }
+    requires { ⌜ bits ≤ maxBits ⌝ }
 {
     let mut frame = [0i16; MAX_BITS];
     print_code(bits, checks, edges);
