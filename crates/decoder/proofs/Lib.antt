@@ -1,14 +1,10 @@
-pub mod OverLaws
-pub mod StartLaws
 pub mod ExactLaws
-pub mod RunLaws
+pub mod IterateLaws
 pub mod SpinLaws
 pub mod FillLaws
 pub mod PlaceLaws
 pub mod GatherLaws
 pub mod TotalsLaws
-pub mod BoundsLaws
-pub mod AdmitLaws
 pub mod PerformLaws
 pub mod CallLaws
 pub mod MaskLaws

@@ -1,13 +1,13 @@
-// The C interface (c/jugnayap.h): each function calls the proved one of table, cut, judge or decoder
-// and gives its answer as numbers.
-mod run;
+// The C interface (c/jugnayap.h): each function calls the proved one of table, cut, judge, run or
+// decoder and gives its answer as numbers.
+mod numbers;
 
 use cut::Found;
 use judge::Agreed;
 use judge::Verdict;
-use run::called_numbers;
-use run::record_of;
-use run::started_numbers;
+use numbers::called_numbers;
+use numbers::record_of;
+use numbers::started_numbers;
 use table::Checked;
 ghost use mathlib.Core.Path.{_≡_};
 ghost use Rattle.rules.specs.Refusal.{replyOf};
@@ -161,7 +161,7 @@ pub extern "C" fn jugnayap_start(
     ensures { λ r. ⌜ _≡_ {A = StartLeft} (record { called = r; copies = now (copies .exit); offsets = now (offsets .exit) })
         (startLeft (rule.start (now (code .entry)) (now (copies .entry)) (now (offsets .entry)))) ⌝ }
 {
-    started_numbers(decoder::start(code, copies, offsets))
+    started_numbers(run::start(code, copies, offsets))
 }
 
 #[no_mangle]

@@ -36,7 +36,7 @@ same-length-2 : tie.Need-same-length-2
 same-length-2 c = search needs
 
 returns : tie.Need-returns
-returns c = call-refused _ _ _ _ _ _ _ _ _ (told _ _ _ _ _ (c .before .answer .given .1) (c .before .before .before .before .before .admit .ensures))
+returns c = call-refused _ _ _ _ _ _ _ _ _ (told _ _ _ _ _ (c .before .answer .given .1) (c .before .before .before .before .before .admit .ensures)) (search needs) (search needs)
 
 same-length-3 : tie.Need-same-length-3
 same-length-3 c = search needs

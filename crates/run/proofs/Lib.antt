@@ -1,0 +1,4 @@
+pub mod ClearLaws
+pub mod StartLaws
+pub mod BoundsLaws
+pub mod AdmitLaws
