@@ -5,7 +5,7 @@ use mathlib.Core.List.{List, []}
 use Prim.Native.Nat.{ℕ, zero, suc}
 use native.Mathlib.Nat.{suc-ne-zero}
 use lib.IntN.{ℤ}
-use Rattle.rules.specs.Refusal.{Answer, must, replyOf}
+use Rattle.rules.specs.Refusal.{Answer, refused, must, replyOf}
 use Rattle.inputs.specs.Refusals.{orElse, turnedDown}
 
 -- ---- of two
@@ -36,6 +36,15 @@ module _ {A : Type 0} where
   unfolding turnedDown
   turned-else zero k a = refl
   turned-else (suc j) k a = refl
+
+  pub turned-refused : (k : ℕ) (a : Answer A) → (k ≡ 0 → ⊥) → refused k ≡ turnedDown k a
+  unfolding turnedDown
+  turned-refused zero a h = absurd (h refl)
+  turned-refused (suc k) a h = refl
+
+  pub turned-none : (k : ℕ) (a : Answer A) → k ≡ 0 → a ≡ turnedDown k a
+  unfolding turnedDown
+  turned-none k a e = ap (λ j. turnedDown j a) (sym e)
 
   pub reply-refused : (f : A → List ℤ) (k : ℕ) (a : Answer A) → (k ≡ 0 → ⊥) → record { number = k; values = [] } ≡ replyOf f (turnedDown k a)
   unfolding turnedDown replyOf

@@ -1,5 +1,5 @@
 -- The sizes in an answer are small: they fit the numbers of the C interface. Assumes nothing.
-use mathlib.Core.Path.{_≡_, sym, ap}
+use mathlib.Core.Path.{_≡_, sym}
 use mathlib.Core.Bool.{Bool, true, false, cond}
 use mathlib.Core.List.{List, [], _∷_}
 use mathlib.Core.Option.{Option, some, none}
@@ -8,14 +8,14 @@ use native.Mathlib.Omega.{arith}
 use lib.ListN.{length}
 use lib.IntN.{ℤ, pos}
 use Rattle.rules.specs.Limits.{maxBits, maxChecks, maxEdges}
-use Rattle.rules.specs.Refusal.{Answer, refused, gives, replyOf}
+use Rattle.rules.specs.Refusal.{gives}
 use Rattle.rules.specs.Table.{Table, checksOf, bitsAt}
 use Rattle.rules.specs.Parity.{odd, firstBroken}
 use Rattle.rules.specs.CodeFile.{tableAt, codeFileReply}
 use Rattle.rules.specs.Input.{bitsOf}
 use Rattle.rules.specs.Bound.{Row, gap}
 use Rattle.rules.specs.Certificate.{scaleOf, itemsOf, rowsAt}
-use Rattle.rules.specs.Judge.{Verdict, breaks, passes, misses, weigh, verdict, verdictValues, judge, judgeReply}
+use Rattle.rules.specs.Judge.{breaks, passes, misses, weigh, verdict, judge}
 use Rattle.rules.specs.Round.{isZero}
 use Rattle.rules.proofs.Tables.{file-sound}
 use Rattle.rules.proofs.Judged.{judged}
@@ -62,21 +62,9 @@ verdict-below t s l rs w j e =
     omega arith
 
 module _ (file : List ℕ) (l : List ℤ) (w bs : List ℕ) (j : ℕ) where
-  judge-below : judge file l w bs ≡ gives (breaks j) → j < maxChecks
-  judge-below e =
-      let d = judged file l w bs (breaks j) e in
+  pub broken-small : gives (breaks j) ≡ judge file l w bs → j < maxChecks
+  broken-small e =
+      let d = judged file l w bs (breaks j) (sym e) in
       let few = file-sound file (d .table) (d .isFile) .checks .1 in
       let below = verdict-below (d .table) (scaleOf bs) l (rowsAt (d .table) (itemsOf bs)) (bitsOf w) j (d .says) in
       omega arith
-
-  -- only a broken check's number comes after 0
-  values-breaks : (a : Answer Verdict) → pos 0 ∷ pos j ∷ [] ≡ replyOf verdictValues a .values → a ≡ gives (breaks j)
-  unfolding replyOf
-  values-breaks (refused k) v = absurd (let z : _≡_ {A = ℕ} 0 1 = cc in omega arith)
-  values-breaks (gives (breaks i)) v = let e : j ≡ i = cc in ap (λ x. gives (breaks x)) (sym e)
-  values-breaks (gives passes) v = absurd (let z : _≡_ {A = ℕ} 0 1 = cc in omega arith)
-  values-breaks (gives (misses g)) v = absurd (let z : _≡_ {A = ℕ} 0 2 = cc in omega arith)
-
-  pub broken-small : record { number = 0; values = pos 0 ∷ pos j ∷ [] } ≡ judgeReply file l w bs → j < maxChecks
-  unfolding judgeReply
-  broken-small h = judge-below (values-breaks (judge file l w bs) (ap (λ r. r .values) h))

@@ -13,9 +13,8 @@ ghost use mathlib.Core.Path.{_≡_};
 ghost use Rattle.rules.specs.Refusal.{replyOf};
 ghost use Rattle.rules.specs.CodeFile.{codeFileReply};
 ghost use Rattle.rules.specs.Cut.{cutReply};
-ghost use Rattle.rules.specs.Judge.{judgeReply, agreementOf};
+ghost use Rattle.rules.specs.Judge.{judgeReply, agreementOf, agreementValues};
 ghost use Rattle.rules.specs.Run as rule;
-ghost use Rattle.judge.specs.Reply.{agreementValues};
 ghost use Rattle.jugnayap.specs.Numbers.{tableFrom, cutFrom, verdictFrom, agreementFrom, progressAt, StartLeft, startLeft, CallLeft, callLeft};
 
 // `number` is 0 or the refusal's number; a refused call has zeros in the other fields.
