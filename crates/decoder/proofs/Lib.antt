@@ -17,7 +17,6 @@ pub mod StepLaws
 pub mod LayoutLaws
 pub mod PassLaws
 pub mod PassingLaws
-pub mod SetsLaws
 pub mod SignLaws
 pub mod CandidateLaws
 pub mod CheckLaws
@@ -25,7 +24,6 @@ pub mod QuotientLaws
 pub mod RoomLaws
 pub mod GapLaws
 pub mod BoundLaws
-pub mod CertificateLaws
 pub mod ClosingLaws
 pub mod RoundLaws
 pub mod HalvesLaws

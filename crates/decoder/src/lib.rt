@@ -12,7 +12,6 @@ mod perform;
 mod round;
 mod spins;
 mod step;
-mod written;
 
 use perform::perform_sized;
 use run::Admitted;

@@ -2,9 +2,9 @@
 use mathlib.Core.Path.{sym, ap}
 use Rattle.integers.specs.Linear.{lin, arithZ}
 use Rattle.rules.specs.Mask.{digit}
-use Rattle.decoder.proofs.SignLaws.{below-zero, from-zero}
-use Rattle.decoder.proofs.written.bit_byte.Statement.{statement}
-use Rattle.decoder.proofs.written.bit_byte.Tie as tie
+use Rattle.writing.proofs.WordLaws.{below-zero, from-zero}
+use Rattle.writing.proofs.bit_byte.Statement.{statement}
+use Rattle.writing.proofs.bit_byte.Tie as tie
 
 returns : tie.Need-returns
 returns c = sym (ap digit (below-zero (c .before .args .spin) (simp lin (omega arithZ))))

@@ -1,12 +1,12 @@
--- `write_certificate` meets its contract: its four parts are written one after the other. Assumes nothing.
+-- `write_entries` meets its contract: its four parts are written one after the other. Assumes nothing.
 use mathlib.Core.Path.{_∙_, ap}
 use native.Mathlib.Omega.{arith}
 use lib.Seq.{sets}
 use borrow.Author.Needs.{needs}
 use Rattle.rules.specs.Bytes.{le16}
-use Rattle.decoder.proofs.CertificateLaws.{contents-stop, certificate-all}
-use Rattle.decoder.proofs.written.write_certificate.Statement.{statement}
-use Rattle.decoder.proofs.written.write_certificate.Tie as tie
+use Rattle.writing.proofs.CertificateLaws.{contents-stop, certificate-all}
+use Rattle.writing.proofs.entries.write_entries.Statement.{statement}
+use Rattle.writing.proofs.entries.write_entries.Tie as tie
 
 count-cuts-requires : tie.Need-count-cuts-requires
 count-cuts-requires c κs = search needs
@@ -37,11 +37,11 @@ returns c =
     let scale = c .before .before .before .before .before .before .before .before .before .before .put162 in
     let count = c .before .before .before .before .before .before .before .before .before .before .before .before .before .before .put16 in
     let q = c .before .before .before .before .before .before .before .before .before .before .before .before .before .before .before .count-cuts in
-    certificate-all old (count .last .0) (scale .last .0) (contents .last .1 .1 .1 .0) (bodies .last .1 .1 .0) (start .args .multipliers .now) (start .args .masks .now) (contents .result) (start .pre .2)
+    certificate-all old (count .last .0) (scale .last .0) (contents .last .1 .1 .1 .0) (bodies .last .1 .1 .0) (start .args .multipliers .now) (start .args .masks .now) (contents .result) (start .pre .1)
     (count .ensures ∙ ap (λ n. sets old 0 (le16 n)) (q .ensures)) (scale .ensures) (contents .ensures .0) (contents .ensures .1) (bodies .ensures)
 
-pub write-certificate-spec : {M : Type 1} → statement M
-write-certificate-spec =
+pub write-entries-spec : {M : Type 1} → statement M
+write-entries-spec =
     tie.close
     (tie.spec
     count-cuts-requires

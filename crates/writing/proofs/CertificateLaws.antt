@@ -1,18 +1,20 @@
--- The bytes of a certificate, one check more. Assumes nothing.
+-- The bytes of a certificate: one check more, all parts, and the whole written or refused. Assumes nothing.
 use mathlib.Core.Path.{_≡_, refl, sym, _∙_, ap, ap₂}
 use mathlib.Core.Bool.{Bool, true, false, cond}
 use mathlib.Core.List.{List, [], _∷_, _++_}
 use Prim.Native.Nat.{ℕ, suc, _+_, _*_, _≤_, _<_, zero-le}
 use native.Mathlib.Omega.{arith}
 use native.Mathlib.Numerals.{add-one}
-use lib.Dec.{eqb}
+use lib.Dec.{leb, eqb}
 use lib.ListN.{length, getD, drop, length-append}
 use lib.Seq.{sets}
-use borrow.Author.Tests.{eq-eqb, ne-eqb}
+use borrow.Author.Tests.{eq-eqb, ne-eqb, le-leb, lt-leb}
+use Rattle.rules.specs.Limits.{maxChecks, certificateLength}
+use Rattle.rules.specs.Refusal.{gives, must, sizeRange, bufferShort}
 use Rattle.rules.specs.Bytes.{le16, le32}
 use Rattle.rules.specs.Buffers.{over}
-use Rattle.decoder.specs.Closing.{cutsFrom, contentsFrom, bodiesFrom, certificateFrom}
-use Rattle.decoder.proofs.SetsLaws.{drop-next, drop-end, sets-next, sets-over}
+use Rattle.writing.specs.Written.{cutsFrom, contentsFrom, bodiesFrom, certificateFrom, Written, writtenBy, certificateWritten}
+use Rattle.writing.proofs.SetsLaws.{drop-next, drop-end, sets-next, sets-over}
 
 -- ---- what a check writes, if its mask is not 0
 abbrev pub ifCut : ℕ → List ℕ → List ℕ
@@ -133,3 +135,37 @@ certificate-all c c1 c2 c3 c4 bs ks r h e1 e2 e3 er e4 =
     let three : c3 ≡ sets c 0 (head ++ contentsFrom 0 bs ks) = e3 ∙ sets-next c c2 0 4 head (contentsFrom 0 bs ks) two refl in
     e4 ∙ sets-next c c3 0 r (head ++ contentsFrom 0 bs ks) (bodiesFrom ks) three (omega (arith, er, length-append head (contentsFrom 0 bs ks)))
     ∙ sets-over c (head ++ contentsFrom 0 bs ks ++ bodiesFrom ks) most
+
+-- ---- written, or refused
+module _ (bs ks c : List ℕ) where
+  -- with these answers to the three tests
+  tested : Bool → Bool → Bool → Written
+  tested few even room = writtenBy (must few sizeRange (must even bufferShort (must room bufferShort (gives (certificateFrom bs ks))))) c
+
+  tested-is : (few even room : Bool) → leb (length ks) maxChecks ≡ few → eqb (length bs) (length ks) ≡ even → leb (certificateLength (length ks)) (length c) ≡ room
+      → certificateWritten bs ks c ≡ tested few even room
+  unfolding certificateWritten tested
+  tested-is few even room p q r = ap (λ x. tested x (eqb (length bs) (length ks)) (leb (certificateLength (length ks)) (length c))) p
+      ∙ ap₂ (tested few) q r
+
+  pub certificate-many : maxChecks < length ks → record { number = sizeRange; bytes = c } ≡ certificateWritten bs ks c
+  unfolding tested must
+  certificate-many h = sym (tested-is false (eqb (length bs) (length ks)) (leb (certificateLength (length ks)) (length c)) (lt-leb (length ks) maxChecks h) refl refl)
+
+  module _ (few : length ks ≤ maxChecks) where
+    pub certificate-uneven : (length bs ≡ length ks → ⊥) → record { number = bufferShort; bytes = c } ≡ certificateWritten bs ks c
+    unfolding tested must
+    certificate-uneven f = sym (tested-is true false (leb (certificateLength (length ks)) (length c)) (le-leb (length ks) maxChecks few) (ne-eqb (length bs) (length ks) f) refl)
+
+    module _ (even : length bs ≡ length ks) where
+      pub certificate-short : length c < certificateLength (length ks) → record { number = bufferShort; bytes = c } ≡ certificateWritten bs ks c
+      unfolding tested must
+      certificate-short h = sym (tested-is true true false (le-leb (length ks) maxChecks few) (eq-eqb (length bs) (length ks) even) (lt-leb (certificateLength (length ks)) (length c) h))
+
+      pub certificate-whole : certificateLength (length ks) ≤ length c → certificateWritten bs ks c ≡ record { number = 0; bytes = over (certificateFrom bs ks) c }
+      unfolding tested must
+      certificate-whole h = tested-is true true true (le-leb (length ks) maxChecks few) (eq-eqb (length bs) (length ks) even) (le-leb (certificateLength (length ks)) (length c) h)
+
+      pub certificate-written : (c' : List ℕ) → certificateLength (length ks) ≤ length c → c' ≡ over (certificateFrom bs ks) c
+          → record { number = 0; bytes = c' } ≡ certificateWritten bs ks c
+      certificate-written c' h e = ap (λ l. record { number = 0; bytes = l }) e ∙ sym (certificate-whole h)

@@ -10,7 +10,6 @@ use lib.ListN.{length, getD, drop, set, drop-of-length-le}
 use lib.Seq.{drop-cons, sets, sets-eq}
 use Rattle.rules.specs.Buffers.{over}
 
--- the code's `i + 2` and `i + 3`
 module _ {A : Type 0} where
   -- what is left at k, in the code's `k + 1`
   pub drop-next : (l : List A) (k : ℕ) (d : A) → k < length l → drop k l ≡ getD l k d ∷ drop (k + 1) l

@@ -1,38 +1,17 @@
-// What a certified run writes: the word and the certificate (document 01, "Certificates").
+// A certificate's count, scale, contents and bodies.
 ghost use mathlib.Core.Path.{_≡_};
 ghost use mathlib.Core.Bool.{cond};
 ghost use mathlib.Core.List.{[], _++_};
-ghost use Prim.Native.Nat.{_+_, _*_, _≤_, _<_};
+ghost use Prim.Native.Nat.{_+_, _*_, _≤_};
 ghost use lib.Dec.{eqb};
 ghost use lib.ListN.{length};
 ghost use lib.Seq.{sets};
 ghost use Rattle.rules.specs.Bytes.{le16, le32};
-ghost use Rattle.rules.specs.Mask.{digit};
-ghost use Rattle.rules.specs.Cut.{isNeg, negatives};
-ghost use Rattle.rules.specs.Run.{bytesOf};
 ghost use Rattle.rules.specs.Buffers.{over};
-ghost use Rattle.decoder.specs.Closing.{cutsFrom, contentsFrom, bodiesFrom, certificateFrom};
+ghost use Rattle.writing.specs.Written.{cutsFrom, contentsFrom, bodiesFrom, certificateFrom};
 
-// A 1 where the spin is negative.
-fn bit_byte(spin: i32) -> u8
-    ensures { λ r. ⌜ r ≡ digit (isNeg spin) ⌝ }
-{
-    if spin < 0 {
-        return 1;
-    }
-    0
-}
-
-pub(crate) fn write_word(spins: &[i32], word: &mut [u8])
-    requires { ⌜ length (now spins) ≤ length (now word) ⌝ }
-    ensures { λ _. ⌜ now (word .exit) ≡ over (bytesOf (negatives (now (spins .entry)))) (now (word .entry)) ⌝ }
-{
-    let mut i: usize = 0;
-    while i < spins.len() {
-        word[i] = bit_byte(spins[i]);
-        i += 1;
-    }
-}
+// "S 1 to 1,023": a run's certificate has scale 1.
+const SCALE: usize = 1;
 
 fn put16(bytes: &mut [u8], at: usize, x: usize)
     requires { ⌜ at + 2 ≤ length (now bytes) ⌝ }
@@ -122,13 +101,13 @@ fn write_bodies(masks: &[u32], from: usize, bytes: &mut [u8])
     }
 }
 
-// The certificate of a round's multipliers and masks, scale 1.
-pub(crate) fn write_certificate(multipliers: &[u32], masks: &[u32], certificate: &mut [u8])
-    requires { ⌜ (length (now multipliers) ≡ length (now masks)) × (length (now masks) ≤ 2048) × (4 + 10 * length (now masks) ≤ length (now certificate)) ⌝ }
+// The whole certificate, from the front.
+pub(crate) fn write_entries(multipliers: &[u32], masks: &[u32], certificate: &mut [u8])
+    requires { ⌜ (length (now multipliers) ≡ length (now masks)) × (4 + 10 * length (now masks) ≤ length (now certificate)) ⌝ }
     ensures { λ _. ⌜ now (certificate .exit) ≡ over (certificateFrom (now (multipliers .entry)) (now (masks .entry))) (now (certificate .entry)) ⌝ }
 {
     put16(certificate, 0, count_cuts(masks));
-    put16(certificate, 2, 1);
+    put16(certificate, 2, SCALE);
     let at = write_contents(multipliers, masks, 4, certificate);
     write_bodies(masks, at, certificate);
 }

@@ -5,10 +5,10 @@ use native.Mathlib.Omega.{arith}
 use lib.ListN.{length, drop}
 use borrow.Author.Needs.{needs}
 use Rattle.integers.specs.Machine.{by-arm}
-use Rattle.decoder.specs.Closing.{cutsFrom}
-use Rattle.decoder.proofs.CertificateLaws.{cuts-some, cuts-none, cuts-end}
-use Rattle.decoder.proofs.written.count_cuts.Statement.{statement}
-use Rattle.decoder.proofs.written.count_cuts.Tie as tie
+use Rattle.writing.specs.Written.{cutsFrom}
+use Rattle.writing.proofs.CertificateLaws.{cuts-some, cuts-none, cuts-end}
+use Rattle.writing.proofs.entries.count_cuts.Statement.{statement}
+use Rattle.writing.proofs.entries.count_cuts.Tie as tie
 
 abbrev Inv-loop : tie.InvT-loop
 Inv-loop masks q₀ j₀ q j = (j ≤ length masks) × (q + cutsFrom (drop j masks) ≡ cutsFrom masks) × (q ≤ j)

@@ -7,11 +7,11 @@ use lib.ListN.{length, getD, drop, length-append}
 use lib.Seq.{sets, length-sets}
 use borrow.Author.Needs.{needs}
 use Rattle.rules.specs.Bytes.{le16, le32}
-use Rattle.decoder.specs.Closing.{contentsFrom}
-use Rattle.decoder.proofs.SetsLaws.{sets-next}
-use Rattle.decoder.proofs.CertificateLaws.{ifCut, if-most, contentsLeft, contents-next, contents-end}
-use Rattle.decoder.proofs.written.write_contents.Statement.{statement}
-use Rattle.decoder.proofs.written.write_contents.Tie as tie
+use Rattle.writing.specs.Written.{contentsFrom}
+use Rattle.writing.proofs.SetsLaws.{sets-next}
+use Rattle.writing.proofs.CertificateLaws.{ifCut, if-most, contentsLeft, contents-next, contents-end}
+use Rattle.writing.proofs.entries.write_contents.Statement.{statement}
+use Rattle.writing.proofs.entries.write_contents.Tie as tie
 
 abbrev Inv-loop : tie.InvT-loop
 Inv-loop multipliers masks from bytes₀ at₀ j₀ bytes at j =

@@ -6,11 +6,11 @@ use lib.ListN.{length, getD, drop}
 use lib.Seq.{sets, length-sets}
 use borrow.Author.Needs.{needs}
 use Rattle.rules.specs.Bytes.{le32}
-use Rattle.decoder.specs.Closing.{bodiesFrom}
-use Rattle.decoder.proofs.SetsLaws.{sets-next}
-use Rattle.decoder.proofs.CertificateLaws.{ifCut, if-most, bodies-next, bodies-end}
-use Rattle.decoder.proofs.written.write_bodies.Statement.{statement}
-use Rattle.decoder.proofs.written.write_bodies.Tie as tie
+use Rattle.writing.specs.Written.{bodiesFrom}
+use Rattle.writing.proofs.SetsLaws.{sets-next}
+use Rattle.writing.proofs.CertificateLaws.{ifCut, if-most, bodies-next, bodies-end}
+use Rattle.writing.proofs.entries.write_bodies.Statement.{statement}
+use Rattle.writing.proofs.entries.write_bodies.Tie as tie
 
 abbrev Inv-loop : tie.InvT-loop
 Inv-loop masks from bytes₀ at₀ j₀ bytes at j =

@@ -13,10 +13,10 @@ use Rattle.rules.specs.Cut.{negatives, isNeg}
 use Rattle.rules.specs.Run.{bytesOf}
 use Rattle.rules.specs.Table.{at}
 use Rattle.rules.specs.Mask.{digit}
-use Rattle.decoder.proofs.SignLaws.{bytes-at, bytes-length}
-use Rattle.decoder.proofs.SetsLaws.{sets-more, sets-end, sets-over}
-use Rattle.decoder.proofs.written.write_word.Statement.{statement}
-use Rattle.decoder.proofs.written.write_word.Tie as tie
+use Rattle.writing.proofs.WordLaws.{bytes-at, bytes-length, word-short, word-written}
+use Rattle.writing.proofs.SetsLaws.{sets-more, sets-end, sets-over}
+use Rattle.writing.proofs.write_word.Statement.{statement}
+use Rattle.writing.proofs.write_word.Tie as tie
 
 abbrev Inv-loop : tie.InvT-loop
 Inv-loop spins word₀ i₀ word i =
@@ -24,6 +24,9 @@ Inv-loop spins word₀ i₀ word i =
 
 abbrev μ-loop : tie.MeasureT-loop
 μ-loop spins word₀ i₀ word i = length spins - i
+
+returns : tie.Need-returns Inv-loop μ-loop
+returns c = word-short _ _ (c .if1 .taken)
 
 loop-holds : tie.Need-loop-holds Inv-loop μ-loop
 loop-holds c = (omega arith, refl, refl)
@@ -48,7 +51,7 @@ loop-less c = search needs
 
 loop-again : tie.Need-loop-again Inv-loop μ-loop
 loop-again c =
-    let args = c .before .before .before .before .before .args in
+    let args = c .before .before .before .before .before .before .args in
     let loop = c .before .before .before .loop in
     let s = args .spins .now in
     let x = at s (loop .i) in
@@ -63,13 +66,15 @@ loop-again c =
 same-length : tie.Need-same-length Inv-loop μ-loop
 same-length c = search needs
 
-returns : tie.Need-returns Inv-loop μ-loop
-returns c =
-    let args = c .before .before .before .args in
+returns-2 : tie.Need-returns-2 Inv-loop μ-loop
+returns-2 c =
+    let args = c .before .before .before .before .args in
     let loop = c .before .loop in
     let ts = bytesOf (negatives (args .spins .now)) in
     let long = bytes-length (args .spins .now) in
-    sym (sets-end (loop .word) ts (loop .i) (omega (arith, long, c .loop-test .left))) ∙ loop .inv .2 ∙ sets-over (args .word .now) ts (omega (arith, long))
+    let room : length (args .spins .now) ≤ length (args .word .now) = omega arith in
+    word-written _ _ _ room
+    (sym (sets-end (loop .word) ts (loop .i) (omega (arith, long, c .loop-test .left))) ∙ loop .inv .2 ∙ sets-over (args .word .now) ts (omega (arith, long, room)))
 
 pub write-word-spec : {M : Type 1} → statement M
 write-word-spec =
@@ -77,6 +82,7 @@ write-word-spec =
     (tie.spec
     Inv-loop
     μ-loop
+    returns
     loop-holds
     mul-bit-byte
     shared-slice-copy-out-bit-byte
@@ -86,4 +92,4 @@ write-word-spec =
     loop-less
     loop-again
     same-length
-    returns)
+    returns-2)

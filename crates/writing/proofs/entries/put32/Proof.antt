@@ -3,8 +3,8 @@ use native.Mathlib.Omega.{arith}
 use native.Mathlib.Numerals.{add-one, add-two, add-three}
 use lib.ListN.{length-set}
 use borrow.Author.Needs.{needs}
-use Rattle.decoder.proofs.written.put32.Statement.{statement}
-use Rattle.decoder.proofs.written.put32.Tie as tie
+use Rattle.writing.proofs.entries.put32.Statement.{statement}
+use Rattle.writing.proofs.entries.put32.Tie as tie
 
 cast-bytes : tie.Need-cast-bytes
 cast-bytes c = search needs

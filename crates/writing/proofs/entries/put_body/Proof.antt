@@ -2,9 +2,9 @@
 use mathlib.Core.Path.{_∙_}
 use borrow.Author.Needs.{needs}
 use Rattle.rules.specs.Bytes.{le32}
-use Rattle.decoder.proofs.CertificateLaws.{cut-none, cut-some}
-use Rattle.decoder.proofs.written.put_body.Statement.{statement}
-use Rattle.decoder.proofs.written.put_body.Tie as tie
+use Rattle.writing.proofs.CertificateLaws.{cut-none, cut-some}
+use Rattle.writing.proofs.entries.put_body.Statement.{statement}
+use Rattle.writing.proofs.entries.put_body.Tie as tie
 
 returns : tie.Need-returns
 returns c =
