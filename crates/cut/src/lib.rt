@@ -22,13 +22,12 @@ ghost use lib.ListN.{length};
 ghost use Rattle.integers.specs.Linear.{up, _⩽_, Within};
 ghost use Rattle.integers.specs.Clip.{clipZ};
 ghost use Rattle.rules.specs.Limits.{unit, maxDegree};
-ghost use Rattle.rules.specs.Refusal.{replyOf};
-ghost use Rattle.rules.specs.Cut.{cutValues, cutReply};
+ghost use Rattle.rules.specs.Cut.{maskAnswer, cutAnswer};
 ghost use Rattle.table.specs.Held.{Part};
 ghost use Rattle.cut.specs.Heights.{seen};
 ghost use Rattle.cut.specs.Scan.{changes, decided};
-ghost use Rattle.cut.specs.Reply.{numbered};
-ghost use Rattle.cut.specs.Search.{searchRefusal, tableSearch, maskReply};
+ghost use Rattle.cut.specs.Reply.{foundOf};
+ghost use Rattle.cut.specs.Search.{searchRefusal, tableSearch, maskGives};
 
 // U as a size.
 const UNIT_SIZE: u32 = UNIT as u32;
@@ -144,7 +143,7 @@ pub fn see(v: &[i32], heights: &mut [i32]) -> Cut
 
 // The mask as an answer: no odd set has mask 0.
 fn answer_of(mask: u32) -> Found
-    ensures { λ r. ⌜ numbered r ≡ maskReply mask ⌝ }
+    ensures { λ r. ⌜ foundOf r ≡ maskGives mask ⌝ }
 {
     if mask == 0 {
         return Found::Nothing;
@@ -176,7 +175,7 @@ fn search_table(
     check: usize,
 ) -> Found
     requires { ⌜ (check < checks → Part bits (now starts) (now members) check) ⌝ }
-    ensures { λ r. ⌜ numbered r ≡ replyOf cutValues (tableSearch (now (starts .entry)) (now (members .entry)) bits checks (now (spins .entry)) check) ⌝ }
+    ensures { λ r. ⌜ foundOf r ≡ maskAnswer (tableSearch (now (starts .entry)) (now (members .entry)) bits checks (now (spins .entry)) check) ⌝ }
 {
     let refused = refusal(bits, checks, spins, check);
     if refused != 0 {
@@ -187,7 +186,7 @@ fn search_table(
 
 // The cut search on any bytes, any spins and any check number.
 pub fn search(code: &[u8], spins: &[i32], check: usize) -> Found
-    ensures { λ r. ⌜ numbered r ≡ cutReply (now (code .entry)) (now (spins .entry)) check ⌝ }
+    ensures { λ r. ⌜ foundOf r ≡ cutAnswer (now (code .entry)) (now (spins .entry)) check ⌝ }
 {
     let mut starts = [0u16; MAX_CHECKS + 1];
     let mut members = [0u16; MAX_EDGES];

@@ -30,3 +30,4 @@ pub mod HalvesLaws
 pub mod DoLaws
 pub mod PartsLaws
 pub mod Demand3
+pub mod ViewLaws

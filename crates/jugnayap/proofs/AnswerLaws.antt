@@ -1,5 +1,5 @@
--- The sizes in an answer are small: they fit the numbers of the C interface. Assumes nothing.
-use mathlib.Core.Path.{_≡_, sym}
+-- Answers as the numbers of the C interface: a mask or none, and sizes, which fit them. Assumes nothing.
+use mathlib.Core.Path.{_≡_, refl, sym, _∙_, ap}
 use mathlib.Core.Bool.{Bool, true, false, cond}
 use mathlib.Core.List.{List, [], _∷_}
 use mathlib.Core.Option.{Option, some, none}
@@ -8,7 +8,7 @@ use native.Mathlib.Omega.{arith}
 use lib.ListN.{length}
 use lib.IntN.{ℤ, pos}
 use Rattle.rules.specs.Limits.{maxBits, maxChecks, maxEdges}
-use Rattle.rules.specs.Refusal.{gives}
+use Rattle.rules.specs.Refusal.{Answer, refused, gives, replyOf}
 use Rattle.rules.specs.Table.{Table, checksOf, bitsAt}
 use Rattle.rules.specs.Parity.{odd, firstBroken}
 use Rattle.rules.specs.CodeFile.{tableAt, codeFileReply}
@@ -17,9 +17,22 @@ use Rattle.rules.specs.Bound.{Row, gap}
 use Rattle.rules.specs.Certificate.{scaleOf, itemsOf, rowsAt}
 use Rattle.rules.specs.Judge.{breaks, passes, misses, weigh, verdict, judge}
 use Rattle.rules.specs.Round.{isZero}
+use Rattle.rules.specs.Cut.{cutSearch, maskAnswer, cutAnswer, cutValues, cutReply}
 use Rattle.rules.proofs.Tables.{file-sound}
 use Rattle.rules.proofs.Judged.{judged}
 use Rattle.table.proofs.AcceptedLaws.{readable}
+use Rattle.jugnayap.specs.Numbers.{cutFrom, maskFrom}
+
+-- ---- a mask, or none
+cut-from : (a : Answer (Option (List Bool))) → maskFrom (maskAnswer a) ≡ cutFrom (replyOf cutValues a)
+unfolding replyOf
+cut-from (refused k) = refl
+cut-from (gives none) = refl
+cut-from (gives (some vs)) = refl
+
+pub cut-numbers : (file : List ℕ) (s : List ℤ) (j : ℕ) (a : Answer (Option ℕ)) → a ≡ cutAnswer file s j → maskFrom a ≡ cutFrom (cutReply file s j)
+unfolding cutAnswer cutReply
+cut-numbers file s j a e = ap maskFrom e ∙ cut-from (cutSearch file s j)
 
 -- ---- n, m and E of an accepted file
 pub record Small (n m e : ℕ) : Type 0 where

@@ -9,7 +9,7 @@ use lib.IntN.{ℤ, pos, negsuc, natAbs}
 use lib.Signed.{ltZ}
 use Rattle.rules.specs.Limits.{unit}
 use Rattle.rules.specs.Refusal.{Answer, refused, gives, then, Reply, replyOf}
-use Rattle.rules.specs.Table.{Table, at, valuesAt}
+use Rattle.rules.specs.Table.{at, valuesAt}
 use Rattle.rules.specs.Parity.{odd, left}
 use Rattle.rules.specs.Mask.{maskOf}
 use Rattle.rules.specs.CodeFile.{codeFile}
