@@ -1,6 +1,7 @@
-// The frame report (document 01, "The frame report"): reads a code file, then frames, on standard
-// input, and prints a line for the code and one for each frame.
-mod code;
+// The frame report (document 01, "The frame report"): how long the code file on standard input is and
+// the line of a frame, as functions; and the program, which reads and prints and no more.
+pub mod code;
+mod print;
 
 use code::FILE_LIMIT;
 use code::read_code;
@@ -8,23 +9,46 @@ use code::u16_at;
 use decoder::Called;
 use decoder::Outcome;
 use judge::Agreed;
-use libc::STDOUT_FILENO;
+use print::print_code;
+use print::print_frame;
+use print::print_refused;
 use run::Record;
 use run::Started;
-use stream::print_number;
-use stream::print_signed;
 use table::Checked;
 use table::limits::MAX_BITS;
 use table::limits::MAX_CHECKS;
 use table::limits::MAX_EDGES;
+ghost use mathlib.Core.Path.{_≡_};
 ghost use Prim.Native.Nat.{_≤_};
 ghost use lib.ListN.{length};
+ghost use Rattle.rules.specs.Bytes.{u16At};
+ghost use Rattle.rules.specs.Judge.{agreementOf};
+ghost use Rattle.rules.specs.Report.{frameLine};
+ghost use Rattle.decoder.specs.Reply.{outcomeOf};
+ghost use Rattle.reporting.specs.View.{lineOf};
+ghost use Rattle.reporting.specs.Ran.{lentWith, freshRan, certifiedBy};
 
 // "certificate 4 + 10m"
 const CERTIFICATE_LIMIT: usize = 4 + 10 * MAX_CHECKS;
 
+// What is said of a frame: a refusal's number, or the rounds and how the run stands. "After certified:
+// rounds, agreement, cuts."
+pub enum Line {
+    Refused(u8),
+    Running(u32),
+    Certified {
+        rounds: u32,
+        agreement: i64,
+        cuts: usize,
+    },
+    Spent(u32),
+}
+
 // "each frame gets a fresh run of 1,024 rounds"
-fn decode(code: &[u8], frame: &[i16], word: &mut [u8], certificate: &mut [u8]) -> Called {
+fn decode(code: &[u8], frame: &[i16], word: &mut [u8], certificate: &mut [u8]) -> Called
+    ensures { λ r. ⌜ (record { answer = outcomeOf (r .outcome); rounds = r .run .rounds; word = now (word .exit); certificate = now (certificate .exit) })
+        ≡ freshRan (now (code .entry)) (now (frame .entry)) (lentWith (now (word .entry)) (now (certificate .entry))) ⌝ }
+{
     let mut spins = [0i32; MAX_BITS];
     let mut copies = [0i32; MAX_EDGES];
     let mut offsets = [0i32; MAX_EDGES];
@@ -52,50 +76,44 @@ fn decode(code: &[u8], frame: &[i16], word: &mut [u8], certificate: &mut [u8]) -
     }
 }
 
-fn print_agreement(agreement: Agreed) {
-    match agreement {
-        Agreed::Refused(k) => print_number(b" refused ", k as u64),
-        Agreed::Is(a) => {
-            io::write_all(STDOUT_FILENO, b" ");
-            print_signed(a);
-        }
+// The cuts are the certificate's q.
+fn certified_line(code: &[u8], frame: &[i16], rounds: u32, word: &[u8], certificate: &[u8]) -> Line
+    requires { ⌜ 2 ≤ length (now certificate) ⌝ }
+    ensures { λ r. ⌜ lineOf r ≡ certifiedBy rounds (agreementOf (now (code .entry)) (now (frame .entry)) (now (word .entry))) (u16At (now (certificate .entry)) 0) ⌝ }
+{
+    let agreed = judge::agreement(code, frame, word);
+    match agreed {
+        Agreed::Refused(k) => Line::Refused(k),
+        Agreed::Is(a) => Line::Certified {
+            rounds,
+            agreement: a,
+            cuts: u16_at(certificate, 0),
+        },
     }
 }
 
-// "After certified: rounds, agreement, cuts": the cuts are the certificate's q.
-fn print_certified(code: &[u8], frame: &[i16], rounds: u32, word: &[u8], certificate: &[u8])
-    requires { ⌜ 2 ≤ length (now certificate) ⌝ }
-{
-    print_number(b" certified ", rounds as u64);
-    print_agreement(judge::agreement(code, frame, word));
-    print_number(b" ", u16_at(certificate, 0) as u64);
-}
-
-fn report_frame(code: &[u8], frame: &[i16], k: u64)
-    requires { ⌜ length (now frame) ≤ 2048 ⌝ }
+// The line of a frame, any numbers, on a code file, any bytes.
+pub fn frame_line(code: &[u8], frame: &[i16]) -> Line
+    ensures { λ r. ⌜ lineOf r ≡ frameLine (now (code .entry)) (now (frame .entry)) ⌝ }
 {
     let mut word = [0u8; MAX_BITS];
     let mut certificate = [0u8; CERTIFICATE_LIMIT];
     let called = decode(code, frame, &mut word, &mut certificate);
     let outcome = called.outcome;
     let rounds = called.run.rounds;
-    print_number(b"frame ", k);
     match outcome {
-        Outcome::Refused(n) => print_number(b" refused ", n as u64),
-        Outcome::Running => print_number(b" running ", rounds as u64),
+        Outcome::Refused(k) => Line::Refused(k),
+        Outcome::Running => Line::Running(rounds),
         Outcome::Certified => {
             let bits = frame.len();
-            print_certified(code, frame, rounds, &word[..bits], &certificate);
+            certified_line(code, frame, rounds, &word[..bits], &certificate)
         }
-        Outcome::Spent => print_number(b" spent ", rounds as u64),
+        Outcome::Spent => Line::Spent(rounds),
     }
-    io::write_all(STDOUT_FILENO, b"\n");
 }
 
 // A short last frame goes on as it is: the decoder refuses it. No input uses the count up.
-fn report_frames(code: &[u8], frame: &mut [i16])
-    requires { ⌜ length (now frame) ≤ 2048 ⌝ }
-{
+fn report_frames(code: &[u8], frame: &mut [i16]) {
     let mut k: u64 = 0;
     while k < 0x1_0000_0000_0000 {
         let got = stream::read_i16(frame);
@@ -103,7 +121,7 @@ fn report_frames(code: &[u8], frame: &mut [i16])
             return;
         }
         let count = got / 2;
-        report_frame(code, &frame[..count], k);
+        print_frame(k, frame_line(code, &frame[..count]));
         k += 1;
     }
 }
@@ -112,20 +130,14 @@ fn report_code(code: &[u8], bits: usize, checks: usize, edges: usize)
     requires { ⌜ bits ≤ 2048 ⌝ }
 {
     let mut frame = [0i16; MAX_BITS];
-    print_number(b"bits ", bits as u64);
-    print_number(b" checks ", checks as u64);
-    print_number(b" edges ", edges as u64);
-    io::write_all(STDOUT_FILENO, b"\n");
+    print_code(bits, checks, edges);
     report_frames(code, &mut frame[..bits]);
 }
 
 fn report(code: &[u8]) {
     let answer = table::check(code);
     match answer {
-        Checked::Refused(k) => {
-            print_number(b"refused ", k as u64);
-            io::write_all(STDOUT_FILENO, b"\n");
-        }
+        Checked::Refused(k) => print_refused(k),
         Checked::Accepted {
             bits,
             checks,
@@ -134,7 +146,7 @@ fn report(code: &[u8]) {
     }
 }
 
-// The whole report.
+// The whole report, from standard input to standard output: no contract can speak of either.
 pub fn report_input() {
     let mut file = [0u8; FILE_LIMIT];
     let size = read_code(&mut file);

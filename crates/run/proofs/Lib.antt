@@ -2,3 +2,4 @@ pub mod ClearLaws
 pub mod StartLaws
 pub mod BoundsLaws
 pub mod AdmitLaws
+pub mod ViewLaws

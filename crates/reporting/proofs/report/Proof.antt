@@ -13,26 +13,16 @@ check-requires c κs = search needs
 enum-known-answer : tie.Need-enum-known-answer
 enum-known-answer c = search needs
 
-slice-aggregate-print-number : tie.Need-slice-aggregate-print-number
-slice-aggregate-print-number c = search needs
-
-cast-print-number : tie.Need-cast-print-number
-cast-print-number c = search needs
-
-print-number-requires : tie.Need-print-number-requires
-print-number-requires c κs = search needs
-
-slice-aggregate-write-all : tie.Need-slice-aggregate-write-all
-slice-aggregate-write-all c = search needs
-
-write-all-requires : tie.Need-write-all-requires
-write-all-requires c κs = search needs
+print-refused-requires : tie.Need-print-refused-requires
+print-refused-requires c κs = search needs
 
 enum-known-answer-2 : tie.Need-enum-known-answer-2
 enum-known-answer-2 c = search needs
 
 report-code-requires : tie.Need-report-code-requires
-report-code-requires c κs = file-sound (c .before .before .before .before .before .args .code .now) _ (readable _ _ _ _ (ap numbered (sym (c .before .answer2 .given .1)) ∙ c .before .before .before .check .ensures) .table) .bits .1
+report-code-requires c κs =
+    let isFile = readable (c .before .before .before .before .before .args .code .now) _ _ _ (ap numbered (sym (c .before .answer2 .given .1)) ∙ c .before .before .before .check .ensures) .table in
+    file-sound (c .before .before .before .before .before .args .code .now) _ isFile .bits .1
 
 returns : tie.Need-returns
 returns c = search needs
@@ -46,11 +36,7 @@ report-spec =
     (tie.spec
     check-requires
     enum-known-answer
-    slice-aggregate-print-number
-    cast-print-number
-    print-number-requires
-    slice-aggregate-write-all
-    write-all-requires
+    print-refused-requires
     enum-known-answer-2
     report-code-requires
     returns

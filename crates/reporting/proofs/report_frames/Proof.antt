@@ -25,14 +25,17 @@ same-length c = search needs
 returns : tie.Need-returns Inv-loop μ-loop
 returns c = search needs
 
-slice-reshare-prefix-report-frame : tie.Need-slice-reshare-prefix-report-frame Inv-loop μ-loop
-slice-reshare-prefix-report-frame c = search needs
+slice-reshare-prefix-frame-line : tie.Need-slice-reshare-prefix-frame-line Inv-loop μ-loop
+slice-reshare-prefix-frame-line c = search needs
 
-slice-aggregate-report-frame : tie.Need-slice-aggregate-report-frame Inv-loop μ-loop
-slice-aggregate-report-frame c = simp length-take (omega arith)
+slice-aggregate-frame-line : tie.Need-slice-aggregate-frame-line Inv-loop μ-loop
+slice-aggregate-frame-line c = simp length-take (omega arith)
 
-report-frame-requires : tie.Need-report-frame-requires Inv-loop μ-loop
-report-frame-requires c κs = simp length-take (omega arith)
+frame-line-requires : tie.Need-frame-line-requires Inv-loop μ-loop
+frame-line-requires c κs = search needs
+
+print-frame-requires : tie.Need-print-frame-requires Inv-loop μ-loop
+print-frame-requires c κs = search needs
 
 add-k : tie.Need-add-k Inv-loop μ-loop
 add-k c = search needs
@@ -59,9 +62,10 @@ report-frames-spec =
     read-i16-requires
     same-length
     returns
-    slice-reshare-prefix-report-frame
-    slice-aggregate-report-frame
-    report-frame-requires
+    slice-reshare-prefix-frame-line
+    slice-aggregate-frame-line
+    frame-line-requires
+    print-frame-requires
     add-k
     loop-less
     loop-again

@@ -1,0 +1,184 @@
+-- A frame's run on blank buffers that are long enough for every table, and its line. Assumes nothing.
+use mathlib.Core.Path.{_≡_, refl, sym, _∙_, ap, ap₂}
+use mathlib.Core.Bool.{_&&_}
+use mathlib.Core.List.{List}
+use Prim.Native.Nat.{ℕ, _≤_}
+use native.Mathlib.Omega.{arith}
+use native.Mathlib.Nat.{le-trans}
+use lib.Dec.{leb}
+use lib.ListN.{length, take, replicate}
+use lib.IntN.{ℤ}
+use Rattle.rules.specs.Limits.{maxBits, maxEdges, roundLimit}
+use Rattle.rules.specs.Refusal.{Answer, refused, gives, must, then, replyOf, bufferShort}
+use Rattle.rules.specs.Bytes.{u16At}
+use Rattle.rules.specs.Table.{Table, edgesOf}
+use Rattle.rules.specs.CodeFile.{codeFile}
+use Rattle.rules.specs.Judge.{passes, agreementOf}
+use Rattle.rules.specs.Buffers.{Buffers, needs}
+use Rattle.rules.specs.Run.{Status, running, certified, spent, Progress, fresh, Run, Called, callBy, call, startBy, start}
+use Rattle.rules.specs.Calls.{startedRun}
+use Rattle.rules.specs.Report.{refusedLine, certifiedLine, lineAt, blank, frameLine}
+use Rattle.rules.proofs.AnswerLaws.{refused≢gives, gives-inj}
+use Rattle.rules.proofs.Tables.{Sound, file-sound}
+use Rattle.rules.proofs.BufferLaws.{Part}
+use Rattle.rules.proofs.CallPasses.{call-passes}
+use Rattle.rules.proofs.ReportLaws.{started-on, blank-line, refused-line, Asked, judged-asked}
+use Rattle.decoder.specs.declared.Record.{Record}
+use Rattle.decoder.specs.declared.Started.{Started}
+use Rattle.decoder.specs.declared.Started.the-variants.{Refused, Fresh}
+use Rattle.decoder.specs.declared.Outcome.{Outcome}
+use Rattle.decoder.specs.declared.Outcome.the-variants as out
+use Rattle.decoder.specs.Reply.{progressOf, startedOf, outcomeOf}
+use Rattle.judge.specs.Reply.{agreementValues, agreedReply}
+use Rattle.judge.specs.declared.Agreed.{Agreed}
+use Rattle.judge.specs.declared.Agreed.the-variants as agreed
+use Rattle.reporting.specs.Ran.{greatest, lentWith, ranOf, freshRan, certifiedBy, lineFrom}
+
+-- ---- a start with room for every table
+-- it is refused for its file alone
+went : Answer Table → Answer Progress
+went (refused k) = refused k
+went (gives t) = gives fresh
+
+refused-inj : {A : Type 0} (j k : ℕ) → _≡_ {A = Answer A} (refused j) (refused k) → j ≡ k
+refused-inj j k e = cc
+
+module _ (file : List ℕ) (z y : List ℤ) (h : maxEdges ≤ length z) (k : maxEdges ≤ length y) where
+  start-answer : start file z y .answer ≡ went (codeFile file)
+  unfolding went start then
+  start-answer = go (codeFile file) refl
+    where
+      room : Table → Answer Table
+      room t = must (leb (edgesOf t) (length z) && leb (edgesOf t) (length y)) bufferShort (gives t)
+
+      go : (a : Answer Table) → codeFile file ≡ a → start file z y .answer ≡ went a
+      go (refused j) e = ap (λ a. startBy z y (then a room) .answer) e
+      go (gives t) e = ap (λ s. s .answer) (started-on file t e z y (le-trans (file-sound file t e .few) h) (le-trans (file-sound file t e .few) k))
+
+  start-refused : (j : ℕ) → start file z y .answer ≡ refused j → codeFile file ≡ refused j
+  unfolding went
+  start-refused j e = go (codeFile file) (sym start-answer ∙ e)
+    where
+      go : (a : Answer Table) → went a ≡ refused j → a ≡ refused j
+      go (refused i) q = ap refused (refused-inj i j q)
+      go (gives t) q = absurd (refused≢gives (sym q))
+
+  start-fresh : (p : Progress) → start file z y .answer ≡ gives p → p ≡ fresh
+  unfolding went
+  start-fresh p e = go (codeFile file) (sym start-answer ∙ e)
+    where
+      go : (a : Answer Table) → went a ≡ gives p → p ≡ fresh
+      go (refused i) q = absurd (refused≢gives q)
+      go (gives t) q = sym (gives-inj fresh p q)
+
+-- these buffers, with other copies and offsets
+abbrev pub runOn : Buffers → Progress → List ℤ → List ℤ → Run
+runOn b p z y = record {
+  progress = p;
+  buffers = record { spins = b .spins; copies = z; offsets = y; multipliers = b .multipliers; masks = b .masks; word = b .word; certificate = b .certificate };
+}
+
+-- ---- the code's run: s is what a start answered, z and y the copies and offsets that it left
+module _ (file : List ℕ) (l : List ℤ) (b : Buffers) (h : maxEdges ≤ length (b .copies)) (k : maxEdges ≤ length (b .offsets))
+    (s : Started) (z y : List ℤ) (e : record { answer = startedOf s; copies = z; offsets = y } ≡ start file (b .copies) (b .offsets)) where
+  answered : (a : Answer Progress) → startedOf s ≡ a → start file (b .copies) (b .offsets) .answer ≡ a
+  answered a p = ap (λ x. x .answer) (sym e) ∙ p
+
+  pub ran-refused : (j : ℕ) (r : Record) → s ≡ Refused j → progressOf r ≡ fresh
+      → record { answer = refused j; rounds = r .rounds; word = b .word; certificate = b .certificate } ≡ freshRan file l b
+  unfolding freshRan call
+  ran-refused j r p q =
+      ap (λ n. record { answer = refused j; rounds = n .rounds; word = b .word; certificate = b .certificate }) q
+      ∙ ap (λ a. ranOf (callBy l roundLimit (startedRun file b) a)) (sym (start-refused file (b .copies) (b .offsets) h k j (answered (refused j) (ap startedOf p))))
+
+  pub ran-started : (r : Record) (d : Called) → s ≡ Fresh r → d ≡ call file l roundLimit (runOn b (progressOf r) z y) → ranOf d ≡ freshRan file l b
+  unfolding freshRan
+  ran-started r d p q =
+      ap ranOf q
+      ∙ ap (λ x. ranOf (call file l roundLimit (runOn b (progressOf r) (x .copies) (x .offsets)))) e
+      ∙ ap (λ x. ranOf (call file l roundLimit (runOn b x (start file (b .copies) (b .offsets) .copies) (start file (b .copies) (b .offsets) .offsets))))
+      (start-fresh file (b .copies) (b .offsets) h k (progressOf r) (answered (gives (progressOf r)) (ap startedOf p)))
+
+-- ---- and the line
+enough : (t : Table) → Sound t → Part (needs t) greatest
+enough t s = record {
+  spins = s .bits .1;
+  copies = s .few;
+  offsets = s .few;
+  multipliers = s .checks .1;
+  masks = s .checks .1;
+  word = s .bits .1;
+  certificate = omega (arith, s .checks .1);
+}
+
+module _ (file : List ℕ) (l : List ℤ) where
+  run : Called
+  run = call file l roundLimit (startedRun file (blank greatest))
+
+  asked : (t : Table) → codeFile file ≡ gives t → run .answer ≡ gives certified → Asked file l (take (t .bits) (run .run .buffers .word)) t
+  unfolding run
+  asked t isFile e = judged-asked file l _ _ passes t isFile (call-passes file l roundLimit (startedRun file (blank greatest)) t isFile e)
+
+  by-answer : (t : Table) → codeFile file ≡ gives t → (a : Answer Status) → run .answer ≡ a
+      → lineFrom file l a (run .run .progress .rounds) (run .run .buffers .word) (run .run .buffers .certificate) ≡ lineAt t l (run .run) a
+  by-answer t isFile (refused k) e = refl
+  by-answer t isFile (gives running) e = refl
+  by-answer t isFile (gives certified) e =
+      let x = asked t isFile e in
+      ap (λ n. certifiedBy (run .run .progress .rounds) (agreementOf file l (take n (run .run .buffers .word))) (u16At (run .run .buffers .certificate) 0)) (x .frame)
+      ∙ ap (λ a. certifiedBy (run .run .progress .rounds) a (u16At (run .run .buffers .certificate) 0)) (x .agreed)
+  by-answer t isFile (gives spent) e = refl
+
+  on-refused : (k : ℕ) → codeFile file ≡ refused k → run .answer ≡ refused k
+  unfolding run call
+  on-refused k e = ap (λ a. callBy l roundLimit (startedRun file (blank greatest)) a .answer) e
+
+  line-run : lineFrom file l (run .answer) (run .run .progress .rounds) (run .run .buffers .word) (run .run .buffers .certificate) ≡ frameLine file l
+  unfolding run
+  line-run = go (codeFile file) refl
+    where
+      d : Called
+      d = call file l roundLimit (startedRun file (blank greatest))
+
+      go : (a : Answer Table) → codeFile file ≡ a → lineFrom file l (d .answer) (d .run .progress .rounds) (d .run .buffers .word) (d .run .buffers .certificate) ≡ frameLine file l
+      go (refused k) e = ap (λ a. lineFrom file l a (d .run .progress .rounds) (d .run .buffers .word) (d .run .buffers .certificate)) (on-refused k e) ∙ sym (refused-line file l k e)
+      go (gives t) e = by-answer t e (d .answer) refl ∙ blank-line file t l greatest e (enough t (file-sound file t e))
+
+-- ---- of what the code's run comes to: outcome o, rounds n, word w and certificate c
+module _ (file : List ℕ) (l : List ℤ) (o : Outcome) (n : ℕ) (w c : List ℕ)
+    (e : record { answer = outcomeOf o; rounds = n; word = w; certificate = c } ≡ freshRan file l (lentWith (replicate (greatest .word) 0) (replicate (greatest .certificate) 0))) where
+  pub line-of : (p : Outcome) → o ≡ p → lineFrom file l (outcomeOf p) n w c ≡ frameLine file l
+  unfolding freshRan lentWith run
+  line-of p q = ap (λ x. lineFrom file l (outcomeOf x) n w c) (sym q) ∙ ap (λ r. lineFrom file l (r .answer) (r .rounds) (r .word) (r .certificate)) e ∙ line-run file l
+
+  pub certified-short : o ≡ out.Certified → length l ≤ maxBits
+  unfolding freshRan lentWith run
+  certified-short q = go (codeFile file) refl
+    where
+      is : call file l roundLimit (startedRun file (blank greatest)) .answer ≡ gives certified
+      is = ap (λ r. r .answer) (sym e) ∙ ap outcomeOf q
+
+      go : (a : Answer Table) → codeFile file ≡ a → length l ≤ maxBits
+      go (refused k) p = absurd (refused≢gives (sym (on-refused file l k p) ∙ is))
+      go (gives t) p = omega (arith, asked file l t p is .frame, file-sound file t p .bits .1)
+
+-- ---- the certified line, from what the judge answered
+asks : Agreed → Answer ℤ
+asks (agreed.Refused k) = refused k
+asks (agreed.Is a) = gives a
+
+agreed-is : (r : Agreed) (x : Answer ℤ) → agreedReply r ≡ replyOf agreementValues x → asks r ≡ x
+unfolding asks replyOf
+agreed-is (agreed.Refused k) (refused j) e = ap refused (ap (λ y. y .number) e)
+agreed-is (agreed.Refused k) (gives b) e = absurd (let v = ap (λ y. y .values) e in let z : _≡_ {A = ℕ} 0 1 = cc in omega arith)
+agreed-is (agreed.Is a) (refused j) e = absurd (let v = ap (λ y. y .values) e in let z : _≡_ {A = ℕ} 0 1 = cc in omega arith)
+agreed-is (agreed.Is a) (gives b) e = let v = ap (λ y. y .values) e in cc
+
+module _ (rounds cuts : ℕ) (x : Answer ℤ) (r : Agreed) (e : agreedReply r ≡ replyOf agreementValues x) where
+  pub agreed-refused : (k : ℕ) → r ≡ agreed.Refused k → refusedLine k ≡ certifiedBy rounds x cuts
+  unfolding asks
+  agreed-refused k p = ap (λ a. certifiedBy rounds a cuts) (ap asks (sym p) ∙ agreed-is r x e)
+
+  pub agreed-line : (v a : ℤ) (q : ℕ) → v ≡ a → q ≡ cuts → r ≡ agreed.Is a → certifiedLine rounds v q ≡ certifiedBy rounds x cuts
+  unfolding asks
+  agreed-line v a q f g p = ap₂ (certifiedLine rounds) f g ∙ ap (λ a. certifiedBy rounds a cuts) (ap asks (sym p) ∙ agreed-is r x e)

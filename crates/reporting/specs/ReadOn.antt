@@ -1,0 +1,12 @@
+-- What reading on leaves of the code file's buffer. Definitions only. Assumes nothing.
+use mathlib.Core.Path.{_≡_}
+use mathlib.Core.List.{List}
+use Prim.Native.Nat.{ℕ, _≤_, max}
+use lib.ListN.{take}
+use Rattle.rules.specs.Report.{announced}
+
+-- from the first `size` bytes, which stay, on to what they announce at the most
+pub record ReadOn (size r : ℕ) (new old : List ℕ) : Type 0 where
+  pub from : size ≤ r
+  pub to : r ≤ max size (announced (take size old))
+  pub front : take size new ≡ take size old
