@@ -22,7 +22,8 @@ use Rattle.rules.proofs.AnswerLaws.{refused≢gives, gives-inj}
 use Rattle.rules.proofs.Tables.{Sound, file-sound}
 use Rattle.rules.proofs.BufferLaws.{Part}
 use Rattle.rules.proofs.CallPasses.{call-passes}
-use Rattle.rules.proofs.ReportLaws.{started-on, blank-line, refused-line, Asked, judged-asked}
+use Rattle.rules.proofs.Fresh.{started-on}
+use Rattle.rules.proofs.ReportLaws.{blank-line, refused-line, Asked, judged-asked}
 use Rattle.decoder.specs.declared.Record.{Record}
 use Rattle.decoder.specs.declared.Started.{Started}
 use Rattle.decoder.specs.declared.Started.the-variants.{Refused, Fresh}
