@@ -19,7 +19,7 @@ use Rattle.rules.specs.Parity.{agreement}
 use Rattle.rules.specs.Input.{eachWithin, onFrame, eachBit, onWord, bitsOf}
 use Rattle.rules.specs.Judge.{Verdict, judge, agreementOf}
 use Rattle.rules.specs.Buffers.{Buffers, Lengths, lengthsOf, needs, fits, partOf, over}
-use Rattle.rules.specs.Run.{Status, running, certified, spent, fresh, Run, stateIn, iterate, isRunning, sound, admits, Called, perform, callOn, callBy, call, startBy, start, zeros}
+use Rattle.rules.specs.Run.{Status, running, certified, spent, fresh, Run, stateIn, iterate, isRunning, sound, admits, Called, perform, callOn, callBy, call, start, zeros}
 use Rattle.rules.specs.Calls.{lend, giveBack, lentCall, startedRun}
 use Rattle.rules.specs.Report.{Line, refusedLine, certifiedLine, lineAt, blank, lineBy, frameLine}
 use Rattle.rules.proofs.AnswerLaws.{must-gives, must-true, then-of}
