@@ -1,8 +1,9 @@
--- `scan_first` meets its contract: the pass has the first i values, and their heights lie over the first i places. Assumes nothing.
+-- `scan_values` meets its contract: the pass has the first i values, and their heights lie over the first i places. Assumes nothing.
 use mathlib.Core.Path.{_≡_, refl, sym, _∙_, ap, ap₂, subst}
 use Prim.Native.Nat.{_-_, _≤_}
 use native.Mathlib.Omega.{arith}
 use lib.ListN.{length, take, length-set}
+use lib.Seq.{take-all}
 use lib.IntN.{pos}
 use mir.Syntax.{w32}
 use mir.Val.{toZ, ofZ}
@@ -18,14 +19,14 @@ use Rattle.cut.specs.Heights.{height}
 use Rattle.cut.specs.Scan.{scanned, sights, Scanned}
 use Rattle.cut.proofs.HeightLaws.{height-top}
 use Rattle.cut.proofs.ScanLaws.{scanned-none, scanned-more, heights-more, mask-fits, room-fits}
-use Rattle.cut.proofs.scan.scan_first.Statement.{statement}
-use Rattle.cut.proofs.scan.scan_first.Tie as tie
+use Rattle.cut.proofs.scan.scan_values.Statement.{statement}
+use Rattle.cut.proofs.scan.scan_values.Tie as tie
 
 abbrev Inv-loop : tie.InvT-loop
-Inv-loop v d heights₀ s₀ i₀ heights s i = (i ≤ d) × Scanned (take i v) s × (length heights ≡ length heights₀) × (heights ≡ over (sights (take i v)) heights₀)
+Inv-loop v heights₀ s₀ i₀ heights s i = (i ≤ length v) × Scanned (take i v) s × (length heights ≡ length heights₀) × (heights ≡ over (sights (take i v)) heights₀)
 
 abbrev μ-loop : tie.MeasureT-loop
-μ-loop v d heights₀ s₀ i₀ heights s i = d - i
+μ-loop v heights₀ s₀ i₀ heights s i = length v - i
 
 new-requires : tie.Need-new-requires Inv-loop μ-loop
 new-requires c κs = tt
@@ -96,11 +97,11 @@ returns : tie.Need-returns Inv-loop μ-loop
 returns c =
     let args = c .before .before .before .args in
     let loop = c .before .loop in
-    let done : loop .i ≡ args .d = omega arith in
-    (subst (λ k. Scanned (take k (args .v .now)) (loop .s)) done (loop .inv .1), loop .inv .3 ∙ ap (λ k. over (sights (take k (args .v .now))) (args .heights .now)) done)
+    let all : take (loop .i) (args .v .now) ≡ args .v .now = take-all (loop .i) (args .v .now) (omega arith) in
+    (subst (λ l. Scanned l (loop .s)) all (loop .inv .1), loop .inv .3 ∙ ap (λ l. over (sights l) (args .heights .now)) all)
 
-pub scan-first-spec : {M : Type 1} → statement M
-scan-first-spec =
+pub scan-values-spec : {M : Type 1} → statement M
+scan-values-spec =
     tie.close
     (tie.spec
     Inv-loop
