@@ -87,10 +87,12 @@ pub(crate) fn admit_sized(
         return Admitted::Refused(BUFFER_SHORT);
     }
     let status = run.status;
-    if !is_running(status) {
+    let running = is_running(status);
+    let sound = is_sound(run.rounds, &copies[..edges], &offsets[..edges]);
+    if !running {
         return Admitted::Refused(RUN_ENDED);
     }
-    if !is_sound(run.rounds, &copies[..edges], &offsets[..edges]) {
+    if !sound {
         return Admitted::Refused(RUN_DAMAGED);
     }
     Admitted::Sized {

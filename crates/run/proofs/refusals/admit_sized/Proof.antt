@@ -36,54 +36,55 @@ returns-3 c = simp (
 is-running-requires : tie.Need-is-running-requires
 is-running-requires c κs = tt
 
-returns-4 : tie.Need-returns-4
-unfolding admitsBy turnedDown must
-returns-4 c =
-    let w = c .before .before .before .before in
-    simp (
-      sym (w .before .before .frame .ensures) ∙ w .before .if1 .left,
-      le-leb _ _ (w .if2 .left),
-      sym (c .before .before .before .long-enough .ensures) ∙ not-false _ (c .before .before .if3 .left),
-      sym (c .before .is-running .ensures) ∙ not-true _ (c .if4 .taken),
-    )
-
 slice-aggregate-is-sound : tie.Need-slice-aggregate-is-sound
 slice-aggregate-is-sound c =
-    let room = fits-part _ _ (sym (c .before .before .before .before .long-enough .ensures) ∙ not-false _ (c .before .before .before .if3 .left)) in
+    let room = fits-part _ _ (sym (c .before .before .before .long-enough .ensures) ∙ not-false _ (c .before .before .if3 .left)) in
     simp length-take (omega (arith, room .copies))
 
 slice-aggregate-is-sound-2 : tie.Need-slice-aggregate-is-sound-2
 slice-aggregate-is-sound-2 c =
-    let room = fits-part _ _ (sym (c .before .before .before .before .before .long-enough .ensures) ∙ not-false _ (c .before .before .before .before .if3 .left)) in
+    let room = fits-part _ _ (sym (c .before .before .before .before .long-enough .ensures) ∙ not-false _ (c .before .before .before .if3 .left)) in
     simp length-take (omega (arith, room .offsets))
 
 is-sound-requires : tie.Need-is-sound-requires
 is-sound-requires c κs = tt
 
-returns-5 : tie.Need-returns-5
+returns-4 : tie.Need-returns-4
 unfolding admitsBy turnedDown must
-returns-5 c =
+returns-4 c =
     let v = c .before .before .before .before in
-    let w = v .before .before .before .before in
+    let w = v .before .before .before in
     simp (
       sym (w .before .before .frame .ensures) ∙ w .before .if1 .left,
       le-leb _ _ (w .if2 .left),
-      sym (v .before .before .before .long-enough .ensures) ∙ not-false _ (v .before .before .if3 .left),
-      sym (v .before .is-running .ensures) ∙ not-false _ (v .if4 .left),
-      sym (c .before .is-sound .ensures) ∙ not-true _ (c .if5 .taken),
+      sym (v .before .before .long-enough .ensures) ∙ not-false _ (v .before .if3 .left),
+      sym (v .is-running .ensures) ∙ not-true _ (c .if4 .taken),
+    )
+
+returns-5 : tie.Need-returns-5
+unfolding admitsBy turnedDown must
+returns-5 c =
+    let v = c .before .before .before .before .before in
+    let w = v .before .before .before in
+    simp (
+      sym (w .before .before .frame .ensures) ∙ w .before .if1 .left,
+      le-leb _ _ (w .if2 .left),
+      sym (v .before .before .long-enough .ensures) ∙ not-false _ (v .before .if3 .left),
+      sym (v .is-running .ensures) ∙ not-false _ (c .before .if4 .left),
+      sym (c .before .before .is-sound .ensures) ∙ not-true _ (c .if5 .taken),
     )
 
 returns-6 : tie.Need-returns-6
 unfolding admitsBy turnedDown must
 returns-6 c =
-    let v = c .before .before .before .before in
-    let w = v .before .before .before .before in
+    let v = c .before .before .before .before .before in
+    let w = v .before .before .before in
     simp (
       sym (w .before .before .frame .ensures) ∙ w .before .if1 .left,
       le-leb _ _ (w .if2 .left),
-      sym (v .before .before .before .long-enough .ensures) ∙ not-false _ (v .before .before .if3 .left),
-      sym (v .before .is-running .ensures) ∙ not-false _ (v .if4 .left),
-      sym (c .before .is-sound .ensures) ∙ not-false _ (c .if5 .left),
+      sym (v .before .before .long-enough .ensures) ∙ not-false _ (v .before .if3 .left),
+      sym (v .is-running .ensures) ∙ not-false _ (c .before .if4 .left),
+      sym (c .before .before .is-sound .ensures) ∙ not-false _ (c .if5 .left),
     )
 
 pub admit-sized-spec : {M : Type 1} → statement M
@@ -96,9 +97,9 @@ admit-sized-spec =
     long-enough-requires
     returns-3
     is-running-requires
-    returns-4
     slice-aggregate-is-sound
     slice-aggregate-is-sound-2
     is-sound-requires
+    returns-4
     returns-5
     returns-6)
