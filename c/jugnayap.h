@@ -2,11 +2,13 @@
  *
  * Each call is total: any bytes, numbers and lengths may be handed in, and what is wrong with them is
  * answered by number, 0 for nothing. The caller owes only what C itself asks: a pointer is aligned and
- * good for the stated count of elements, and no buffer that is written overlaps another one of the same
- * call. A pointer with length 0 is never read and may be NULL.
+ * good for the stated count of elements, and a buffer that is written (those without const) overlaps no
+ * other buffer of the same call, written or read. Buffers that are only read may overlap, or be one. A
+ * pointer with length 0 is never read and may be NULL.
  *
  * There is no global state and no allocation. Calls may run at the same time on different buffers, and
- * may share buffers that none of them writes. Each call needs less than 64 KiB of stack.
+ * may share buffers that none of them writes. Each call needs less than 64 KiB of stack. Of the C library
+ * the archive needs memcpy and memset, and nothing else.
  *
  * Formats (file numbers are little-endian; U is 4096):
  *   code         n and m (16 bits each: bits, checks), then m entries of start and count (16 bits each),
@@ -34,6 +36,8 @@
  *   42 run already certified or spent
  *   43 rounds done above 1024, or 1024 in a running run, a copy outside -U..U, an offset beyond
  *      8192 x rounds done, or a status that is none of JUGNAYAP_RUNNING, _CERTIFIED and _SPENT
+ * Document 01's 44, a round's multiplier above 16777215, is never answered: it is proved that no run that
+ * passes 43 meets one, as 43 keeps every multiplier at 8388608 or below.
  *
  * Of several the first is answered, in the order that the call states. "1 to 7" stands for 1, 2, 5 if
  * the contents don't fit, 3, 4, 5, 6, 7. */
@@ -48,7 +52,9 @@ extern "C" {
 #endif
 
 /* In each answer `number` is 0, or the refusal's number; the fields after it are then 0, but for `run`
- * where jugnayap_rounds says otherwise. */
+ * where jugnayap_rounds says otherwise. So test `number` first: a refused verdict has kind 0 and value 0,
+ * which reads like "check 0 broken", and a refused start has rounds 0 and status 0, which reads like a
+ * fresh run. Keep your own record then. */
 
 typedef struct {
     uint32_t number;
@@ -106,6 +112,8 @@ JugnayapCut jugnayap_search_cut(const uint8_t *code, size_t code_len,
 /* Judges a word and anybody's certificate: the first check that the word breaks; if there is none,
  * passed for gap 0, else the gap, which is then positive. A word that passes has the best agreement of
  * all codewords, and of all points of the relaxation.
+ * The certificate is exactly 4 + 10q bytes long. The buffer in which jugnayap_rounds wrote it may be
+ * longer: q is the number in its first two bytes.
  * Refusals: 1 to 7, 8, 9, 15, 10, 11, then entry by entry 12, 13, 14. */
 JugnayapVerdict jugnayap_judge(const uint8_t *code, size_t code_len,
                                const int16_t *frame, size_t frame_len,

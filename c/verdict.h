@@ -1,4 +1,4 @@
-/* A verdict as a line of text, for the two programs. */
+/* A verdict as a line of text, for example.c and judge.c. */
 #ifndef VERDICT_H
 #define VERDICT_H
 

@@ -5,6 +5,7 @@ with the packing.
 """
 
 import struct
+from collections import Counter
 from unittest import mock
 
 import call_script
@@ -18,6 +19,7 @@ import make_inputs as inputs
 import make_scripts
 import make_tables as tables
 import make_verdicts
+import report_inputs
 import rounds
 from call_script import CAPACITY, CallRounds, Fill, Program, PutEdge, StartRun, UseCode, UseFrame
 from prng import Prng
@@ -210,9 +212,9 @@ def list_pairs_pair_up(account):
         account.add("paired lines", len(first))
 
 
-# --- report and report_long ------------------------------------------------------------------
+# --- report, report_long and the inputs of report_inputs.py ----------------------------------
 
-def report_inputs(account):
+def stored_reports(account):
     """Document 01's example, and the head of the long one: frames 2 and 3 get one line."""
     account.announce("long report lines")
     stream, text = kind_reports.report()
@@ -227,6 +229,28 @@ def report_inputs(account):
     account.add("long report lines", len(told))
 
 
+def frame_said(line):
+    """What a line of a report says, without the frame's number."""
+    return line.split(" ", 2)[2] if line.startswith("frame") else line
+
+
+def report_inputs_cover_all(account):
+    """Each input is told as it was made to be; each refusal is met twice at least."""
+    account.announce("report inputs", "report inputs: negative agreement")
+    said = []
+    for one in report_inputs.report_inputs():
+        lines = [frame_said(line) for line in decoder.frame_report(one.data).splitlines()]
+        expect_equal(list(map(kind_of, lines)), one.tells, f"report of: {one.name}")
+        account.add("report inputs")
+        said += lines
+    numbered, times = refusals(*range(1, 10)), Counter(map(kind_of, said))
+    expect_covered(account, "report inputs", times.elements(),
+                   ["bits", "certified", "spent", *numbered])
+    expect_equal([text for text in numbered if times[text] < 2], [], "met less than twice")
+    account.add("report inputs: negative agreement",
+                sum(text.startswith("certified") and int(text.split()[2]) < 0 for text in said))
+
+
 TESTS = [cut_cases_cover_all, judge_cases_cover_all, tight_certificates_have_gap_0,
          call_cases_cover_all, checksums_by_definition, late_runs_end_late, list_pairs_pair_up,
-         report_inputs]
+         stored_reports, report_inputs_cover_all]

@@ -4,7 +4,7 @@ use super::fields::u32_at;
 use super::print::print_outcome;
 use super::print::print_started;
 use super::print::print_state;
-use decoder::Record;
+use run::Record;
 ghost use Prim.Native.Nat.{_≤_};
 ghost use lib.ListN.{length};
 
@@ -13,10 +13,7 @@ fn start(head: &[u8], run: Record, code: &[u8], copies: &mut [i32], offsets: &mu
 {
     let c = lent(head, 1, copies.len());
     let o = lent(head, 5, offsets.len());
-    print_started(
-        decoder::start(code, &mut copies[..c], &mut offsets[..o]),
-        run,
-    )
+    print_started(run::start(code, &mut copies[..c], &mut offsets[..o]), run)
 }
 
 fn rounds(

@@ -1,8 +1,8 @@
 // What sets the buffers and the record: operations 0 and 5.
 use super::fields::i32_at;
 use super::fields::u32_at;
-use decoder::Record;
-use decoder::Status;
+use run::Record;
+use run::Status;
 ghost use Prim.Native.Nat.{_≤_};
 ghost use lib.ListN.{length};
 

@@ -18,12 +18,12 @@ mod fill;
 mod print;
 
 use calls::call;
-use decoder::Record;
 use fields::HEAD_LIMIT;
 use fields::lent;
 use fields::read_head;
 use fill::set_buffers;
 use libc::STDIN_FILENO;
+use run::Record;
 ghost use Prim.Native.Nat.{_≤_};
 ghost use lib.ListN.{length};
 

@@ -1,10 +1,10 @@
 // A call's line.
 use super::checksum::checksum;
 use decoder::Outcome;
-use decoder::Record;
-use decoder::Started;
-use decoder::Status;
 use libc::STDOUT_FILENO;
+use run::Record;
+use run::Started;
+use run::Status;
 use stream::print_number;
 
 fn print(text: &[u8]) {

@@ -8,4 +8,5 @@ pub mod MaskLaws
 pub mod SeeLaws
 pub mod ReplyLaws
 pub mod SearchLaws
+pub mod ViewLaws
 pub mod SearchRule

@@ -1,29 +1,30 @@
--- The reply of a search on a loaded table, in each of its cases. Assumes nothing.
+-- The answer of a search on a loaded table, in each of its cases. Assumes nothing.
 use mathlib.Core.Path.{_≡_, refl, sym, _∙_, ap, ap₂}
-use mathlib.Core.Bool.{true, cond, _&&_}
+use mathlib.Core.Bool.{Bool, true, cond, _&&_}
 use mathlib.Core.List.{List, [], _∷_}
+use mathlib.Core.Option.{Option, some, none}
 use Prim.Native.Nat.{ℕ, _≤_, _<_}
 use native.Mathlib.Decide.{ℕ-discrete}
 use lib.Dec.{leb, eqb, ltb}
 use lib.ListN.{length}
-use lib.IntN.{ℤ, pos, natAbs}
+use lib.IntN.{ℤ, natAbs}
 use borrow.Author.Tests.{eqb-true, leb-true, ltb-true, eq-eqb, ne-eqb, lt-ltb, le-ltb}
 use Rattle.integers.specs.Product.{within}
 use Rattle.integers.specs.Sum.{AllWithin}
 use Rattle.integers.specs.Clip.{clip-mid}
 use Rattle.rules.specs.Limits.{unit}
-use Rattle.rules.specs.Refusal.{gives, Reply, replyOf, askedTooMuch}
+use Rattle.rules.specs.Refusal.{Answer, refused, gives, askedTooMuch}
 use Rattle.rules.specs.Table.{at, valuesAt}
 use Rattle.rules.specs.Input.{eachWithin}
-use Rattle.rules.specs.Cut.{cut, cutValues}
+use Rattle.rules.specs.Cut.{cut, maskAnswer}
 use Rattle.rules.specs.Step.{clips}
 use Rattle.rules.proofs.Basics.{and-both}
 use Rattle.rules.proofs.Optimal.{within-at}
 use Rattle.table.specs.Held.{partAt}
 use Rattle.inputs.specs.Refusals.{pointRefusal, orElse, turnedDown}
-use Rattle.inputs.proofs.RefusalLaws.{else-refused, else-none, cond-none, reply-refused, reply-passes}
+use Rattle.inputs.proofs.RefusalLaws.{else-refused, else-none, cond-none, turned-refused, turned-none}
 use Rattle.cut.specs.CutMask.{cutMask}
-use Rattle.cut.specs.Search.{searchRefusal, tableSearch, maskReply}
+use Rattle.cut.specs.Search.{searchRefusal, tableSearch, maskGives}
 use Rattle.cut.proofs.MaskLaws.{mask-none, mask-some}
 
 -- ---- the point
@@ -47,15 +48,18 @@ clips-same : (u : ℕ) (vs : List ℤ) → AllWithin u vs → clips u vs ≡ vs
 clips-same u [] w = refl
 clips-same u (v ∷ vs) w = ap₂ _∷_ (clip-mid u v (w .0)) (clips-same u vs (w .1))
 
--- ---- the mask as a reply
-mask-values : (u : ℕ) (ss : List ℤ) (m : ℕ) → m ≡ cutMask (cut u ss) → cond (eqb m 0) [] (pos m ∷ []) ≡ cutValues (cut u ss)
-mask-values u ss m e = go (ℕ-discrete m 0)
+-- ---- the mask as an answer
+mask-gives : (u : ℕ) (ss : List ℤ) (m : ℕ) → m ≡ cutMask (cut u ss) → maskGives m ≡ maskAnswer (gives (cut u ss))
+mask-gives u ss m e = go (ℕ-discrete m 0)
   where
-    go : Dec (m ≡ 0) → cond (eqb m 0) [] (pos m ∷ []) ≡ cutValues (cut u ss)
-    go (yes z) = ap (λ b. cond b [] (pos m ∷ [])) (eq-eqb m 0 z) ∙ ap cutValues (sym (mask-none u ss (sym e ∙ z)))
+    answer : Option (List Bool) → Answer (Option ℕ)
+    answer o = maskAnswer (gives o)
+
+    go : Dec (m ≡ 0) → maskGives m ≡ maskAnswer (gives (cut u ss))
+    go (yes z) = ap (λ b. gives (cond b none (some m))) (eq-eqb m 0 z) ∙ ap answer (sym (mask-none u ss (sym e ∙ z)))
     go (no f) =
         let is = mask-some u ss m e f in
-        ap (λ b. cond b [] (pos m ∷ [])) (ne-eqb m 0 f) ∙ ap (λ n. pos n ∷ []) (e ∙ ap cutMask is) ∙ ap cutValues (sym is)
+        ap (λ b. gives (cond b none (some m))) (ne-eqb m 0 f) ∙ ap (λ n. gives (some n)) (e ∙ ap cutMask is) ∙ ap answer (sym is)
 
 module _ (n m : ℕ) (s : List ℤ) (j : ℕ) where
   -- ---- the refusal's number
@@ -80,19 +84,19 @@ module _ (n m : ℕ) (s : List ℤ) (j : ℕ) where
       let p = else-none (pointRefusal n s) (cond (ltb j m) 0 askedTooMuch) e in
       (p .0, ltb-true j m (cond-none (ltb j m) 0 16 (p .1) .0))
 
-  -- ---- the reply
+  -- ---- the answer
   module _ (starts members : List ℕ) where
-    pub search-turned : (k : ℕ) → k ≡ searchRefusal n m s j → (k ≡ 0 → ⊥) → record { number = k; values = [] } ≡ replyOf cutValues (tableSearch starts members n m s j)
+    pub search-turned : (k : ℕ) → k ≡ searchRefusal n m s j → (k ≡ 0 → ⊥) → refused k ≡ maskAnswer (tableSearch starts members n m s j)
     unfolding tableSearch
     search-turned k e f =
         let a = gives (cut unit (valuesAt (at s) (partAt starts members j))) in
-        reply-refused cutValues k a f ∙ ap (λ r. replyOf cutValues (turnedDown r a)) e
+        ap maskAnswer (turned-refused k a f ∙ ap (λ r. turnedDown r a) e)
 
-    pub reply-mask : (r : Reply) (k : ℕ) → searchRefusal n m s j ≡ 0 → k ≡ cutMask (cut unit (clips unit (valuesAt (at s) (partAt starts members j)))) → r ≡ maskReply k
-        → r ≡ replyOf cutValues (tableSearch starts members n m s j)
-    unfolding tableSearch replyOf
-    reply-mask r k z e q =
+    pub search-mask : (r : Answer (Option ℕ)) (k : ℕ) → searchRefusal n m s j ≡ 0 → k ≡ cutMask (cut unit (clips unit (valuesAt (at s) (partAt starts members j)))) → r ≡ maskGives k
+        → r ≡ maskAnswer (tableSearch starts members n m s j)
+    unfolding tableSearch
+    search-mask r k z e q =
         let vs = valuesAt (at s) (partAt starts members j) in
         let same : clips unit vs ≡ vs = clips-same unit vs (values-within unit s (partAt starts members j) (point-right n s (none-refused z .0) .1)) in
-        q ∙ ap (λ l. record { number = 0; values = l }) (mask-values unit vs k (e ∙ ap (λ l. cutMask (cut unit l)) same))
-        ∙ reply-passes cutValues (searchRefusal n m s j) (gives (cut unit vs)) z
+        q ∙ mask-gives unit vs k (e ∙ ap (λ l. cutMask (cut unit l)) same)
+        ∙ ap maskAnswer (turned-none (searchRefusal n m s j) (gives (cut unit vs)) z)

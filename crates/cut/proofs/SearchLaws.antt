@@ -1,4 +1,4 @@
--- From a loaded table back to the file: the search's reply. Assumes nothing.
+-- From a loaded table back to the file: the search's answer. Assumes nothing.
 use mathlib.Core.Path.{_≡_, refl, sym, _∙_, ap, subst}
 use mathlib.Core.Bool.{Bool, true, false, cond}
 use mathlib.Core.List.{List, []}
@@ -9,11 +9,11 @@ use lib.ListN.{getD}
 use lib.IntN.{ℤ}
 use borrow.Author.Tests.{ltb-true}
 use Rattle.rules.specs.Limits.{unit, contentsEnd}
-use Rattle.rules.specs.Refusal.{Answer, refused, gives, must, then, replyOf, askedTooMuch}
+use Rattle.rules.specs.Refusal.{Answer, refused, gives, must, then, askedTooMuch}
 use Rattle.rules.specs.Table.{Table, at, valuesAt, checksOf}
 use Rattle.rules.specs.CodeFile.{codeFile, tableAt}
 use Rattle.rules.specs.Input.{onPoint, onCheck}
-use Rattle.rules.specs.Cut.{cut, cutSearch, cutReply, cutValues}
+use Rattle.rules.specs.Cut.{cut, cutSearch, maskAnswer, cutAnswer}
 use Rattle.rules.proofs.FileLaws.{bodies-length}
 use Rattle.inputs.specs.Refusals.{pointRefusal, orElse, turnedDown}
 use Rattle.inputs.proofs.InputLaws.{point-law}
@@ -35,28 +35,28 @@ module _ (file : List ℕ) (s : List ℤ) (j : ℕ) where
   tests : Table → Answer (Option (List Bool))
   tests t = onPoint t s (onCheck t j (cutAt (getD (t .checks) j [])))
 
-  reply-is : (a : Answer Table) → codeFile file ≡ a → replyOf cutValues (then a tests) ≡ cutReply file s j
-  unfolding cutReply cutSearch tests cutAt
-  reply-is a e = ap (λ x. replyOf cutValues (then x tests)) (sym e)
+  answer-is : (a : Answer Table) → codeFile file ≡ a → maskAnswer (then a tests) ≡ cutAnswer file s j
+  unfolding cutAnswer cutSearch tests cutAt
+  answer-is a e = ap (λ x. maskAnswer (then x tests)) (sym e)
 
-  pub search-refused : (k : ℕ) → codeFile file ≡ refused k → record { number = k; values = [] } ≡ cutReply file s j
-  unfolding then replyOf
-  search-refused k e = reply-is (refused k) e
+  pub search-refused : (k : ℕ) → codeFile file ≡ refused k → refused k ≡ cutAnswer file s j
+  unfolding then
+  search-refused k e = answer-is (refused k) e
 
   search-gives : (t : Table) (starts members : List ℕ) (m : ℕ) → codeFile file ≡ gives t → m ≡ checksOf t → (j < checksOf t → partAt starts members j ≡ getD (t .checks) j [])
-      → replyOf cutValues (tableSearch starts members (t .bits) m s j) ≡ cutReply file s j
+      → maskAnswer (tableSearch starts members (t .bits) m s j) ≡ cutAnswer file s j
   unfolding tableSearch searchRefusal onCheck then tests cutAt
   search-gives t starts members m e hm f =
       let point = pointRefusal (t .bits) s in
-      ap (replyOf cutValues)
+      ap maskAnswer
       (ap (λ k. turnedDown (orElse point (cond (ltb j k) 0 askedTooMuch)) (cutAt (partAt starts members j))) hm
       ∙ refusals-are point (ltb j (checksOf t)) (cutAt (getD (t .checks) j [])) (cutAt (partAt starts members j)) (λ b. ap cutAt (f (ltb-true j (checksOf t) b)))
       ∙ sym (point-law t s (onCheck t j (cutAt (getD (t .checks) j [])))))
-      ∙ reply-is (gives t) e
+      ∙ answer-is (gives t) e
 
 -- ---- on a table that was loaded
 pub search-opened : (file : List ℕ) (n m : ℕ) (starts members : List ℕ) → Opened file n m starts members → (s : List ℤ) (j : ℕ)
-    → replyOf cutValues (tableSearch starts members n m s j) ≡ cutReply file s j
+    → maskAnswer (tableSearch starts members n m s j) ≡ cutAnswer file s j
 search-opened file n m starts members o s j =
     let many = bodies-length file (contentsEnd m) m in
     search-gives file s j (tableAt file n m) starts members m (o .isFile) (sym many)

@@ -3,20 +3,21 @@ use mathlib.Core.Path.{_≡_, refl, sym, _∙_, ap, ap₂, subst}
 use mathlib.Core.Bool.{Bool, true, false, not, cond}
 use mathlib.Core.List.{List, [], _∷_, _++_}
 use mathlib.Core.Option.{Option, none}
-use Prim.Native.Nat.{ℕ, zero, suc, _+_, _*_, _%_, _^_, _≤_, _<_, min}
+use Prim.Native.Nat.{ℕ, zero, suc, _+_, _*_, _%_, _^_, _≤_, _<_}
 use native.Mathlib.Decide.{decLe}
 use native.Mathlib.Omega.{arith}
 use native.Mathlib.Nat.{le-of-suc-le-suc}
 use lib.Bits.{bitXor}
 use lib.Count.{ones}
-use lib.Dec.{eqb, ltb}
-use lib.ListN.{length, take, drop, set, length-append, length-take, length-set}
-use lib.Seq.{take-all, set-append-left}
+use lib.Dec.{leb, eqb, ltb}
+use lib.ListN.{length, drop, set, length-append, length-set}
+use lib.Seq.{set-append-left}
 use lib.IntN.{ℤ, pos, negsuc, natAbs, _+ℤ_, _-ℤ_}
 use lib.Signed.{ltZ}
-use borrow.Author.Tests.{eq-eqb, ne-eqb, lt-ltb, le-ltb}
+use borrow.Author.Tests.{eq-eqb, ne-eqb, lt-ltb, le-ltb, lt-leb, le-leb}
 use Rattle.integers.specs.Linear.{lin, arithZ, _⩽_, Within, up, le-out}
 use Rattle.rules.specs.Limits.{unit, maxDegree}
+use Rattle.rules.specs.Refusal.{countRange, bufferShort}
 use Rattle.rules.specs.Table.{at}
 use Rattle.rules.specs.Parity.{odd, left}
 use Rattle.rules.specs.Mask.{maskOf}
@@ -27,7 +28,7 @@ use Rattle.rules.proofs.Steps.{clips-within}
 use Rattle.rules.proofs.Masks.{set-mask, mask-below, odd-ones}
 use Rattle.cut.specs.declared.scan.Scan.{Scan}
 use Rattle.cut.specs.CutMask.{cutMask}
-use Rattle.cut.specs.Heights.{height, heightsOf, highest, sideBy, Seen, seenOn, seen}
+use Rattle.cut.specs.Heights.{height, heightsOf, highest, sideBy, Seen, seenOn, unseen, seen}
 use Rattle.cut.specs.Scan.{sights, Highest, Scanned, stays, changes, whenOdd, whenEven, decided}
 use Rattle.cut.proofs.HeightLaws.{highest-set, sights-top, sights-length}
 use Rattle.cut.proofs.ClipLaws.{clips-signs, clips-left, size-at, smallest-high}
@@ -52,8 +53,8 @@ module _ (s : Scan) (hs : List ℤ) where
   decided-stay t o h p = ap (λ t. stays 0 t hs) p ∙ decided-even false o (le-ltb (s .room) (2 * up (s .top)) h)
 
   pub changes-is : (b : ℕ) (t : ℤ) → b ≡ 2 ^ s .place → t ≡ pos (2 * unit) -ℤ s .top
-      → _≡_ {A = Seen} (record { mask = bitXor (s .mask) b; top = t; heights = set hs (s .place) t }) (changes s hs)
-  changes-is b t e p = ap₂ (λ b t. record { mask = bitXor (s .mask) b; top = t; heights = set hs (s .place) t }) e p
+      → _≡_ {A = Seen} (record { number = 0; mask = bitXor (s .mask) b; top = t; heights = set hs (s .place) t }) (changes s hs)
+  changes-is b t e p = ap₂ (λ b t. record { number = 0; mask = bitXor (s .mask) b; top = t; heights = set hs (s .place) t }) e p
 
 -- a height above 0 is a size
 pub above-within : (z : ℤ) (r : ℕ) → z ⩽ pos unit → r < 2 * up z → Within unit z
@@ -94,13 +95,13 @@ shifted u r n t e = go (decLe (suc r) (2 * t))
 
 -- a cut's view of the values
 sees : Option (List Bool) → List ℤ → List ℤ → Seen
-sees o vs old = record { mask = cutMask o; top = highest (heightsOf (sideBy o vs) vs); heights = over (heightsOf (sideBy o vs) vs) old }
+sees o vs old = record { number = 0; mask = cutMask o; top = highest (heightsOf (sideBy o vs) vs); heights = over (heightsOf (sideBy o vs) vs) old }
 
 seen-by : (vs old : List ℤ) (o : Option (List Bool)) → cut unit (clips unit vs) ≡ o → sees o vs old ≡ seenOn vs old
 unfolding sees seenOn
 seen-by vs old o e = ap (λ o. sees o vs old) (sym e)
 
-seen-eq : (m m′ : ℕ) (t t′ : ℤ) (hs hs′ : List ℤ) → m ≡ m′ → t ≡ t′ → hs ≡ hs′ → _≡_ {A = Seen} (record { mask = m; top = t; heights = hs }) (record { mask = m′; top = t′; heights = hs′ })
+seen-eq : (m m′ : ℕ) (t t′ : ℤ) (hs hs′ : List ℤ) → m ≡ m′ → t ≡ t′ → hs ≡ hs′ → stays m t hs ≡ stays m′ t′ hs′
 seen-eq m m′ t t′ hs hs′ p q r = cc
 
 module _ (vs old : List ℤ) (s : Scan) (p : Scanned vs s) where
@@ -186,23 +187,23 @@ decides vs old s p = go (eqb (ones (s .mask) % 2) 1) refl
     go true o = odd-sees vs old s p o
     go false o = even-decides vs old s p o
 
--- ---- the code's numbers: d values at most 32, of which the pass has every one
-take-most : (n : ℕ) (l : List ℤ) → take (min n (length l)) l ≡ take n l
-take-most n l = go (decLe n (length l))
-  where
-    go : Dec (n ≤ length l) → take (min n (length l)) l ≡ take n l
-    go (yes h) = ap (λ k. take k l) (fewer h)
-      where
-        fewer : n ≤ length l → min n (length l) ≡ n
-        fewer h = omega arith
-    go (no f) = take-all (min n (length l)) l (all f) ∙ sym (take-all n l (more f))
-      where
-        all : ¬ (n ≤ length l) → length l ≤ min n (length l)
-        all f = omega arith
+-- ---- the tests: at most 32 values, and room for each height
+module _ (v old : List ℤ) where
+  pub seen-many : maxDegree < length v → unseen countRange old ≡ seen v old
+  unfolding seen
+  seen-many h = ap (λ a. cond a (cond (leb (length v) (length old)) (seenOn v old) (unseen bufferShort old)) (unseen countRange old)) (sym (lt-leb (length v) maxDegree h))
 
-        more : ¬ (n ≤ length l) → length l ≤ n
-        more f = omega arith
+  tested : (b : Bool) → length v ≤ maxDegree → leb (length v) (length old) ≡ b → cond b (seenOn v old) (unseen bufferShort old) ≡ seen v old
+  unfolding seen
+  tested b h e = ap₂ (λ a b. cond a (cond b (seenOn v old) (unseen bufferShort old)) (unseen countRange old)) (sym (le-leb (length v) maxDegree h)) (sym e)
 
+  pub seen-short : length v ≤ maxDegree → length old < length v → unseen bufferShort old ≡ seen v old
+  seen-short h k = tested false h (lt-leb (length v) (length old) k)
+
+  pub seen-whole : length v ≤ maxDegree → length v ≤ length old → seenOn v old ≡ seen v old
+  seen-whole h k = tested true h (le-leb (length v) (length old) k)
+
+-- ---- what the pass over all values leaves
 place-inside : (hs : List ℤ) (k : ℕ) → Highest hs k → length hs ≤ maxDegree → k < maxDegree
 place-inside [] k p h = omega arith
 place-inside (s ∷ ss) k p h = omega (arith, p .0)
@@ -212,21 +213,20 @@ place-held : (vs old : List ℤ) (s : Scan) → Scanned vs s → s .room < 2 * u
 place-held [] old s p h = absurd (omega (arith, ap up (p .high)))
 place-held (v ∷ vs) old s p h = omega (arith, p .peak .0, length-append (sights (v ∷ vs)) (drop (length (sights (v ∷ vs))) old))
 
-module _ (v old hs : List ℤ) (d : ℕ) (hd : d ≡ min (min maxDegree (length old)) (length v)) (s : Scan) (p : Scanned (take d v) s) (e : hs ≡ over (sights (take d v)) old) where
+module _ (v old hs : List ℤ) (few : length v ≤ maxDegree) (s : Scan) (p : Scanned v s) (e : hs ≡ over (sights v) old) where
   pub place-most : s .place < maxDegree
-  place-most = place-inside (sights (take d v)) (s .place) (p .peak) (omega (arith, sights-length (take d v), length-take d v))
+  place-most = place-inside (sights v) (s .place) (p .peak) (omega (arith, sights-length v))
 
   pub top-most : s .top ⩽ pos unit
-  top-most = subst (λ z. z ⩽ pos unit) (sym (p .high)) (sights-top (take d v))
+  top-most = subst (λ z. z ⩽ pos unit) (sym (p .high)) (sights-top v)
 
   pub place-there : s .room < 2 * up (s .top) → s .place < length hs
-  place-there h = subst (λ l. s .place < length l) (sym e) (place-held (take d v) old s p h)
+  place-there h = subst (λ l. s .place < length l) (sym e) (place-held v old s p h)
 
-  pub decides-seen : decided s hs ≡ seen v old
-  unfolding seen
-  decides-seen = ap (decided s) e ∙ decides (take d v) old s p ∙ ap (λ l. seenOn l old) (ap (λ k. take k v) hd ∙ take-most (min maxDegree (length old)) v)
+  pub decides-seen : length v ≤ length old → decided s hs ≡ seen v old
+  decides-seen room = ap (decided s) e ∙ decides v old s p ∙ seen-whole v old few room
 
--- the mask, where there is room for every value's height
+-- the mask of values that are seen
 pub seen-mask : (v old : List ℤ) → length v ≤ maxDegree → length v ≤ length old → seen v old .mask ≡ cutMask (cut unit (clips unit v))
-unfolding seen seenOn
-seen-mask v old h k = ap (λ l. cutMask (cut unit (clips unit l))) (take-all (min maxDegree (length old)) v (omega arith))
+unfolding seenOn
+seen-mask v old h k = ap (λ s. s .mask) (sym (seen-whole v old h k))

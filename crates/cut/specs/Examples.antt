@@ -1,50 +1,63 @@
--- Document 01's two points on the three-bit check, and refusals 16 and 17, on its loaded table, by computation. Assumes nothing.
+-- Document 01's two points on the three-bit check, refusals 16 and 17 on its loaded table, and refusals 3 and 41 of a check's values, by computation.
+-- Assumes nothing.
 use mathlib.Core.Path.{_≡_, refl}
 use mathlib.Core.List.{List, [], _∷_}
+use mathlib.Core.Option.{Option, some, none}
 use Prim.Native.Nat.{ℕ}
-use lib.IntN.{ℤ, pos, negsuc}
+use lib.ListN.{replicate}
+use lib.IntN.{ℤ, pos, negsuc, negℤ}
 use Rattle.integers.specs.Clip.{clipZ}
-use Rattle.rules.specs.Refusal.{Reply, replyOf}
-use Rattle.rules.specs.Cut.{cut, cutValues}
+use Rattle.rules.specs.Refusal.{Answer, refused, gives}
+use Rattle.rules.specs.Cut.{cut, maskAnswer}
 use Rattle.inputs.specs.Refusals.{pointRefusal, turnedDown}
-use Rattle.cut.specs.Heights.{seenOn, seen}
+use Rattle.cut.specs.Heights.{seenOn, unseen, seen}
 use Rattle.cut.specs.Search.{searchRefusal, tableSearch}
 
 -- the starts 0 and 3, the members 0, 1 and 2; what follows them in the slices does not count
-asked : List ℤ → ℕ → Reply
-asked s j = replyOf cutValues (tableSearch (0 ∷ 3 ∷ 9 ∷ []) (0 ∷ 1 ∷ 2 ∷ 9 ∷ []) 3 1 s j)
+asked : List ℤ → ℕ → Answer (Option ℕ)
+asked s j = maskAnswer (tableSearch (0 ∷ 3 ∷ 9 ∷ []) (0 ∷ 1 ∷ 2 ∷ 9 ∷ []) 3 1 s j)
 
 -- "(1365, 1365, −1366) has no cut; (1365, 1365, −1367) has mask 4"
-no-cut : asked (pos 1365 ∷ pos 1365 ∷ negsuc 1365 ∷ []) 0 ≡ record { number = 0; values = [] }
-unfolding asked replyOf tableSearch searchRefusal pointRefusal turnedDown cut
+no-cut : asked (pos 1365 ∷ pos 1365 ∷ negsuc 1365 ∷ []) 0 ≡ gives none
+unfolding asked tableSearch searchRefusal pointRefusal turnedDown cut
 no-cut = refl
 
-mask-4 : asked (pos 1365 ∷ pos 1365 ∷ negsuc 1366 ∷ []) 0 ≡ record { number = 0; values = pos 4 ∷ [] }
-unfolding asked replyOf tableSearch searchRefusal pointRefusal turnedDown cut
+mask-4 : asked (pos 1365 ∷ pos 1365 ∷ negsuc 1366 ∷ []) 0 ≡ gives (some 4)
+unfolding asked tableSearch searchRefusal pointRefusal turnedDown cut
 mask-4 = refl
 
 -- the same two points by their heights, which make 2U and one less; the buffer's fourth place stays
-heights-no-cut : seen (pos 1365 ∷ pos 1365 ∷ negsuc 1365 ∷ []) (pos 7 ∷ pos 7 ∷ pos 7 ∷ pos 7 ∷ []) ≡ record { mask = 0; top = pos 2731; heights = pos 2731 ∷ pos 2731 ∷ pos 2730 ∷ pos 7 ∷ [] }
+heights-no-cut : seen (pos 1365 ∷ pos 1365 ∷ negsuc 1365 ∷ []) (pos 7 ∷ pos 7 ∷ pos 7 ∷ pos 7 ∷ []) ≡ record { number = 0; mask = 0; top = pos 2731; heights = pos 2731 ∷ pos 2731 ∷ pos 2730 ∷ pos 7 ∷ [] }
 unfolding seen seenOn cut clipZ
 heights-no-cut = refl
 
-heights-mask-4 : seen (pos 1365 ∷ pos 1365 ∷ negsuc 1366 ∷ []) (pos 7 ∷ pos 7 ∷ pos 7 ∷ pos 7 ∷ []) ≡ record { mask = 4; top = pos 2731; heights = pos 2731 ∷ pos 2731 ∷ pos 2729 ∷ pos 7 ∷ [] }
+heights-mask-4 : seen (pos 1365 ∷ pos 1365 ∷ negsuc 1366 ∷ []) (pos 7 ∷ pos 7 ∷ pos 7 ∷ pos 7 ∷ []) ≡ record { number = 0; mask = 4; top = pos 2731; heights = pos 2731 ∷ pos 2731 ∷ pos 2729 ∷ pos 7 ∷ [] }
 unfolding seen seenOn cut clipZ
 heights-mask-4 = refl
 
 -- of (−1, 5000, −U) the first changes sides: its height rises from U − 1 to U + 1, and the second's is not clipped
-heights-raised : seen (negsuc 0 ∷ pos 5000 ∷ negsuc 4095 ∷ []) (pos 7 ∷ pos 7 ∷ pos 7 ∷ []) ≡ record { mask = 4; top = pos 4097; heights = pos 4097 ∷ negsuc 903 ∷ pos 0 ∷ [] }
+heights-raised : seen (negsuc 0 ∷ pos 5000 ∷ negsuc 4095 ∷ []) (pos 7 ∷ pos 7 ∷ pos 7 ∷ []) ≡ record { number = 0; mask = 4; top = pos 4097; heights = pos 4097 ∷ negsuc 903 ∷ pos 0 ∷ [] }
 unfolding seen seenOn cut clipZ
 heights-raised = refl
 
--- a buffer of one place has room for one height
-heights-short : seen (negsuc 4095 ∷ pos 1365 ∷ []) (pos 7 ∷ []) ≡ record { mask = 1; top = pos 0; heights = pos 0 ∷ [] }
-unfolding seen seenOn cut clipZ
+-- a buffer of one place has no room for two heights: 41, and it stays as it was; no values need no room
+heights-short : seen (negsuc 4095 ∷ pos 1365 ∷ []) (pos 7 ∷ []) ≡ unseen 41 (pos 7 ∷ [])
+unfolding seen
 heights-short = refl
 
+heights-of-none : seen [] [] ≡ record { number = 0; mask = 0; top = negℤ (pos 2147479552); heights = [] }
+unfolding seen seenOn cut
+heights-of-none = refl
+
+-- 32 values are seen; 33 are refused with 3, which comes before 41
+zeros : ℕ → List ℤ
+zeros n = replicate n (pos 0)
+
+heights-many : (seen (zeros 32) (zeros 32) .number ≡ 0) × (seen (zeros 33) (zeros 33) ≡ unseen 3 (zeros 33)) × (seen (zeros 33) (pos 7 ∷ []) ≡ unseen 3 (pos 7 ∷ []))
+unfolding seen seenOn zeros
+heights-many = (refl, refl, refl)
+
 -- "16 point's length or a spin. 17 check number not below m": 16 comes first
-refusals : (asked (pos 0 ∷ pos 0 ∷ []) 1 ≡ record { number = 16; values = [] })
-    × (asked (pos 0 ∷ pos 4097 ∷ pos 0 ∷ []) 0 ≡ record { number = 16; values = [] })
-    × (asked (pos 0 ∷ pos 0 ∷ pos 0 ∷ []) 1 ≡ record { number = 17; values = [] })
-unfolding asked replyOf tableSearch searchRefusal pointRefusal turnedDown
+refusals : (asked (pos 0 ∷ pos 0 ∷ []) 1 ≡ refused 16) × (asked (pos 0 ∷ pos 4097 ∷ pos 0 ∷ []) 0 ≡ refused 16) × (asked (pos 0 ∷ pos 0 ∷ pos 0 ∷ []) 1 ≡ refused 17)
+unfolding asked tableSearch searchRefusal pointRefusal turnedDown
 refusals = (refl, refl, refl)

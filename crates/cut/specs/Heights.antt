@@ -2,11 +2,13 @@
 use mathlib.Core.Bool.{Bool, cond}
 use mathlib.Core.List.{List, [], _∷_}
 use mathlib.Core.Option.{Option, some, none}
-use Prim.Native.Nat.{ℕ, min}
-use lib.ListN.{length, take}
+use Prim.Native.Nat.{ℕ}
+use lib.Dec.{leb}
+use lib.ListN.{length}
 use lib.IntN.{ℤ, pos, negℤ, _+ℤ_}
 use lib.Signed.{ltZ}
 use Rattle.rules.specs.Limits.{unit, maxDegree}
+use Rattle.rules.specs.Refusal.{countRange, bufferShort}
 use Rattle.rules.specs.Parity.{side}
 use Rattle.rules.specs.Cut.{negatives, cut}
 use Rattle.rules.specs.Step.{clips}
@@ -35,7 +37,9 @@ abbrev pub sideBy : Option (List Bool) → List ℤ → List Bool
 sideBy none v = negatives v
 sideBy (some ts) v = ts
 
+-- `number` is 0, or the refusal
 pub record Seen : Type 0 where
+  pub number : ℕ
   pub mask : ℕ
   pub top : ℤ
   pub heights : List ℤ
@@ -43,11 +47,16 @@ pub record Seen : Type 0 where
 -- the cut of the values v, and the heights as it sees them, laid over a buffer
 unfoldable pub seenOn : List ℤ → List ℤ → Seen
 seenOn v old = record {
+  number = 0;
   mask = cutMask (cut unit (clips unit v));
   top = highest (heightsOf (sideBy (cut unit (clips unit v)) v) v);
   heights = over (heightsOf (sideBy (cut unit (clips unit v)) v) v) old;
 }
 
--- of the first 32 values at most, and of no more than the buffer has room for
+-- turned down: nothing is seen, and the buffer stays as it was
+abbrev pub unseen : ℕ → List ℤ → Seen
+unseen k old = record { number = k; mask = 0; top = pos 0; heights = old }
+
+-- 3 where the values are more than a check can have, then 41 where there is no room for each height
 unfoldable pub seen : List ℤ → List ℤ → Seen
-seen v old = seenOn (take (min maxDegree (length old)) v) old
+seen v old = cond (leb (length v) maxDegree) (cond (leb (length v) (length old)) (seenOn v old) (unseen bufferShort old)) (unseen countRange old)

@@ -49,11 +49,12 @@ pub record Scanned (vs : List ℤ) (s : Scan) : Type 0 where
 
 -- the heights stay
 abbrev pub stays : ℕ → ℤ → List ℤ → Seen
-stays mask top hs = record { mask = mask; top = top; heights = hs }
+stays mask top hs = record { number = 0; mask = mask; top = top; heights = hs }
 
 -- the member with the greatest height changes sides
 abbrev pub changes : Scan → List ℤ → Seen
 changes s hs = record {
+  number = 0;
   mask = bitXor (s .mask) (2 ^ s .place);
   top = pos (2 * unit) -ℤ s .top;
   heights = set hs (s .place) (pos (2 * unit) -ℤ s .top);

@@ -1,14 +1,20 @@
--- The cut search on a loaded table: rules' `cutSearch` from the point on. Definitions only. Assumes nothing.
-use mathlib.Core.Bool.{Bool, cond}
-use mathlib.Core.List.{List, [], _∷_}
-use mathlib.Core.Option.{Option}
-use Prim.Native.Nat.{ℕ}
+-- The cut search on a loaded table: rules' `cutSearch` from the point on; and what its answer is about. Definitions only. Assumes nothing.
+use mathlib.Core.Path.{_≡_}
+use mathlib.Core.Bool.{Bool, true, cond}
+use mathlib.Core.List.{List}
+use mathlib.Core.Option.{Option, some, none}
+use Prim.Native.Nat.{ℕ, _<_}
 use lib.Dec.{eqb, ltb}
-use lib.IntN.{ℤ, pos}
+use lib.ListN.{length}
+use lib.IntN.{ℤ}
 use Rattle.rules.specs.Limits.{unit}
-use Rattle.rules.specs.Refusal.{Answer, gives, Reply, askedTooMuch}
-use Rattle.rules.specs.Table.{at, valuesAt}
+use Rattle.rules.specs.Refusal.{Answer, gives, askedTooMuch}
+use Rattle.rules.specs.Table.{Table, at, valuesAt, checksOf}
+use Rattle.rules.specs.CodeFile.{codeFile}
+use Rattle.rules.specs.Input.{eachWithin}
 use Rattle.rules.specs.Cut.{cut}
+use Rattle.rules.specs.Certificate.{membersAt}
+use Rattle.rules.proofs.CutRule.{Cuts}
 use Rattle.table.specs.Held.{partAt}
 use Rattle.inputs.specs.Refusals.{pointRefusal, orElse, turnedDown}
 
@@ -19,6 +25,25 @@ searchRefusal n m s j = orElse (pointRefusal n s) (cond (ltb j m) 0 askedTooMuch
 unfoldable pub tableSearch : List ℕ → List ℕ → ℕ → ℕ → List ℤ → ℕ → Answer (Option (List Bool))
 tableSearch starts members n m s j = turnedDown (searchRefusal n m s j) (gives (cut unit (valuesAt (at s) (partAt starts members j))))
 
--- the reply that a mask is
-abbrev pub maskReply : ℕ → Reply
-maskReply m = record { number = 0; values = cond (eqb m 0) [] (pos m ∷ []) }
+-- the answer that a mask is: no odd set has mask 0
+abbrev pub maskGives : ℕ → Answer (Option ℕ)
+maskGives m = gives (cond (eqb m 0) none (some m))
+
+-- ---- what is asked: an accepted code file, n spins from −U to U, a check number below m
+pub record Inputs (file : List ℕ) (s : List ℤ) (j : ℕ) (t : Table) : Type 0 where
+  pub accepted : codeFile file ≡ gives t
+  pub size : length s ≡ t .bits
+  pub range : eachWithin unit s ≡ true
+  pub listed : j < checksOf t
+
+-- the spins at check j's members
+abbrev pub spinsAt : Table → List ℤ → ℕ → List ℤ
+spinsAt t s j = valuesAt (at s) (membersAt t j)
+
+-- V is the one set of check j that is odd and violated
+pub record OnlyCut (t : Table) (s : List ℤ) (j : ℕ) (vs : List Bool) : Type 0 where
+  pub cuts : Cuts unit vs (spinsAt t s j)
+  pub only : (ws : List Bool) → Cuts unit ws (spinsAt t s j) → ws ≡ vs
+
+abbrev pub NoCut : Table → List ℤ → ℕ → Type 0
+NoCut t s j = (vs : List Bool) → Cuts unit vs (spinsAt t s j) → ⊥

@@ -8,33 +8,36 @@ use inputs::limits::UNIT;
 use limits::ASKED_TOO_MUCH;
 use scan::Scan;
 use scan::bit;
-use scan::scan_first;
+use scan::scan_values;
 use table::Checked;
+use table::limits::BUFFER_SHORT;
+use table::limits::COUNT_RANGE;
 use table::limits::MAX_CHECKS;
 use table::limits::MAX_DEGREE;
 use table::limits::MAX_EDGES;
 ghost use mathlib.Core.Path.{_≡_};
 ghost use mathlib.Core.Bool.{cond};
-ghost use Prim.Native.Nat.{_*_, _<_, min};
+ghost use Prim.Native.Nat.{_*_, _<_};
 ghost use lib.Dec.{ltb};
 ghost use lib.IntN.{pos};
 ghost use lib.ListN.{length};
 ghost use Rattle.integers.specs.Linear.{up, _⩽_, Within};
 ghost use Rattle.integers.specs.Clip.{clipZ};
 ghost use Rattle.rules.specs.Limits.{unit, maxDegree};
-ghost use Rattle.rules.specs.Refusal.{replyOf};
-ghost use Rattle.rules.specs.Cut.{cutValues, cutReply};
+ghost use Rattle.rules.specs.Cut.{maskAnswer, cutAnswer};
 ghost use Rattle.table.specs.Held.{Part};
 ghost use Rattle.cut.specs.Heights.{seen};
 ghost use Rattle.cut.specs.Scan.{changes, decided};
-ghost use Rattle.cut.specs.Reply.{numbered};
-ghost use Rattle.cut.specs.Search.{searchRefusal, tableSearch, maskReply};
+ghost use Rattle.cut.specs.Reply.{foundOf};
+ghost use Rattle.cut.specs.Search.{searchRefusal, tableSearch, maskGives};
 
 // U as a size.
 const UNIT_SIZE: u32 = UNIT as u32;
 
-// The cut's mask, or 0 for none, and the greatest height as it sees the members.
+// 0 or a refusal's number; the cut's mask, or 0 for none, and the greatest height as it sees the
+// members.
 pub struct Cut {
+    pub number: u8,
     pub mask: u32,
     pub top: i32,
 }
@@ -69,22 +72,6 @@ pub fn above(h: i32) -> u32
     h as u32
 }
 
-fn lesser(a: usize, b: usize) -> usize
-    ensures { λ r. ⌜ r ≡ min a b ⌝ }
-{
-    if a < b {
-        return a;
-    }
-    b
-}
-
-// How many values count: a check has at most 32 members, and each wants room for its height.
-fn degree(values: usize, room: usize) -> usize
-    ensures { λ r. ⌜ r ≡ min (min maxDegree room) values ⌝ }
-{
-    lesser(lesser(MAX_DEGREE, room), values)
-}
-
 // The set, where its left side is below 2U.
 fn when_violated(left: u32, mask: u32) -> u32
     ensures { λ r. ⌜ r ≡ cond (ltb left (2 * unit)) mask 0 ⌝ }
@@ -98,13 +85,14 @@ fn when_violated(left: u32, mask: u32) -> u32
 // The member with the greatest height changes sides: U less its size becomes U and its size.
 fn change_side(s: Scan, heights: &mut [i32]) -> Cut
     requires { ⌜ (s .place < maxDegree) × (s .place < length (now heights)) × Within unit (s .top) ⌝ }
-    ensures { λ r. ⌜ (record { mask = r .mask; top = r .top; heights = now (heights .exit) }) ≡ changes s (now (heights .entry)) ⌝ }
+    ensures { λ r. ⌜ (record { number = r .number; mask = r .mask; top = r .top; heights = now (heights .exit) }) ≡ changes s (now (heights .entry)) ⌝ }
 {
     let k = s.place;
     let height = s.top;
     let raised = 2 * UNIT - height;
     heights[k] = raised;
     Cut {
+        number: 0,
         mask: s.mask ^ bit(k),
         top: raised,
     }
@@ -115,10 +103,11 @@ fn change_side(s: Scan, heights: &mut [i32]) -> Cut
 // the latter.
 fn decide(s: Scan, heights: &mut [i32]) -> Cut
     requires { ⌜ (s .place < maxDegree) × (s .top ⩽ pos unit) × (s .room < 2 * up (s .top) → s .place < length (now heights)) ⌝ }
-    ensures { λ r. ⌜ (record { mask = r .mask; top = r .top; heights = now (heights .exit) }) ≡ decided s (now (heights .entry)) ⌝ }
+    ensures { λ r. ⌜ (record { number = r .number; mask = r .mask; top = r .top; heights = now (heights .exit) }) ≡ decided s (now (heights .entry)) ⌝ }
 {
     if u32::count_ones(s.mask) % 2 == 1 {
         return Cut {
+            number: 0,
             mask: when_violated(s.room, s.mask),
             top: s.top,
         };
@@ -127,24 +116,38 @@ fn decide(s: Scan, heights: &mut [i32]) -> Cut
         return change_side(s, heights);
     }
     Cut {
+        number: 0,
         mask: 0,
         top: s.top,
     }
 }
 
-// The cut of a check's values, of the first 32 at most and no more than `heights` has room for: its
-// mask or 0, each member's height as the cut sees it, left in `heights`, and the greatest of them.
+// The cut of a check's values: its mask or 0, each member's height as the cut sees it, left in
+// `heights`, and the greatest of them. More than 32 values are refused, and less room than values.
 pub fn see(v: &[i32], heights: &mut [i32]) -> Cut
-    ensures { λ r. ⌜ (record { mask = r .mask; top = r .top; heights = now (heights .exit) }) ≡ seen (now (v .entry)) (now (heights .entry)) ⌝ }
+    ensures { λ r. ⌜ (record { number = r .number; mask = r .mask; top = r .top; heights = now (heights .exit) }) ≡ seen (now (v .entry)) (now (heights .entry)) ⌝ }
 {
-    let d = degree(v.len(), heights.len());
-    let s = scan_first(v, d, heights);
+    if MAX_DEGREE < v.len() {
+        return Cut {
+            number: COUNT_RANGE,
+            mask: 0,
+            top: 0,
+        };
+    }
+    if heights.len() < v.len() {
+        return Cut {
+            number: BUFFER_SHORT,
+            mask: 0,
+            top: 0,
+        };
+    }
+    let s = scan_values(v, heights);
     decide(s, heights)
 }
 
 // The mask as an answer: no odd set has mask 0.
 fn answer_of(mask: u32) -> Found
-    ensures { λ r. ⌜ numbered r ≡ maskReply mask ⌝ }
+    ensures { λ r. ⌜ foundOf r ≡ maskGives mask ⌝ }
 {
     if mask == 0 {
         return Found::Nothing;
@@ -176,7 +179,7 @@ fn search_table(
     check: usize,
 ) -> Found
     requires { ⌜ (check < checks → Part bits (now starts) (now members) check) ⌝ }
-    ensures { λ r. ⌜ numbered r ≡ replyOf cutValues (tableSearch (now (starts .entry)) (now (members .entry)) bits checks (now (spins .entry)) check) ⌝ }
+    ensures { λ r. ⌜ foundOf r ≡ maskAnswer (tableSearch (now (starts .entry)) (now (members .entry)) bits checks (now (spins .entry)) check) ⌝ }
 {
     let refused = refusal(bits, checks, spins, check);
     if refused != 0 {
@@ -187,7 +190,7 @@ fn search_table(
 
 // The cut search on any bytes, any spins and any check number.
 pub fn search(code: &[u8], spins: &[i32], check: usize) -> Found
-    ensures { λ r. ⌜ numbered r ≡ cutReply (now (code .entry)) (now (spins .entry)) check ⌝ }
+    ensures { λ r. ⌜ foundOf r ≡ cutAnswer (now (code .entry)) (now (spins .entry)) check ⌝ }
 {
     let mut starts = [0u16; MAX_CHECKS + 1];
     let mut members = [0u16; MAX_EDGES];

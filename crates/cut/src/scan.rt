@@ -5,8 +5,8 @@ ghost use mathlib.Core.Path.{_≡_};
 ghost use mathlib.Core.List.{[]};
 ghost use Prim.Native.Nat.{_+_, _*_, _^_, _≤_, _<_};
 ghost use lib.IntN.{pos};
-ghost use lib.ListN.{length, take};
-ghost use Rattle.integers.specs.Linear.{up, _⩽_};
+ghost use lib.ListN.{length};
+ghost use Rattle.integers.specs.Linear.{_⩽_};
 ghost use Rattle.rules.specs.Limits.{unit, maxDegree};
 ghost use Rattle.rules.specs.Mask.{digit};
 ghost use Rattle.rules.specs.Cut.{isNeg};
@@ -93,14 +93,14 @@ impl Scan {
     }
 }
 
-// The first d values of v, with their heights left in `heights`.
-pub(crate) fn scan_first(v: &[i32], d: usize, heights: &mut [i32]) -> Scan
-    requires { ⌜ (d ≤ length (now v)) × (d ≤ length (now heights)) × (d ≤ maxDegree) ⌝ }
-    ensures { λ r. ⌜ Scanned (take d (now (v .entry))) r × (now (heights .exit) ≡ over (sights (take d (now (v .entry)))) (now (heights .entry))) ⌝ }
+// All values, with their heights left in `heights`.
+pub(crate) fn scan_values(v: &[i32], heights: &mut [i32]) -> Scan
+    requires { ⌜ (length (now v) ≤ length (now heights)) × (length (now v) ≤ maxDegree) ⌝ }
+    ensures { λ r. ⌜ Scanned (now (v .entry)) r × (now (heights .exit) ≡ over (sights (now (v .entry))) (now (heights .entry))) ⌝ }
 {
     let mut s = Scan::new();
     let mut i: usize = 0;
-    while i < d {
+    while i < v.len() {
         let x = v[i];
         let h = height_of(x);
         heights[i] = h;

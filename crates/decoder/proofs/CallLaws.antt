@@ -22,13 +22,13 @@ use Rattle.rules.proofs.Lends.{ran-back}
 use Rattle.table.specs.Starts.{startsOf}
 use Rattle.table.proofs.StartsLaws.{starts-length}
 use Rattle.cut.proofs.ReplyLaws.{each-all}
+use Rattle.run.specs.declared.Admitted.{Admitted}
+use Rattle.run.specs.Admitted.{Sizes, admittedOf, sizesOf, Admission, admissionBy, admission}
+use Rattle.run.proofs.AdmitLaws.{Admits, admits-refused, admits-gives, admission-room, sound-safe}
 use Rattle.decoder.specs.Layout.{checksFrom, Holds}
 use Rattle.decoder.specs.OnParts.{PartsFit, onParts}
 use Rattle.decoder.specs.Done.{runAt}
-use Rattle.decoder.specs.declared.admit.Admitted.{Admitted}
-use Rattle.decoder.specs.Admitted.{Sizes, admittedOf, sizesOf, Admission, admissionBy}
-use Rattle.decoder.proofs.AdmitLaws.{Admits, admits-refused, admits-gives, sound-safe}
-use Rattle.decoder.proofs.RunLaws.{same-part}
+use Rattle.decoder.proofs.IterateLaws.{same-part}
 
 -- ---- starts and members hold the checks
 checks-after : (s : ℕ) (ms : List ℕ) (cs : List (List ℕ)) → checksFrom (startsOf (s + length ms) cs) (edges cs) ≡ cs → checksFrom (startsOf s (ms ∷ cs)) (edges (ms ∷ cs)) ≡ ms ∷ cs
@@ -53,23 +53,30 @@ holds-checks t h = record {
     back : checksFrom (startsOf 0 (t .checks)) (edges (t .checks)) ≡ t .checks
     back = checks-back 0 (t .checks)
 
+-- ---- admission to a run's next call, with all its buffers lent: of a table, and of a code file
+abbrev admissionOf : Answer Table → List ℤ → ℕ → Run → List ℕ → List ℕ → Admission
+admissionOf a l wanted r ss ms = admissionBy a l wanted (lengthsOf (r .buffers)) (r .progress) (r .buffers .copies) (r .buffers .offsets) ss ms
+
+abbrev pub admissionIn : List ℕ → List ℤ → ℕ → Run → List ℕ → List ℕ → Admission
+admissionIn file l wanted r ss ms = admission file l wanted (lengthsOf (r .buffers)) (r .progress) (r .buffers .copies) (r .buffers .offsets) ss ms
+
+roomy-in : (file : List ℕ) (l : List ℤ) (wanted : ℕ) (r : Run) (ss ms : List ℕ) → maxChecks < length ss → maxEdges ≤ length ms → admissionIn file l wanted r ss ms ≡ admissionOf (codeFile file) l wanted r ss ms
+roomy-in file l wanted r ss ms hs hm = admission-room file ss ms hs hm l wanted (lengthsOf (r .buffers)) (r .progress) (r .buffers .copies) (r .buffers .offsets)
+
 -- ---- refused
 module _ (file : List ℕ) (l : List ℤ) (wanted : ℕ) (r : Run) (ss ms : List ℕ) where
-  admission : Answer Table → Admission
-  admission a = admissionBy a l wanted (lengthsOf (r .buffers)) (r .progress) (r .buffers .copies) (r .buffers .offsets) ss ms
-
-  refused-by : (k : ℕ) (a : Answer Table) → refused k ≡ admission a .answer → refusedAt k r ≡ callBy l wanted r a
-  unfolding admission callOn
+  refused-by : (k : ℕ) (a : Answer Table) → refused k ≡ admissionOf a l wanted r ss ms .answer → refusedAt k r ≡ callBy l wanted r a
+  unfolding callOn
   refused-by k (refused j) e = ap (λ x. record { answer = x; run = r }) (same k j e)
     where
       same : (k j : ℕ) → _≡_ {A = Answer Sizes} (refused k) (refused j) → _≡_ {A = Answer Status} (refused k) (refused j)
       same k j e = let z : k ≡ j = cc in ap refused z
   refused-by k (gives t) e = sym (ap (perform t l wanted r) (admits-refused t l wanted (lengthsOf (r .buffers)) r k (sym e)))
 
-  pub call-refused : (k : ℕ) (ss' ms' : List ℕ) → record { answer = refused k; starts = ss'; members = ms' } ≡ admissionBy (codeFile file) l wanted (lengthsOf (r .buffers)) (r .progress) (r .buffers .copies) (r .buffers .offsets) ss ms
-      → refusedAt k r ≡ call file l wanted r
-  unfolding call admission
-  call-refused k ss' ms' e = refused-by k (codeFile file) (ap (λ a. a .answer) e)
+  pub call-refused : (k : ℕ) (ss' ms' : List ℕ) → record { answer = refused k; starts = ss'; members = ms' } ≡ admissionIn file l wanted r ss ms
+      → maxChecks < length ss → maxEdges ≤ length ms → refusedAt k r ≡ call file l wanted r
+  unfolding call
+  call-refused k ss' ms' e hs hm = refused-by k (codeFile file) (ap (λ a. a .answer) (e ∙ roomy-in file l wanted r ss ms hs hm))
 
 -- ---- admitted
 running-is : (s : Status) → isRunning s ≡ true → running ≡ s
@@ -135,7 +142,7 @@ module _ (file : List ℕ) (l : List ℤ) (wanted : ℕ) (r : Run) (ss ms : List
       → (PartsFit (z .bits) (z .checks) (z .edges) l (d .starts) (d .members) (r .progress .rounds) (r .buffers))
       × (onParts (z .bits) (z .checks) (z .edges) l (d .starts) (d .members) (r .progress .rounds) wanted (r .buffers) ≡ call file l wanted r)
 
-  good-by : (a : Answer Table) → codeFile file ≡ a → Good (admissionBy a l wanted (lengthsOf (r .buffers)) (r .progress) (r .buffers .copies) (r .buffers .offsets) ss ms)
+  good-by : (a : Answer Table) → codeFile file ≡ a → Good (admissionOf a l wanted r ss ms)
   unfolding Good
   good-by (refused k) f z e = absurd (refused≢gives e)
   good-by (gives t) f z e = subst (λ y. (PartsFit (y .bits) (y .checks) (y .edges) l (over (startsOf 0 (t .checks)) ss) (over (edges (t .checks)) ms) (r .progress .rounds) (r .buffers))
@@ -149,14 +156,13 @@ module _ (file : List ℕ) (l : List ℤ) (wanted : ℕ) (r : Run) (ss ms : List
       a' = subst (Admits t l wanted (lengthsOf (r .buffers)) r) (a .sizes) a
 
   admitted-good : (n m e : ℕ) (ss' ms' : List ℕ) → record { answer = gives (record { bits = n; checks = m; edges = e }); starts = ss'; members = ms' }
-      ≡ admissionBy (codeFile file) l wanted (lengthsOf (r .buffers)) (r .progress) (r .buffers .copies) (r .buffers .offsets) ss ms
+      ≡ admissionIn file l wanted r ss ms
       → (PartsFit n m e l ss' ms' (r .progress .rounds) (r .buffers)) × (onParts n m e l ss' ms' (r .progress .rounds) wanted (r .buffers) ≡ call file l wanted r)
   unfolding Good
-  admitted-good n m e ss' ms' f = subst Good (sym f) (good-by (codeFile file) refl) (record { bits = n; checks = m; edges = e }) refl
+  admitted-good n m e ss' ms' f = subst Good (sym (f ∙ roomy-in file l wanted r ss ms hs hm)) (good-by (codeFile file) refl) (record { bits = n; checks = m; edges = e }) refl
 
 module _ (file : List ℕ) (l : List ℤ) (wanted : ℕ) (r : Run) (ss ms : List ℕ) (n m e : ℕ) (ss' ms' : List ℕ)
-    (f : record { answer = gives (record { bits = n; checks = m; edges = e }); starts = ss'; members = ms' }
-    ≡ admissionBy (codeFile file) l wanted (lengthsOf (r .buffers)) (r .progress) (r .buffers .copies) (r .buffers .offsets) ss ms)
+    (f : record { answer = gives (record { bits = n; checks = m; edges = e }); starts = ss'; members = ms' } ≡ admissionIn file l wanted r ss ms)
     (hs : maxChecks < length ss) (hm : maxEdges ≤ length ms) where
   pub admitted-fit : PartsFit n m e l ss' ms' (r .progress .rounds) (r .buffers)
   admitted-fit = admitted-good file l wanted r ss ms hs hm n m e ss' ms' f .0

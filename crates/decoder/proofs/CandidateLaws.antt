@@ -9,7 +9,7 @@ use Rattle.rules.specs.Table.{at, bitsAt}
 use Rattle.rules.specs.Parity.{_⊕_, odd, meets}
 use Rattle.rules.specs.Cut.{isNeg, negatives}
 use Rattle.rules.proofs.Signs.{⊕-assoc, ⊕-zero}
-use Rattle.decoder.proofs.SetsLaws.{drop-next, drop-end}
+use Rattle.writing.proofs.SetsLaws.{drop-next, drop-end}
 use Rattle.decoder.proofs.SignLaws.{negatives-at}
 
 module _ (s : List ℤ) (ms : List ℕ) (k : ℕ) where

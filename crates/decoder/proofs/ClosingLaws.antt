@@ -26,7 +26,8 @@ use Rattle.rules.proofs.Signs.{alike-length}
 use Rattle.rules.proofs.Masks.{set-mask}
 use Rattle.rules.proofs.WrittenPasses.{AllProper}
 use Rattle.cut.proofs.MaskLaws.{odd-some}
-use Rattle.decoder.specs.Closing.{withRow, rowsFrom, cutsFrom, contentsFrom, bodiesFrom, certificateFrom}
+use Rattle.writing.specs.Written.{cutsFrom, contentsFrom, bodiesFrom, certificateFrom}
+use Rattle.decoder.specs.Closing.{withRow, rowsFrom}
 use Rattle.decoder.specs.Candidate.{noZero}
 use Rattle.decoder.specs.Room.{rowOf}
 use Rattle.decoder.proofs.SignLaws.{candidate-is}

@@ -23,12 +23,13 @@ use Rattle.rules.specs.Demand3.{Best, FreshStart, AllLent, listFrom, CertifiesO
 use Rattle.rules.proofs.AnswerLaws.{refused≢gives, gives-inj}
 use Rattle.rules.proofs.Fresh.{started-copies, started-offsets}
 use Rattle.rules.proofs.Demand3.{demand3}
-use Rattle.decoder.specs.Reply.{progressOf, startedOf, outcomeOf}
-use Rattle.decoder.proofs.start as st
-use Rattle.decoder.proofs.start.Kinds as st-kinds
-use Rattle.decoder.proofs.start.Reads as st-reads
-use Rattle.decoder.proofs.start.Statement.{statement as st-statement}
-use Rattle.decoder.proofs.start.Met.{met as start-met}
+use Rattle.run.specs.Reply.{progressOf, startedOf}
+use Rattle.decoder.specs.Reply.{outcomeOf}
+use Rattle.run.proofs.start as st
+use Rattle.run.proofs.start.Kinds as st-kinds
+use Rattle.run.proofs.start.Reads as st-reads
+use Rattle.run.proofs.start.Statement.{statement as st-statement}
+use Rattle.run.proofs.start.Met.{met as start-met}
 use Rattle.decoder.proofs.rounds as rd
 use Rattle.decoder.proofs.rounds.Kinds as rd-kinds
 use Rattle.decoder.proofs.rounds.Reads as rd-reads

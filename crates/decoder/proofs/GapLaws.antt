@@ -22,7 +22,7 @@ use Rattle.rules.proofs.Duality.{Below, below-at}
 use Rattle.decoder.specs.Closing.{withRow, rowsFrom, AllUpTo}
 use Rattle.rules.specs.Scatter.{scatter, scatterRows}
 use Rattle.decoder.specs.Room.{rowOf, Room}
-use Rattle.decoder.proofs.SetsLaws.{drop-next, drop-end}
+use Rattle.writing.proofs.SetsLaws.{drop-next, drop-end}
 use Rattle.rules.proofs.ScatterLaws.{rows-length}
 use Rattle.decoder.proofs.RoomLaws.{room-here, room-more, room-first, room-last, room-scatter}
 

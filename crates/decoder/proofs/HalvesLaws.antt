@@ -3,10 +3,11 @@ use mathlib.Core.Path.{_≡_, refl, sym, _∙_, ap, ap₂, subst}
 use mathlib.Core.Bool.{Bool, true, false, _&&_}
 use mathlib.Core.List.{List}
 use Prim.Native.Nat.{ℕ, _≤_}
+use native.Mathlib.Omega.{arith}
 use lib.ListN.{length}
 use lib.IntN.{ℤ}
 use Rattle.integers.specs.Sum.{AllWithin}
-use Rattle.rules.specs.Limits.{unit}
+use Rattle.rules.specs.Limits.{unit, certificateLength}
 use Rattle.rules.specs.Table.{at, edges, degreeOf}
 use Rattle.rules.specs.Cut.{negatives, keep}
 use Rattle.rules.specs.Bound.{gap}
@@ -14,10 +15,12 @@ use Rattle.rules.specs.Round.{State, spin, candidate, isZero, firstOf}
 use Rattle.rules.specs.Buffers.{over}
 use Rattle.rules.specs.Run.{bytesOf}
 use Rattle.rules.proofs.RoundSizes.{first-length}
+use Rattle.writing.specs.Written.{certificateFrom, certificateWritten}
+use Rattle.writing.proofs.CertificateLaws.{certificate-whole}
 use Rattle.decoder.specs.Layout.{Holds}
 use Rattle.decoder.specs.Spins.{SpinsFit}
 use Rattle.decoder.specs.Passed.{PassFits}
-use Rattle.decoder.specs.Closing.{metBy, rowsFrom, certificateFrom}
+use Rattle.decoder.specs.Closing.{metBy, rowsFrom, GapFits}
 use Rattle.decoder.specs.Done.{MoveFits, closedBy, closing}
 use Rattle.decoder.proofs.RoundLaws.{spins-within}
 use Rattle.decoder.proofs.PerformLaws.{members-below, members-fit}
@@ -70,3 +73,8 @@ module _ (n : ℕ) (l : List ℤ) (cs : List (List ℕ)) (s : List ℤ) (bs ks w
       → (w' c' : List ℕ) → w' ≡ over (bytesOf (negatives s)) w → c' ≡ over (certificateFrom bs ks) c
       → record { ends = true; word = w'; certificate = c' } ≡ closing (closedBy n l cs s bs ks) bs ks w c
   closed-both p q w' c' e f = ap₂ (λ x y. record { ends = true; word = x; certificate = y }) e f ∙ closed-by true true p q
+
+-- a round's certificate is never refused
+pub certificate-fits : (n : ℕ) (l s : List ℤ) (ss ms bs ks c : List ℕ) → GapFits n l s ss ms bs ks → certificateLength (length ks) ≤ length c
+    → certificateWritten bs ks c ≡ record { number = 0; bytes = over (certificateFrom bs ks) c }
+certificate-fits n l s ss ms bs ks c g h = certificate-whole bs ks c (omega (arith, g .masksLong, g .holds .sound .checks .1)) (g .multipliersLong ∙ sym (g .masksLong)) h

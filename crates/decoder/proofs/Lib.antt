@@ -1,14 +1,10 @@
-pub mod OverLaws
-pub mod StartLaws
 pub mod ExactLaws
-pub mod RunLaws
+pub mod IterateLaws
 pub mod SpinLaws
 pub mod FillLaws
 pub mod PlaceLaws
 pub mod GatherLaws
 pub mod TotalsLaws
-pub mod BoundsLaws
-pub mod AdmitLaws
 pub mod PerformLaws
 pub mod CallLaws
 pub mod MaskLaws
@@ -21,7 +17,6 @@ pub mod StepLaws
 pub mod LayoutLaws
 pub mod PassLaws
 pub mod PassingLaws
-pub mod SetsLaws
 pub mod SignLaws
 pub mod CandidateLaws
 pub mod CheckLaws
@@ -29,10 +24,10 @@ pub mod QuotientLaws
 pub mod RoomLaws
 pub mod GapLaws
 pub mod BoundLaws
-pub mod CertificateLaws
 pub mod ClosingLaws
 pub mod RoundLaws
 pub mod HalvesLaws
 pub mod DoLaws
 pub mod PartsLaws
 pub mod Demand3
+pub mod ViewLaws

@@ -16,9 +16,9 @@ use Rattle.rules.proofs.Runs.{held-start, iterate-held}
 use Rattle.decoder.specs.Layout.{checksFrom, tableOf, Holds}
 use Rattle.decoder.specs.Ready.{offsetLimit, Ready}
 use Rattle.decoder.specs.Done.{runAt}
-use Rattle.decoder.specs.Admitted.{needsBy}
+use Rattle.run.specs.Admitted.{needsBy}
 use Rattle.decoder.specs.OnParts.{PartsFit, onParts}
-use Rattle.decoder.proofs.RunLaws.{wide-all, offsets-low, same-part}
+use Rattle.decoder.proofs.IterateLaws.{wide-all, offsets-low, same-part}
 
 module _ (n m e : ℕ) (l : List ℤ) (ss ms : List ℕ) (k : ℕ) (b : Buffers) (h : PartsFit n m e l ss ms k b) where
   edges-long : length (edges (checksFrom (take (m + 1) ss) (take e ms))) ≡ e

@@ -21,7 +21,7 @@ use Rattle.decoder.specs.Layout.{checksFrom, tableOf, Holds}
 use Rattle.decoder.specs.Ready.{Given, Ready}
 use Rattle.decoder.specs.Done.{runAt}
 use Rattle.decoder.proofs.PlaceLaws.{below-more}
-use Rattle.decoder.proofs.RunLaws.{going-first}
+use Rattle.decoder.proofs.IterateLaws.{going-first}
 
 -- ---- a table's members
 below-++ : (n : ℕ) (ms es : List ℕ) → Below n ms → Below n es → Below n (ms ++ es)

@@ -1,32 +1,21 @@
--- Negative spins: the test of a sign, the word with ones at them, and the candidate. Assumes nothing.
+-- Negative spins: the parity of their number, the word with ones at them, and the candidate. Assumes nothing.
 use mathlib.Core.Path.{_≡_, refl, sym, _∙_, ap}
 use mathlib.Core.Bool.{Bool, true, false, not, _&&_}
 use mathlib.Core.List.{List, [], _∷_}
 use Prim.Native.Nat.{ℕ, zero, suc, _+_, _<_, _≤_}
-use native.Mathlib.Nat.{le-of-suc-le-suc}
-use native.Mathlib.Omega.{arith}
-use lib.ListN.{length, getD, drop}
+use lib.ListN.{length, drop}
 use lib.IntN.{ℤ, pos, negsuc}
 use lib.Signed.{_<ℤ_}
-use Rattle.integers.specs.Linear.{_⩽_, lt-out}
+use Rattle.integers.specs.Linear.{_⩽_}
 use Rattle.rules.specs.Table.{at, bit}
 use Rattle.rules.specs.Parity.{_⊕_, meets}
-use Rattle.rules.specs.Mask.{digit}
 use Rattle.rules.specs.Cut.{isNeg, negatives, keep}
 use Rattle.rules.specs.Round.{bitOf, join, candidate, isZero}
-use Rattle.rules.specs.Run.{bytesOf}
 use Rattle.rules.proofs.Signs.{⊕-zero, ⊕-true}
+use Rattle.writing.proofs.WordLaws.{below-zero, from-zero}
+use Rattle.writing.proofs.SetsLaws.{drop-next, drop-end}
 use Rattle.decoder.specs.Closing.{metBy}
 use Rattle.decoder.specs.Candidate.{noZero}
-use Rattle.decoder.proofs.SetsLaws.{drop-next, drop-end}
-
-pub below-zero : (x : ℤ) → x <ℤ pos 0 → isNeg x ≡ true
-below-zero (pos n) h = absurd (omega (arith, lt-out h))
-below-zero (negsuc n) h = refl
-
-pub from-zero : (x : ℤ) → pos 0 ⩽ x → isNeg x ≡ false
-from-zero (pos n) h = refl
-from-zero (negsuc n) h = absurd (h .le)
 
 pub is-zero : (x : ℤ) → x ≡ pos 0 → isZero x ≡ true
 is-zero x e = ap isZero e
@@ -49,16 +38,6 @@ negatives-at [] zero = refl
 negatives-at [] (suc i) = refl
 negatives-at (s ∷ ss) zero = refl
 negatives-at (s ∷ ss) (suc i) = negatives-at ss i
-
--- its bytes
-pub bytes-length : (ss : List ℤ) → length (bytesOf (negatives ss)) ≡ length ss
-bytes-length [] = refl
-bytes-length (s ∷ ss) = ap suc (bytes-length ss)
-
-pub bytes-at : (ss : List ℤ) (i : ℕ) → i < length ss → getD (bytesOf (negatives ss)) i 0 ≡ digit (isNeg (at ss i))
-bytes-at [] i h = absurd (omega arith)
-bytes-at (s ∷ ss) zero h = refl
-bytes-at (s ∷ ss) (suc i) h = bytes-at ss i (le-of-suc-le-suc h)
 
 -- ---- the candidate
 join-keep : (s : ℤ) (b : Bool) (w : List Bool) → join (bitOf s) (keep b w) ≡ keep (not (isZero s) && b) (isNeg s ∷ w)

@@ -2,14 +2,13 @@
 use mathlib.Core.Path.{_≡_, refl, sym, _∙_, ap, ap₂, subst}
 use mathlib.Core.List.{List, _++_, append-nil}
 use mathlib.Core.Option.{some, none}
-use Prim.Native.Nat.{ℕ, _≤_, min}
+use Prim.Native.Nat.{ℕ, _≤_}
 use native.Mathlib.Decide.{ℕ-discrete}
 use native.Mathlib.Omega.{arith}
 use lib.ListN.{length, take, drop, drop-of-length-le}
-use lib.Seq.{take-all}
 use lib.IntN.{ℤ}
 use Rattle.integers.specs.Sum.{AllWithin}
-use Rattle.rules.specs.Limits.{unit, maxDegree}
+use Rattle.rules.specs.Limits.{unit}
 use Rattle.rules.specs.Table.{at}
 use Rattle.rules.specs.Mask.{setOf}
 use Rattle.rules.specs.Cut.{cut}
@@ -25,8 +24,9 @@ use Rattle.rules.proofs.Optimal.{within-at}
 use Rattle.rules.proofs.Pass.{values-within}
 use Rattle.rules.proofs.Steps.{clips-alike}
 use Rattle.cut.specs.CutMask.{cutMask}
-use Rattle.cut.proofs.MaskLaws.{mask-none, mask-some}
 use Rattle.cut.specs.Heights.{heightsOf, highest, sideBy, seenOn, seen}
+use Rattle.cut.proofs.MaskLaws.{mask-none, mask-some}
+use Rattle.cut.proofs.SeeLaws.{seen-whole}
 use Rattle.decoder.specs.Lifted.{Rising, LeastAt, MultiplierOf}
 use Rattle.decoder.specs.Stepped.{Stepped, steppedBy, steppedOn, stepped, StepFits, MoveFits}
 use Rattle.decoder.proofs.MaskLaws.{set-alike}
@@ -69,10 +69,9 @@ module _ (v : List ℤ) (m : ℕ) (e : m ≡ cutMask (cut unit (clips unit v))) 
           ∙ sym (ap (λ o. steppedBy (stepBy unit v o)) (some-cut f))
 
 -- ---- the heights hs that the cut search leaves of the values v in the place of z, with the greatest of them
-module _ (v z hs : List ℤ) (m : ℕ) (top : ℤ) (few : length v ≤ 32) (same : length z ≡ length v) (e : (record { mask = m; top = top; heights = hs }) ≡ seen v z) where
-  whole : (record { mask = m; top = top; heights = hs }) ≡ seenOn v z
-  unfolding seen
-  whole = e ∙ ap (λ l. seenOn l z) (take-all (min maxDegree (length z)) v (omega arith))
+module _ (v z hs : List ℤ) (k m : ℕ) (top : ℤ) (few : length v ≤ 32) (same : length z ≡ length v) (e : (record { number = k; mask = m; top = top; heights = hs }) ≡ seen v z) where
+  whole : (record { number = k; mask = m; top = top; heights = hs }) ≡ seenOn v z
+  whole = e ∙ sym (seen-whole v z few (omega arith))
 
   pub mask-is : m ≡ cutMask (cut unit (clips unit v))
   unfolding seenOn
@@ -105,14 +104,14 @@ module _ (v z hs : List ℤ) (m : ℕ) (top : ℤ) (few : length v ≤ 32) (same
     least-multiplier-is b w l = least-is (setOf (length v) m) v few w (set-alike v m) cuts b (subst (λ x. LeastAt x b) heights-are l) ∙ multiplier-some v m mask-is f
 
   pub multiplier-is : (b : ℕ) → AllWithin 8384512 v → MultiplierOf m hs b → (b ≡ steppedOn v .multiplier) × (b ≤ 8388608)
-  multiplier-is b w k = go (ℕ-discrete m 0)
+  multiplier-is b w l = go (ℕ-discrete m 0)
     where
       zero-small : b ≡ 0 → b ≤ 8388608
       zero-small q = omega arith
 
       go : Dec (m ≡ 0) → (b ≡ steppedOn v .multiplier) × (b ≤ 8388608)
-      go (yes q) = (k .none q ∙ multiplier-none v m mask-is q, zero-small (k .none q))
-      go (no f) = (least-multiplier-is f b w (k .some f), k .some f .bounded)
+      go (yes q) = (l .none q ∙ multiplier-none v m mask-is q, zero-small (l .none q))
+      go (no f) = (least-multiplier-is f b w (l .some f), l .some f .bounded)
 
 -- ---- what the calls of a step ask, and what it leaves: l is in the offsets' place
 module _ (s : List ℤ) (ms : List ℕ) (z y l : List ℤ) (fits : StepFits s ms z y) (e : l ≡ values (at s) ms y) where
@@ -128,17 +127,17 @@ module _ (s : List ℤ) (ms : List ℕ) (z y l : List ℤ) (fits : StepFits s ms
   same : length z ≡ length l
   same = fits .copiesLong ∙ sym long
 
-  module _ (hs : List ℤ) (m : ℕ) (top : ℤ) (em : (record { mask = m; top = top; heights = hs }) ≡ seen l z) where
+  module _ (hs : List ℤ) (k m : ℕ) (top : ℤ) (em : (record { number = k; mask = m; top = top; heights = hs }) ≡ seen l z) where
     pub multiplier-asks : (m ≡ 0 → ⊥) → Rising hs top
-    multiplier-asks f = heights-rise l z hs m top few same em f small
+    multiplier-asks f = heights-rise l z hs k m top few same em f small
 
-    module _ (b : ℕ) (k : MultiplierOf m hs b) where
+    module _ (b : ℕ) (least : MultiplierOf m hs b) where
       pub move-asks : MoveFits b hs l
-      move-asks = record { bounded = multiplier-is l z hs m top few same em b small k .1; few = few; small = small; copiesLong = heights-long l z hs m top few same em ∙ same }
+      move-asks = record { bounded = multiplier-is l z hs k m top few same em b small least .1; few = few; small = small; copiesLong = heights-long l z hs k m top few same em ∙ same }
 
       pub step-left : (z' y' : List ℤ) → (z' ≡ newCopies b m l) × (y' ≡ newOffsets b m l) → (record { copies = z'; offsets = y'; multiplier = b; mask = m }) ≡ stepped (at s) ms y
       unfolding stepped
-      step-left z' y' q = step-is l m (mask-is l z hs m top few same em) b z' y' (multiplier-is l z hs m top few same em b small k .0) (q .0) (q .1) ∙ ap steppedOn e
+      step-left z' y' q = step-is l m (mask-is l z hs k m top few same em) b z' y' (multiplier-is l z hs k m top few same em b small least .0) (q .0) (q .1) ∙ ap steppedOn e
 
 -- ---- a check of degree n, by its first n places
 module _ (n : ℕ) (s : List ℤ) (ms : List ℕ) (z y : List ℤ) (e : length ms ≡ n) (f : StepFits s ms z y) where

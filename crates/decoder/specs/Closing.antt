@@ -1,15 +1,14 @@
--- The end of a round (document 01, "One round", step 4): the candidate's checks and gap, and the certificate, from the numbers that the pass has left.
+-- The end of a round (document 01, "One round", step 4): the candidate's checks and gap, from the numbers that the pass has left.
 -- Definitions only. Assumes nothing.
 use mathlib.Core.Path.{_≡_}
-use mathlib.Core.Bool.{Bool, true, false, cond}
-use mathlib.Core.List.{List, [], _∷_, _++_}
+use mathlib.Core.Bool.{Bool, true, false}
+use mathlib.Core.List.{List, [], _∷_}
 use mathlib.Core.Option.{Option, some, none}
-use Prim.Native.Nat.{ℕ, suc, _+_, _≤_}
+use Prim.Native.Nat.{ℕ, _≤_}
 use lib.Dec.{eqb}
 use lib.ListN.{length}
 use lib.IntN.{ℤ}
 use Rattle.integers.specs.Sum.{AllWithin}
-use Rattle.rules.specs.Bytes.{le16, le32}
 use Rattle.rules.specs.Parity.{meets}
 use Rattle.rules.specs.Mask.{setOf}
 use Rattle.rules.specs.Bound.{Row}
@@ -44,20 +43,3 @@ pub record GapFits (n : ℕ) (l s : List ℤ) (ss ms bs ks : List ℕ) : Type 0 
   pub multipliersLong : length bs ≡ length (checksFrom ss ms)
   pub masksLong : length ks ≡ length (checksFrom ss ms)
   pub multipliers : AllUpTo 8388608 bs
-
--- ---- the certificate, from multipliers and masks
-unfoldable pub cutsFrom : List ℕ → ℕ
-cutsFrom [] = 0
-cutsFrom (k ∷ ks) = cond (eqb k 0) 0 1 + cutsFrom ks
-
-unfoldable pub contentsFrom : ℕ → List ℕ → List ℕ → List ℕ
-contentsFrom j [] ks = []
-contentsFrom j (b ∷ bs) [] = []
-contentsFrom j (b ∷ bs) (k ∷ ks) = cond (eqb k 0) [] (le16 j ++ le32 b) ++ contentsFrom (suc j) bs ks
-
-unfoldable pub bodiesFrom : List ℕ → List ℕ
-bodiesFrom [] = []
-bodiesFrom (k ∷ ks) = cond (eqb k 0) [] (le32 k) ++ bodiesFrom ks
-
-unfoldable pub certificateFrom : List ℕ → List ℕ → List ℕ
-certificateFrom bs ks = le16 (cutsFrom ks) ++ le16 1 ++ contentsFrom 0 bs ks ++ bodiesFrom ks

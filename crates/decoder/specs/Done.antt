@@ -15,8 +15,9 @@ use Rattle.rules.specs.Bound.{gap}
 use Rattle.rules.specs.Round.{Round, round, candidate, isZero}
 use Rattle.rules.specs.Buffers.{Buffers, over}
 use Rattle.rules.specs.Run.{Status, running, certified, spent, Run, moved, multipliersOf, masksOf, bytesOf}
+use Rattle.writing.specs.Written.{certificateFrom}
 use Rattle.decoder.specs.Layout.{checksFrom}
-use Rattle.decoder.specs.Closing.{metBy, rowsFrom, certificateFrom}
+use Rattle.decoder.specs.Closing.{metBy, rowsFrom}
 use Rattle.decoder.specs.Ready.{offsetLimit, Given}
 
 -- whether a round has certified a word

@@ -3,7 +3,6 @@ pub mod Spins
 pub mod Passed
 pub mod Closing
 pub mod Reply
-pub mod Admitted
 pub mod Ready
 pub mod Done
 pub mod Totals

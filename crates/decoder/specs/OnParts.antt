@@ -12,7 +12,7 @@ use Rattle.rules.specs.Calls.{giveBack}
 use Rattle.rules.proofs.BufferLaws.{Part}
 use Rattle.decoder.specs.Layout.{checksFrom, tableOf, Holds}
 use Rattle.decoder.specs.Done.{runAt}
-use Rattle.decoder.specs.Admitted.{needsBy}
+use Rattle.run.specs.Admitted.{needsBy}
 
 -- a table of n bits, m checks and e edges in front of ss and ms, a frame for it, and a sound running run of which k rounds are done
 pub record PartsFit (n m e : ℕ) (l : List ℤ) (ss ms : List ℕ) (k : ℕ) (b : Buffers) : Type 0 where

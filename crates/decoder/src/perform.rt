@@ -1,9 +1,9 @@
 // An admitted call: its rounds, and its answer.
 use super::Called;
 use super::Outcome;
-use super::Status;
 use super::degrees::count_degrees;
-use super::run::run_rounds;
+use super::iterate::run_rounds;
+use run::Status;
 ghost use mathlib.Core.Path.{_≡_};
 ghost use Prim.Native.Nat.{_+_, _*_, _<_};
 ghost use lib.ListN.{length};
@@ -11,11 +11,12 @@ ghost use Rattle.integers.specs.Sum.{AllWithin};
 ghost use Rattle.rules.specs.Limits.{frameLimit};
 ghost use Rattle.rules.specs.Refusal.{gives};
 ghost use Rattle.rules.specs.Run.{iterate, ranOn};
+ghost use Rattle.run.specs.Reply.{statusOf, progressOf};
 ghost use Rattle.decoder.specs.Layout.{tableOf, Holds};
 ghost use Rattle.decoder.specs.Ready.{Ready};
 ghost use Rattle.decoder.specs.Done.{runAt};
 ghost use Rattle.decoder.specs.OnParts.{PartsFit, onParts};
-ghost use Rattle.decoder.specs.Reply.{statusOf, progressOf, outcomeOf};
+ghost use Rattle.decoder.specs.Reply.{outcomeOf};
 
 pub(crate) fn outcome_of(status: Status) -> Outcome
     ensures { λ r. ⌜ outcomeOf r ≡ gives (statusOf status) ⌝ }

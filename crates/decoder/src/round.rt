@@ -1,21 +1,21 @@
 // One round of a run (document 01, "One round").
-use super::Record;
-use super::Status;
 use super::candidate::meets_checks;
 use super::gap::closes;
 use super::pass::pass;
 use super::spins::find_spins;
-use super::written::write_certificate;
-use super::written::write_word;
+use run::Record;
+use run::Status;
+use writing::write_certificate;
+use writing::write_word;
 ghost use mathlib.Core.Path.{_≡_};
 ghost use Prim.Native.Nat.{_+_, _*_, _≤_, _<_};
 ghost use lib.ListN.{length};
 ghost use Rattle.rules.specs.Round.{round};
+ghost use Rattle.run.specs.Reply.{progressOf};
 ghost use Rattle.decoder.specs.Layout.{checksFrom, tableOf};
 ghost use Rattle.decoder.specs.Closing.{GapFits};
 ghost use Rattle.decoder.specs.Ready.{Given, Ready};
 ghost use Rattle.decoder.specs.Done.{statusBy, movedBy, MoveFits, closedBy, closing, roundOf};
-ghost use Rattle.decoder.specs.Reply.{progressOf};
 
 // Steps 1 to 3.
 pub(crate) fn move_on(

@@ -1,11 +1,9 @@
 -- A refusal's number, 0 for none: which of two comes first, and what it is in front of an answer. Assumes nothing.
 use mathlib.Core.Path.{_≡_, refl, sym, ap}
 use mathlib.Core.Bool.{Bool, true, false, cond}
-use mathlib.Core.List.{List, []}
 use Prim.Native.Nat.{ℕ, zero, suc}
 use native.Mathlib.Nat.{suc-ne-zero}
-use lib.IntN.{ℤ}
-use Rattle.rules.specs.Refusal.{Answer, must, replyOf}
+use Rattle.rules.specs.Refusal.{Answer, refused, must}
 use Rattle.inputs.specs.Refusals.{orElse, turnedDown}
 
 -- ---- of two
@@ -37,11 +35,11 @@ module _ {A : Type 0} where
   turned-else zero k a = refl
   turned-else (suc j) k a = refl
 
-  pub reply-refused : (f : A → List ℤ) (k : ℕ) (a : Answer A) → (k ≡ 0 → ⊥) → record { number = k; values = [] } ≡ replyOf f (turnedDown k a)
-  unfolding turnedDown replyOf
-  reply-refused f zero a h = absurd (h refl)
-  reply-refused f (suc k) a h = refl
-
-  pub reply-passes : (f : A → List ℤ) (k : ℕ) (a : Answer A) → k ≡ 0 → replyOf f a ≡ replyOf f (turnedDown k a)
+  pub turned-refused : (k : ℕ) (a : Answer A) → (k ≡ 0 → ⊥) → refused k ≡ turnedDown k a
   unfolding turnedDown
-  reply-passes f k a e = ap (λ j. replyOf f (turnedDown j a)) (sym e)
+  turned-refused zero a h = absurd (h refl)
+  turned-refused (suc k) a h = refl
+
+  pub turned-none : (k : ℕ) (a : Answer A) → k ≡ 0 → a ≡ turnedDown k a
+  unfolding turnedDown
+  turned-none k a e = ap (λ j. turnedDown j a) (sym e)

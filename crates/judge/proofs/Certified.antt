@@ -1,14 +1,13 @@
 -- What the judge's answer is worth, whoever wrote the certificate (document 00, demand 2; document 01, "Certificates"): certified exactly if the word
 -- meets all checks and its agreement, times the scale, equals the bound, and then nothing agrees better. Corollaries of rules' Judged. Assumes nothing.
-use mathlib.Core.Path.{_≡_, refl, sym, _∙_, ap, subst}
+use mathlib.Core.Path.{_≡_, sym, _∙_, subst}
 use mathlib.Core.Bool.{true}
 use mathlib.Core.Logic.{_↔_}
 use mathlib.Core.List.{List}
 use Prim.Native.Nat.{ℕ}
-use native.Mathlib.Omega.{arith}
 use lib.IntN.{ℤ, pos, _*ℤ_}
 use lib.Signed.{_<ℤ_}
-use Rattle.rules.specs.Refusal.{Answer, refused, gives, replyOf}
+use Rattle.rules.specs.Refusal.{gives}
 use Rattle.rules.specs.Table.{Table}
 use Rattle.rules.specs.Parity.{meets, agreement}
 use Rattle.rules.specs.CodeFile.{codeFile}
@@ -16,26 +15,11 @@ use Rattle.rules.specs.Input.{bitsOf}
 use Rattle.rules.specs.Bound.{bound}
 use Rattle.rules.specs.Certificate.{scaleOf, itemsOf, rowsAt}
 use Rattle.rules.specs.Demand3.{Best}
-use Rattle.rules.specs.Judge.{Verdict, breaks, passes, misses, verdict, verdictValues, judge, judgeReply}
+use Rattle.rules.specs.Judge.{Verdict, passes, verdict, judge}
 use Rattle.rules.proofs.AnswerLaws.{gives-inj}
 use Rattle.rules.proofs.Judged.{judged, verdict-passes⇔, judge-best, judge-positive}
 use Rattle.judge.specs.declared.Verdict.the-variants.{Certified, Gap}
-use Rattle.judge.specs.Reply.{numbered}
-
--- ---- the code's answer, whose number and values are the definition's, tell the definition's
-answer-passes : (a : Answer Verdict) → numbered Certified .values ≡ replyOf verdictValues a .values → a ≡ gives passes
-unfolding replyOf
-answer-passes (refused k) h = absurd (let z : _≡_ {A = ℕ} 0 1 = cc in omega arith)
-answer-passes (gives (breaks j)) h = absurd (let z : _≡_ {A = ℕ} 0 1 = cc in omega arith)
-answer-passes (gives passes) h = refl
-answer-passes (gives (misses g)) h = absurd (let z : _≡_ {A = ℕ} 0 1 = cc in omega arith)
-
-answer-misses : (g : ℤ) (a : Answer Verdict) → numbered (Gap g) .values ≡ replyOf verdictValues a .values → a ≡ gives (misses g)
-unfolding replyOf
-answer-misses g (refused k) h = absurd (let z : _≡_ {A = ℕ} 0 1 = cc in omega arith)
-answer-misses g (gives (breaks j)) h = absurd (let z : _≡_ {A = ℕ} 0 1 = cc in omega arith)
-answer-misses g (gives passes) h = absurd (let z : _≡_ {A = ℕ} 0 1 = cc in omega arith)
-answer-misses g (gives (misses x)) h = cc
+use Rattle.judge.specs.Reply.{verdictOf}
 
 module _ (file : List ℕ) (l : List ℤ) (w bs : List ℕ) where
   module _ (t : Table) (isFile : codeFile file ≡ gives t) where
@@ -54,11 +38,9 @@ module _ (file : List ℕ) (l : List ℤ) (w bs : List ℕ) where
         (λ e. both .0 (verdict-says v h ∙ e), λ p. sym (verdict-says v h) ∙ both .1 p)
 
     -- a word that the code marks certified is best
-    pub certified-best : numbered Certified ≡ judgeReply file l w bs → Best t l (bitsOf w)
-    unfolding judgeReply
-    certified-best h = judge-best file l w bs t isFile (answer-passes (judge file l w bs) (ap (λ r. r .values) h))
+    pub certified-best : verdictOf Certified ≡ judge file l w bs → Best t l (bitsOf w)
+    certified-best h = judge-best file l w bs t isFile (sym h)
 
   -- "else the gap, which is then positive"
-  pub gap-positive : (g : ℤ) → numbered (Gap g) ≡ judgeReply file l w bs → pos 0 <ℤ g
-  unfolding judgeReply
-  gap-positive g h = judge-positive file l w bs g (answer-misses g (judge file l w bs) (ap (λ r. r .values) h))
+  pub gap-positive : (g : ℤ) → verdictOf (Gap g) ≡ judge file l w bs → pos 0 <ℤ g
+  gap-positive g h = judge-positive file l w bs g (sym h)

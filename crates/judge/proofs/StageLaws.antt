@@ -1,7 +1,7 @@
 -- Document 01's answers on a table that the code holds: the tests as one refusal's number, then the verdict, in the code's own numbers. Assumes nothing.
 use mathlib.Core.Path.{_≡_, refl, sym, _∙_, ap, ap₂, subst}
 use mathlib.Core.Bool.{false, cond, _&&_}
-use mathlib.Core.List.{List, [], _∷_}
+use mathlib.Core.List.{List, _∷_}
 use mathlib.Core.Option.{Option, some, none}
 use Prim.Native.Nat.{ℕ, zero, suc, _+_, _≤_, _<_}
 use native.Mathlib.Omega.{arith}
@@ -13,7 +13,7 @@ use mir.Syntax.{w64}
 use mir.Val.{ofZ}
 use Rattle.integers.specs.Count.{first-in, rest-in}
 use Rattle.rules.specs.Limits.{frameLimit}
-use Rattle.rules.specs.Refusal.{Answer, refused, gives, then, replyOf, frameRange}
+use Rattle.rules.specs.Refusal.{Answer, refused, gives, then, frameRange}
 use Rattle.rules.specs.Table.{Table, checksOf}
 use Rattle.rules.specs.Parity.{firstBroken, agreement}
 use Rattle.rules.specs.Mask.{setOf}
@@ -22,7 +22,7 @@ use Rattle.rules.specs.Input.{eachWithin, eachBit, bitsOf}
 use Rattle.rules.specs.Bound.{gap}
 use Rattle.rules.specs.Round.{isZero}
 use Rattle.rules.specs.Certificate.{Item, itemAt, itemsAt, membersAt, entriesOf, scaleOf, itemsOf, rowAt, rowsAt}
-use Rattle.rules.specs.Judge.{passes, misses, weigh, verdict, verdictValues, judge, judgeReply, syndrome, syndromeValues, agreementOf}
+use Rattle.rules.specs.Judge.{breaks, passes, misses, weigh, verdict, judge, syndrome, agreementOf}
 use Rattle.rules.proofs.Basics.{and-both}
 use Rattle.rules.proofs.AnswerLaws.{then-of}
 use Rattle.inputs.specs.Refusals.{frameRefusal, wordRefusal, turnedDown, orElse}
@@ -31,9 +31,8 @@ use Rattle.table.specs.Held.{degreeAt, partsFrom, tableIn, Held}
 use Rattle.judge.specs.Refusals.{certificateRefusal}
 use Rattle.judge.specs.Rows.{rowIn, rowsIn, AllPlaced}
 use Rattle.judge.specs.Stages.{verdictOn, judgeOn, syndromeOn, agreementOn, Unrefused}
-use Rattle.judge.specs.Reply.{agreementValues}
 use Rattle.table.proofs.HeldLaws.{parts-length, parts-at, part-length}
-use Rattle.inputs.proofs.RefusalLaws.{else-none, cond-none, turned-else, reply-refused, reply-passes}
+use Rattle.inputs.proofs.RefusalLaws.{else-none, cond-none, turned-else, turned-refused, turned-none}
 use Rattle.judge.proofs.RefusalLaws.{certificate-law, Passed}
 
 -- ---- what is not refused
@@ -80,15 +79,15 @@ module _ (n m : ℕ) (starts members : List ℕ) (held : Held n m starts members
       frame-law t l _ ∙ ap (turnedDown (frameRefusal n l)) second ∙ turned-else (frameRefusal n l) (orElse (wordRefusal n w) c) a
 
   module _ (l : List ℤ) (w bs : List ℕ) (r : ℕ) (e : r ≡ orElse (frameRefusal n l) (orElse (wordRefusal n w) (certificateRefusal m (degreeAt starts) bs))) where
-    pub judge-turned : (r ≡ 0 → ⊥) → record { number = r; values = [] } ≡ replyOf verdictValues (judgeOn (tableIn n m starts members) l w bs)
+    pub judge-turned : (r ≡ 0 → ⊥) → refused r ≡ judgeOn (tableIn n m starts members) l w bs
     judge-turned h =
         let a = gives (verdictOn (tableIn n m starts members) l w bs) in
-        reply-refused verdictValues r a h ∙ ap (replyOf verdictValues) (ap (λ k. turnedDown k a) e ∙ sym (judge-law l w bs))
+        turned-refused r a h ∙ ap (λ k. turnedDown k a) e ∙ sym (judge-law l w bs)
 
-    pub judge-passes : r ≡ 0 → replyOf verdictValues (gives (verdictOn (tableIn n m starts members) l w bs)) ≡ replyOf verdictValues (judgeOn (tableIn n m starts members) l w bs)
+    pub judge-passes : r ≡ 0 → gives (verdictOn (tableIn n m starts members) l w bs) ≡ judgeOn (tableIn n m starts members) l w bs
     judge-passes h =
         let a = gives (verdictOn (tableIn n m starts members) l w bs) in
-        reply-passes verdictValues r a h ∙ ap (replyOf verdictValues) (ap (λ k. turnedDown k a) e ∙ sym (judge-law l w bs))
+        turned-none r a h ∙ ap (λ k. turnedDown k a) e ∙ sym (judge-law l w bs)
 
 -- the rows are those of the table
 row-is : (n m : ℕ) (starts members : List ℕ) (i : Item) → i .check < m → rowIn starts members i ≡ rowAt (tableIn n m starts members) i
@@ -112,92 +111,81 @@ module _ (n m : ℕ) (starts members : List ℕ) (l : List ℤ) (w bs : List ℕ
   unfolding verdict
   verdict-is o g ho hg = ap₂ weigh ho hg
 
-  pub verdict-broken : (j : ℕ) → some j ≡ firstBroken 0 (bitsOf w) (partsFrom starts members 0 m)
-      → record { number = 0; values = pos 0 ∷ pos j ∷ [] } ≡ replyOf verdictValues (gives (verdictOn (tableIn n m starts members) l w bs))
-  unfolding replyOf
-  verdict-broken j e = ap (λ v. replyOf verdictValues (gives v)) (verdict-is (some j) (gap n (scaleOf bs) l (rowsAt (tableIn n m starts members) (itemsOf bs)) (bitsOf w)) e refl)
+  pub verdict-broken : (j : ℕ) → some j ≡ firstBroken 0 (bitsOf w) (partsFrom starts members 0 m) → gives (breaks j) ≡ gives (verdictOn (tableIn n m starts members) l w bs)
+  verdict-broken j e = ap gives (verdict-is (some j) (gap n (scaleOf bs) l (rowsAt (tableIn n m starts members) (itemsOf bs)) (bitsOf w)) e refl)
 
   module _ (long : length l ≡ n) (p : Passed m bs) (e : none ≡ firstBroken 0 (bitsOf w) (partsFrom starts members 0 m)) (g : ℤ)
       (hg : g ≡ gap (length l) (scaleOf bs) l (rowsIn starts members (itemsOf bs)) (bitsOf w)) where
     gap-is : g ≡ gap n (scaleOf bs) l (rowsAt (tableIn n m starts members) (itemsOf bs)) (bitsOf w)
     gap-is = hg ∙ ap₂ (λ k rs. gap k (scaleOf bs) l rs (bitsOf w)) long (rows-from n m starts members bs (entriesOf bs) (λ k h. p .entry k h .check) 0 (entriesOf bs) (omega arith))
 
-    pub verdict-certified : g ≡ pos 0 → record { number = 0; values = pos 1 ∷ [] } ≡ replyOf verdictValues (gives (verdictOn (tableIn n m starts members) l w bs))
-    unfolding replyOf
-    verdict-certified z = ap (λ x. replyOf verdictValues (gives (weigh none x))) (sym z) ∙ ap (λ v. replyOf verdictValues (gives v)) (verdict-is none g e gap-is)
+    pub verdict-certified : g ≡ pos 0 → gives passes ≡ gives (verdictOn (tableIn n m starts members) l w bs)
+    verdict-certified z = ap gives (ap (weigh none) (sym z) ∙ verdict-is none g e gap-is)
 
-    pub verdict-gap : (ofZ w64 g ≡ 0 → ⊥) → record { number = 0; values = pos 2 ∷ g ∷ [] } ≡ replyOf verdictValues (gives (verdictOn (tableIn n m starts members) l w bs))
-    unfolding replyOf
-    verdict-gap f = ap (λ b. replyOf verdictValues (gives (cond b passes (misses g)))) (sym (zero-gap g f)) ∙ ap (λ v. replyOf verdictValues (gives v)) (verdict-is none g e gap-is)
+    pub verdict-gap : (ofZ w64 g ≡ 0 → ⊥) → gives (misses g) ≡ gives (verdictOn (tableIn n m starts members) l w bs)
+    verdict-gap f = ap gives (ap (λ b. cond b passes (misses g)) (sym (zero-gap g f)) ∙ verdict-is none g e gap-is)
 
 -- ---- the syndrome
 module _ (n m : ℕ) (starts members w : List ℕ) (r : ℕ) (e : r ≡ wordRefusal n w) where
   syndrome-law : syndromeOn (tableIn n m starts members) w ≡ turnedDown r (gives (firstBroken 0 (bitsOf w) (partsFrom starts members 0 m)))
   syndrome-law = word-law (tableIn n m starts members) w _ ∙ ap (λ k. turnedDown k (gives (firstBroken 0 (bitsOf w) (partsFrom starts members 0 m)))) (sym e)
 
-  pub syndrome-turned : (r ≡ 0 → ⊥) → record { number = r; values = [] } ≡ replyOf syndromeValues (syndromeOn (tableIn n m starts members) w)
-  syndrome-turned h = reply-refused syndromeValues r (gives (firstBroken 0 (bitsOf w) (partsFrom starts members 0 m))) h ∙ ap (replyOf syndromeValues) (sym syndrome-law)
+  pub syndrome-turned : (r ≡ 0 → ⊥) → refused r ≡ syndromeOn (tableIn n m starts members) w
+  syndrome-turned h = turned-refused r (gives (firstBroken 0 (bitsOf w) (partsFrom starts members 0 m))) h ∙ sym syndrome-law
 
-  pub syndrome-found : (o : Option ℕ) → r ≡ 0 → o ≡ firstBroken 0 (bitsOf w) (partsFrom starts members 0 m)
-      → record { number = 0; values = syndromeValues o } ≡ replyOf syndromeValues (syndromeOn (tableIn n m starts members) w)
-  unfolding replyOf
-  syndrome-found o h p =
-      ap (λ x. replyOf syndromeValues (gives x)) p
-      ∙ reply-passes syndromeValues r (gives (firstBroken 0 (bitsOf w) (partsFrom starts members 0 m))) h ∙ ap (replyOf syndromeValues) (sym syndrome-law)
+  pub syndrome-found : (o : Option ℕ) → r ≡ 0 → o ≡ firstBroken 0 (bitsOf w) (partsFrom starts members 0 m) → gives o ≡ syndromeOn (tableIn n m starts members) w
+  syndrome-found o h p = ap gives p ∙ turned-none r (gives (firstBroken 0 (bitsOf w) (partsFrom starts members 0 m))) h ∙ sym syndrome-law
 
 -- ---- the agreement
 module _ (n : ℕ) (l : List ℤ) (w : List ℕ) (r : ℕ) (e : r ≡ frameRefusal n l) where
-  pub agreement-frame : (r ≡ 0 → ⊥) → record { number = r; values = [] } ≡ replyOf agreementValues (agreementOn n l w)
-  agreement-frame h = reply-refused agreementValues r (turnedDown (wordRefusal n w) (gives (agreement n l (bitsOf w)))) h ∙ ap (λ k. replyOf agreementValues (turnedDown k (turnedDown (wordRefusal n w) (gives (agreement n l (bitsOf w)))))) e
+  pub agreement-frame : (r ≡ 0 → ⊥) → refused r ≡ agreementOn n l w
+  agreement-frame h =
+      let a = turnedDown (wordRefusal n w) (gives (agreement n l (bitsOf w))) in
+      turned-refused r a h ∙ ap (λ k. turnedDown k a) e
 
   module _ (z : r ≡ 0) (s : ℕ) (f : s ≡ wordRefusal n w) where
-    past-frame : replyOf agreementValues (turnedDown s (gives (agreement n l (bitsOf w)))) ≡ replyOf agreementValues (agreementOn n l w)
+    past-frame : turnedDown s (gives (agreement n l (bitsOf w))) ≡ agreementOn n l w
     past-frame =
-        reply-passes agreementValues r (turnedDown s (gives (agreement n l (bitsOf w)))) z
-        ∙ ap₂ (λ j k. replyOf agreementValues (turnedDown j (turnedDown k (gives (agreement n l (bitsOf w)))))) e f
+        turned-none r (turnedDown s (gives (agreement n l (bitsOf w)))) z
+        ∙ ap₂ (λ j k. turnedDown j (turnedDown k (gives (agreement n l (bitsOf w))))) e f
 
-    pub agreement-word : (s ≡ 0 → ⊥) → record { number = s; values = [] } ≡ replyOf agreementValues (agreementOn n l w)
-    agreement-word h = reply-refused agreementValues s (gives (agreement n l (bitsOf w))) h ∙ past-frame
+    pub agreement-word : (s ≡ 0 → ⊥) → refused s ≡ agreementOn n l w
+    agreement-word h = turned-refused s (gives (agreement n l (bitsOf w))) h ∙ past-frame
 
-    pub agreement-sum : (a : ℤ) → s ≡ 0 → a ≡ agreement (length l) l (bitsOf w) → record { number = 0; values = agreementValues a } ≡ replyOf agreementValues (agreementOn n l w)
-    unfolding replyOf
+    pub agreement-sum : (a : ℤ) → s ≡ 0 → a ≡ agreement (length l) l (bitsOf w) → gives a ≡ agreementOn n l w
     agreement-sum a y h =
-        ap (λ x. replyOf agreementValues (gives x)) (h ∙ ap (λ k. agreement k l (bitsOf w)) (frame-long n l (sym e ∙ z)))
-        ∙ reply-passes agreementValues s (gives (agreement n l (bitsOf w))) y ∙ past-frame
+        ap gives (h ∙ ap (λ k. agreement k l (bitsOf w)) (frame-long n l (sym e ∙ z)))
+        ∙ turned-none s (gives (agreement n l (bitsOf w))) y ∙ past-frame
 
 -- ---- from the code file on
-then-refused : {A B : Type 0} (a : Answer A) (k : ℕ) (f : A → Answer B) → a ≡ refused k → then a f ≡ refused k
+then-refused : {A B : Type 0} (a : Answer A) (k : ℕ) (f : A → Answer B) → a ≡ refused k → refused k ≡ then a f
 unfolding then
-then-refused a k f e = ap (λ x. then x f) e
-
-reply-none : {A : Type 0} (f : A → List ℤ) (a : Answer A) (k : ℕ) → a ≡ refused k → record { number = k; values = [] } ≡ replyOf f a
-unfolding replyOf
-reply-none f a k e = ap (replyOf f) (sym e)
+then-refused a k f e = ap (λ x. then x f) (sym e)
 
 module _ (file : List ℕ) (k : ℕ) (e : codeFile file ≡ refused k) where
-  pub judge-none : (l : List ℤ) (w bs : List ℕ) → record { number = k; values = [] } ≡ judgeReply file l w bs
-  unfolding judgeReply judge
-  judge-none l w bs = reply-none verdictValues _ k (then-refused (codeFile file) k (λ t. judgeOn t l w bs) e)
+  pub judge-none : (l : List ℤ) (w bs : List ℕ) → refused k ≡ judge file l w bs
+  unfolding judge
+  judge-none l w bs = then-refused (codeFile file) k (λ t. judgeOn t l w bs) e
 
-  pub syndrome-none : (w : List ℕ) → record { number = k; values = [] } ≡ replyOf syndromeValues (syndrome file w)
+  pub syndrome-none : (w : List ℕ) → refused k ≡ syndrome file w
   unfolding syndrome
-  syndrome-none w = reply-none syndromeValues _ k (then-refused (codeFile file) k (λ t. syndromeOn t w) e)
+  syndrome-none w = then-refused (codeFile file) k (λ t. syndromeOn t w) e
 
-  pub agreement-none : (l : List ℤ) (w : List ℕ) → record { number = k; values = [] } ≡ replyOf agreementValues (agreementOf file l w)
+  pub agreement-none : (l : List ℤ) (w : List ℕ) → refused k ≡ agreementOf file l w
   unfolding agreementOf
-  agreement-none l w = reply-none agreementValues _ k (then-refused (codeFile file) k _ e)
+  agreement-none l w = then-refused (codeFile file) k _ e
 
 module _ (file : List ℕ) (t : Table) (e : codeFile file ≡ gives t) where
-  pub judge-table : (u : Table) (l : List ℤ) (w bs : List ℕ) → u ≡ t → replyOf verdictValues (judgeOn u l w bs) ≡ judgeReply file l w bs
-  unfolding judgeReply judge
-  judge-table u l w bs h = ap (λ x. replyOf verdictValues (judgeOn x l w bs)) h ∙ ap (replyOf verdictValues) (sym (then-of (codeFile file) t (λ x. judgeOn x l w bs) e))
+  pub judge-table : (u : Table) (l : List ℤ) (w bs : List ℕ) → u ≡ t → judgeOn u l w bs ≡ judge file l w bs
+  unfolding judge
+  judge-table u l w bs h = ap (λ x. judgeOn x l w bs) h ∙ sym (then-of (codeFile file) t (λ x. judgeOn x l w bs) e)
 
-  pub syndrome-table : (u : Table) (w : List ℕ) → u ≡ t → replyOf syndromeValues (syndromeOn u w) ≡ replyOf syndromeValues (syndrome file w)
+  pub syndrome-table : (u : Table) (w : List ℕ) → u ≡ t → syndromeOn u w ≡ syndrome file w
   unfolding syndrome
-  syndrome-table u w h = ap (λ x. replyOf syndromeValues (syndromeOn x w)) h ∙ ap (replyOf syndromeValues) (sym (then-of (codeFile file) t (λ x. syndromeOn x w) e))
+  syndrome-table u w h = ap (λ x. syndromeOn x w) h ∙ sym (then-of (codeFile file) t (λ x. syndromeOn x w) e)
 
-  pub agreement-table : (l : List ℤ) (w : List ℕ) → replyOf agreementValues (agreementOn (t .bits) l w) ≡ replyOf agreementValues (agreementOf file l w)
+  pub agreement-table : (l : List ℤ) (w : List ℕ) → agreementOn (t .bits) l w ≡ agreementOf file l w
   unfolding agreementOf
   agreement-table l w =
-      ap (replyOf agreementValues)
-      (ap (turnedDown (frameRefusal (t .bits) l)) (sym (word-law t w (gives (agreement (t .bits) l (bitsOf w))))) ∙ sym (frame-law t l _) ∙ sym (then-of (codeFile file) t _ e))
+      ap (turnedDown (frameRefusal (t .bits) l)) (sym (word-law t w (gives (agreement (t .bits) l (bitsOf w)))))
+      ∙ sym (frame-law t l _) ∙ sym (then-of (codeFile file) t _ e)

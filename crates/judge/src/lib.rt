@@ -16,9 +16,8 @@ use table::Checked;
 use table::limits::MAX_CHECKS;
 use table::limits::MAX_EDGES;
 ghost use mathlib.Core.Path.{_≡_};
-ghost use Rattle.rules.specs.Refusal.{replyOf};
-ghost use Rattle.rules.specs.Judge.{judgeReply, syndrome, syndromeValues, agreementOf};
-ghost use Rattle.judge.specs.Reply.{numbered, parityReply, agreedReply, agreementValues};
+ghost use Rattle.rules.specs.Judge as rule;
+ghost use Rattle.judge.specs.Reply.{verdictOf, parityOf, agreedOf};
 
 // The judge's answer: a refusal's number, the first broken check, certified, or the gap.
 pub enum Verdict {
@@ -45,7 +44,7 @@ const STARTS: usize = MAX_CHECKS + 1;
 
 // Judges a word and a certificate.
 pub fn judge(code: &[u8], frame: &[i16], word: &[u8], certificate: &[u8]) -> Verdict
-    ensures { λ r. ⌜ numbered r ≡ judgeReply (now (code .entry)) (now (frame .entry)) (now (word .entry)) (now (certificate .entry)) ⌝ }
+    ensures { λ r. ⌜ verdictOf r ≡ rule.judge (now (code .entry)) (now (frame .entry)) (now (word .entry)) (now (certificate .entry)) ⌝ }
 {
     let mut starts = [0u16; STARTS];
     let mut members = [0u16; MAX_EDGES];
@@ -62,7 +61,7 @@ pub fn judge(code: &[u8], frame: &[i16], word: &[u8], certificate: &[u8]) -> Ver
 
 // Whether a word meets all checks.
 pub fn syndrome(code: &[u8], word: &[u8]) -> Parity
-    ensures { λ r. ⌜ parityReply r ≡ replyOf syndromeValues (syndrome (now (code .entry)) (now (word .entry))) ⌝ }
+    ensures { λ r. ⌜ parityOf r ≡ rule.syndrome (now (code .entry)) (now (word .entry)) ⌝ }
 {
     let mut starts = [0u16; STARTS];
     let mut members = [0u16; MAX_EDGES];
@@ -79,7 +78,7 @@ pub fn syndrome(code: &[u8], word: &[u8]) -> Parity
 
 // "The sum of the frame's numbers, added where the bit is 0 and subtracted where it is 1."
 pub fn agreement(code: &[u8], frame: &[i16], word: &[u8]) -> Agreed
-    ensures { λ r. ⌜ agreedReply r ≡ replyOf agreementValues (agreementOf (now (code .entry)) (now (frame .entry)) (now (word .entry))) ⌝ }
+    ensures { λ r. ⌜ agreedOf r ≡ rule.agreementOf (now (code .entry)) (now (frame .entry)) (now (word .entry)) ⌝ }
 {
     let answer = table::check(code);
     match answer {

@@ -11,12 +11,11 @@ use super::sums::agreement_sum;
 ghost use mathlib.Core.Path.{_≡_};
 ghost use Prim.Native.Nat.{_≤_};
 ghost use Rattle.rules.specs.Limits.{maxBits};
-ghost use Rattle.rules.specs.Refusal.{gives, replyOf};
-ghost use Rattle.rules.specs.Judge.{verdictValues, syndromeValues};
+ghost use Rattle.rules.specs.Refusal.{gives};
 ghost use Rattle.inputs.specs.Refusals.{frameRefusal, wordRefusal, orElse};
 ghost use Rattle.table.specs.Held.{Held, Ordered, degreeAt, tableIn};
 ghost use Rattle.judge.specs.Refusals.{certificateRefusal};
-ghost use Rattle.judge.specs.Reply.{numbered, parityReply, agreedReply, agreementValues};
+ghost use Rattle.judge.specs.Reply.{verdictOf, parityOf, agreedOf};
 ghost use Rattle.judge.specs.Stages.{verdictOn, judgeOn, syndromeOn, agreementOn, Unrefused};
 
 // "8, 9, 15, 10, 11, entry by entry 12, 13, 14", or 0.
@@ -53,7 +52,7 @@ pub(crate) fn verdict_of(
     certificate: &[u8],
 ) -> Verdict
     requires { ⌜ Held n m (now starts) (now members) × (n ≤ maxBits) × Unrefused n m (now starts) (now frame) (now word) (now certificate) ⌝ }
-    ensures { λ r. ⌜ numbered r ≡ replyOf verdictValues (gives (verdictOn (tableIn n m (now (starts .entry)) (now (members .entry))) (now (frame .entry)) (now (word .entry)) (now (certificate .entry)))) ⌝ }
+    ensures { λ r. ⌜ verdictOf r ≡ gives (verdictOn (tableIn n m (now (starts .entry)) (now (members .entry))) (now (frame .entry)) (now (word .entry)) (now (certificate .entry))) ⌝ }
 {
     let found = first_broken(starts, members, m, word);
     match found {
@@ -78,7 +77,7 @@ pub(crate) fn judge_table(
     certificate: &[u8],
 ) -> Verdict
     requires { ⌜ Held n m (now starts) (now members) × (n ≤ maxBits) ⌝ }
-    ensures { λ r. ⌜ numbered r ≡ replyOf verdictValues (judgeOn (tableIn n m (now (starts .entry)) (now (members .entry))) (now (frame .entry)) (now (word .entry)) (now (certificate .entry))) ⌝ }
+    ensures { λ r. ⌜ verdictOf r ≡ judgeOn (tableIn n m (now (starts .entry)) (now (members .entry))) (now (frame .entry)) (now (word .entry)) (now (certificate .entry)) ⌝ }
 {
     let refusal = refusal_of(starts, n, m, frame, word, certificate);
     if refusal != 0 {
@@ -95,7 +94,7 @@ pub(crate) fn syndrome_table(
     word: &[u8],
 ) -> Parity
     requires { ⌜ Held n m (now starts) (now members) ⌝ }
-    ensures { λ r. ⌜ parityReply r ≡ replyOf syndromeValues (syndromeOn (tableIn n m (now (starts .entry)) (now (members .entry))) (now (word .entry))) ⌝ }
+    ensures { λ r. ⌜ parityOf r ≡ syndromeOn (tableIn n m (now (starts .entry)) (now (members .entry))) (now (word .entry)) ⌝ }
 {
     let refusal = inputs::word(word, n);
     if refusal != 0 {
@@ -110,7 +109,7 @@ pub(crate) fn syndrome_table(
 
 pub(crate) fn agreement_table(n: usize, frame: &[i16], word: &[u8]) -> Agreed
     requires { ⌜ n ≤ maxBits ⌝ }
-    ensures { λ r. ⌜ agreedReply r ≡ replyOf agreementValues (agreementOn n (now (frame .entry)) (now (word .entry))) ⌝ }
+    ensures { λ r. ⌜ agreedOf r ≡ agreementOn n (now (frame .entry)) (now (word .entry)) ⌝ }
 {
     let first = inputs::frame(frame, n);
     if first != 0 {

@@ -1,5 +1,5 @@
--- The sizes in an answer are small: they fit the numbers of the C interface. Assumes nothing.
-use mathlib.Core.Path.{_≡_, sym, ap}
+-- Answers as the numbers of the C interface: a mask or none, and sizes, which fit them. Assumes nothing.
+use mathlib.Core.Path.{_≡_, refl, sym, _∙_, ap}
 use mathlib.Core.Bool.{Bool, true, false, cond}
 use mathlib.Core.List.{List, [], _∷_}
 use mathlib.Core.Option.{Option, some, none}
@@ -15,11 +15,24 @@ use Rattle.rules.specs.CodeFile.{tableAt, codeFileReply}
 use Rattle.rules.specs.Input.{bitsOf}
 use Rattle.rules.specs.Bound.{Row, gap}
 use Rattle.rules.specs.Certificate.{scaleOf, itemsOf, rowsAt}
-use Rattle.rules.specs.Judge.{Verdict, breaks, passes, misses, weigh, verdict, verdictValues, judge, judgeReply}
+use Rattle.rules.specs.Judge.{breaks, passes, misses, weigh, verdict, judge}
 use Rattle.rules.specs.Round.{isZero}
+use Rattle.rules.specs.Cut.{cutSearch, maskAnswer, cutAnswer, cutValues, cutReply}
 use Rattle.rules.proofs.Tables.{file-sound}
 use Rattle.rules.proofs.Judged.{judged}
 use Rattle.table.proofs.AcceptedLaws.{readable}
+use Rattle.jugnayap.specs.Numbers.{cutFrom, maskFrom}
+
+-- ---- a mask, or none
+cut-from : (a : Answer (Option (List Bool))) → maskFrom (maskAnswer a) ≡ cutFrom (replyOf cutValues a)
+unfolding replyOf
+cut-from (refused k) = refl
+cut-from (gives none) = refl
+cut-from (gives (some vs)) = refl
+
+pub cut-numbers : (file : List ℕ) (s : List ℤ) (j : ℕ) (a : Answer (Option ℕ)) → a ≡ cutAnswer file s j → maskFrom a ≡ cutFrom (cutReply file s j)
+unfolding cutAnswer cutReply
+cut-numbers file s j a e = ap maskFrom e ∙ cut-from (cutSearch file s j)
 
 -- ---- n, m and E of an accepted file
 pub record Small (n m e : ℕ) : Type 0 where
@@ -62,21 +75,9 @@ verdict-below t s l rs w j e =
     omega arith
 
 module _ (file : List ℕ) (l : List ℤ) (w bs : List ℕ) (j : ℕ) where
-  judge-below : judge file l w bs ≡ gives (breaks j) → j < maxChecks
-  judge-below e =
-      let d = judged file l w bs (breaks j) e in
+  pub broken-small : gives (breaks j) ≡ judge file l w bs → j < maxChecks
+  broken-small e =
+      let d = judged file l w bs (breaks j) (sym e) in
       let few = file-sound file (d .table) (d .isFile) .checks .1 in
       let below = verdict-below (d .table) (scaleOf bs) l (rowsAt (d .table) (itemsOf bs)) (bitsOf w) j (d .says) in
       omega arith
-
-  -- only a broken check's number comes after 0
-  values-breaks : (a : Answer Verdict) → pos 0 ∷ pos j ∷ [] ≡ replyOf verdictValues a .values → a ≡ gives (breaks j)
-  unfolding replyOf
-  values-breaks (refused k) v = absurd (let z : _≡_ {A = ℕ} 0 1 = cc in omega arith)
-  values-breaks (gives (breaks i)) v = let e : j ≡ i = cc in ap (λ x. gives (breaks x)) (sym e)
-  values-breaks (gives passes) v = absurd (let z : _≡_ {A = ℕ} 0 1 = cc in omega arith)
-  values-breaks (gives (misses g)) v = absurd (let z : _≡_ {A = ℕ} 0 2 = cc in omega arith)
-
-  pub broken-small : record { number = 0; values = pos 0 ∷ pos j ∷ [] } ≡ judgeReply file l w bs → j < maxChecks
-  unfolding judgeReply
-  broken-small h = judge-below (values-breaks (judge file l w bs) (ap (λ r. r .values) h))

@@ -16,7 +16,7 @@ use Rattle.rules.specs.Run.{Run, iterate, stateIn, isRunning, sound, admits, pe
 use Rattle.rules.proofs.AnswerLaws.{refused≢gives, must-gives}
 use Rattle.rules.proofs.Runs.{Safe}
 use Rattle.rules.proofs.Counted.{all-counted}
-use Rattle.decoder.proofs.AdmitLaws.{sound-safe}
+use Rattle.run.proofs.AdmitLaws.{sound-safe}
 use Rattle.decoder.proofs.PerformLaws.{answers}
 use Rattle.jugnayap.specs.declared.JugnayapRun.{JugnayapRun}
 use Rattle.jugnayap.specs.Numbers.{statusAt, progressBy, progressAt, runAfter, callLeft}

@@ -5,7 +5,7 @@ use Prim.Native.Nat.{ℕ, zero, suc}
 use lib.ListN.{getD}
 use lib.IntN.{ℤ, pos, natAbs}
 use Rattle.rules.specs.Limits.{roundLimit}
-use Rattle.rules.specs.Refusal.{Answer, Reply, replyOf}
+use Rattle.rules.specs.Refusal.{Answer, refused, gives, Reply, replyOf}
 use Rattle.rules.specs.Buffers.{Buffers}
 use Rattle.rules.specs.Run.{Status, running, certified, spent, statusNumber, statusValues, Progress, progressValues, Called, Started}
 use Rattle.jugnayap.specs.declared.JugnayapTable.{JugnayapTable}
@@ -28,6 +28,12 @@ tableFrom r = record { number = r .number; bits = unsigned r 0; checks = unsigne
 
 abbrev pub cutFrom : Reply → JugnayapCut
 cutFrom r = record { number = r .number; mask = unsigned r 0 }
+
+-- the same of a mask, or none
+abbrev pub maskFrom : Answer (Option ℕ) → JugnayapCut
+maskFrom (refused k) = record { number = k; mask = 0 }
+maskFrom (gives none) = record { number = 0; mask = 0 }
+maskFrom (gives (some m)) = record { number = 0; mask = m }
 
 abbrev pub verdictFrom : Reply → JugnayapVerdict
 verdictFrom r = record { number = r .number; kind = unsigned r 0; value = signed r 1 }

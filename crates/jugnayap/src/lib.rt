@@ -1,21 +1,20 @@
-// The C interface (c/jugnayap.h): each function calls the proved one of table, cut, judge or decoder
-// and gives its answer as numbers.
-mod run;
+// The C interface (c/jugnayap.h): each function calls the proved one of table, cut, judge, run or
+// decoder and gives its answer as numbers.
+mod numbers;
 
 use cut::Found;
 use judge::Agreed;
 use judge::Verdict;
-use run::called_numbers;
-use run::record_of;
-use run::started_numbers;
+use numbers::called_numbers;
+use numbers::record_of;
+use numbers::started_numbers;
 use table::Checked;
 ghost use mathlib.Core.Path.{_≡_};
 ghost use Rattle.rules.specs.Refusal.{replyOf};
 ghost use Rattle.rules.specs.CodeFile.{codeFileReply};
 ghost use Rattle.rules.specs.Cut.{cutReply};
-ghost use Rattle.rules.specs.Judge.{judgeReply, agreementOf};
+ghost use Rattle.rules.specs.Judge.{judgeReply, agreementOf, agreementValues};
 ghost use Rattle.rules.specs.Run as rule;
-ghost use Rattle.judge.specs.Reply.{agreementValues};
 ghost use Rattle.jugnayap.specs.Numbers.{tableFrom, cutFrom, verdictFrom, agreementFrom, progressAt, StartLeft, startLeft, CallLeft, callLeft};
 
 // `number` is 0 or the refusal's number; a refused call has zeros in the other fields.
@@ -161,7 +160,7 @@ pub extern "C" fn jugnayap_start(
     ensures { λ r. ⌜ _≡_ {A = StartLeft} (record { called = r; copies = now (copies .exit); offsets = now (offsets .exit) })
         (startLeft (rule.start (now (code .entry)) (now (copies .entry)) (now (offsets .entry)))) ⌝ }
 {
-    started_numbers(decoder::start(code, copies, offsets))
+    started_numbers(run::start(code, copies, offsets))
 }
 
 #[no_mangle]

@@ -9,7 +9,7 @@ use lib.Dec.{leb}
 use lib.ListN.{length, take, replicate}
 use lib.IntN.{ℤ}
 use Rattle.rules.specs.Limits.{maxBits, maxEdges, roundLimit}
-use Rattle.rules.specs.Refusal.{Answer, refused, gives, must, then, replyOf, bufferShort}
+use Rattle.rules.specs.Refusal.{Answer, refused, gives, must, then, bufferShort}
 use Rattle.rules.specs.Bytes.{u16At}
 use Rattle.rules.specs.Table.{Table, edgesOf}
 use Rattle.rules.specs.CodeFile.{codeFile}
@@ -22,14 +22,16 @@ use Rattle.rules.proofs.AnswerLaws.{refused≢gives, gives-inj}
 use Rattle.rules.proofs.Tables.{Sound, file-sound}
 use Rattle.rules.proofs.BufferLaws.{Part}
 use Rattle.rules.proofs.CallPasses.{call-passes}
-use Rattle.rules.proofs.ReportLaws.{started-on, blank-line, refused-line, Asked, judged-asked}
-use Rattle.decoder.specs.declared.Record.{Record}
-use Rattle.decoder.specs.declared.Started.{Started}
-use Rattle.decoder.specs.declared.Started.the-variants.{Refused, Fresh}
+use Rattle.rules.proofs.Fresh.{started-on}
+use Rattle.rules.proofs.ReportLaws.{blank-line, refused-line, Asked, judged-asked}
+use Rattle.run.specs.declared.Record.{Record}
+use Rattle.run.specs.declared.Started.{Started}
+use Rattle.run.specs.declared.Started.the-variants.{Refused, Fresh}
+use Rattle.run.specs.Reply.{progressOf, startedOf}
 use Rattle.decoder.specs.declared.Outcome.{Outcome}
 use Rattle.decoder.specs.declared.Outcome.the-variants as out
-use Rattle.decoder.specs.Reply.{progressOf, startedOf, outcomeOf}
-use Rattle.judge.specs.Reply.{agreementValues, agreedReply}
+use Rattle.decoder.specs.Reply.{outcomeOf}
+use Rattle.judge.specs.Reply.{agreedOf}
 use Rattle.judge.specs.declared.Agreed.{Agreed}
 use Rattle.judge.specs.declared.Agreed.the-variants as agreed
 use Rattle.reporting.specs.Ran.{greatest, lentWith, ranOf, freshRan, certifiedBy, lineFrom}
@@ -163,22 +165,9 @@ module _ (file : List ℕ) (l : List ℤ) (o : Outcome) (n : ℕ) (w c : List �
       go (gives t) p = omega (arith, asked file l t p is .frame, file-sound file t p .bits .1)
 
 -- ---- the certified line, from what the judge answered
-asks : Agreed → Answer ℤ
-asks (agreed.Refused k) = refused k
-asks (agreed.Is a) = gives a
-
-agreed-is : (r : Agreed) (x : Answer ℤ) → agreedReply r ≡ replyOf agreementValues x → asks r ≡ x
-unfolding asks replyOf
-agreed-is (agreed.Refused k) (refused j) e = ap refused (ap (λ y. y .number) e)
-agreed-is (agreed.Refused k) (gives b) e = absurd (let v = ap (λ y. y .values) e in let z : _≡_ {A = ℕ} 0 1 = cc in omega arith)
-agreed-is (agreed.Is a) (refused j) e = absurd (let v = ap (λ y. y .values) e in let z : _≡_ {A = ℕ} 0 1 = cc in omega arith)
-agreed-is (agreed.Is a) (gives b) e = let v = ap (λ y. y .values) e in cc
-
-module _ (rounds cuts : ℕ) (x : Answer ℤ) (r : Agreed) (e : agreedReply r ≡ replyOf agreementValues x) where
+module _ (rounds cuts : ℕ) (x : Answer ℤ) (r : Agreed) (e : agreedOf r ≡ x) where
   pub agreed-refused : (k : ℕ) → r ≡ agreed.Refused k → refusedLine k ≡ certifiedBy rounds x cuts
-  unfolding asks
-  agreed-refused k p = ap (λ a. certifiedBy rounds a cuts) (ap asks (sym p) ∙ agreed-is r x e)
+  agreed-refused k p = ap (λ a. certifiedBy rounds a cuts) (ap agreedOf (sym p) ∙ e)
 
   pub agreed-line : (v a : ℤ) (q : ℕ) → v ≡ a → q ≡ cuts → r ≡ agreed.Is a → certifiedLine rounds v q ≡ certifiedBy rounds x cuts
-  unfolding asks
-  agreed-line v a q f g p = ap₂ (certifiedLine rounds) f g ∙ ap (λ a. certifiedBy rounds a cuts) (ap asks (sym p) ∙ agreed-is r x e)
+  agreed-line v a q f g p = ap₂ (certifiedLine rounds) f g ∙ ap (λ a. certifiedBy rounds a cuts) (ap agreedOf (sym p) ∙ e)

@@ -8,12 +8,12 @@ use code::read_code;
 use code::u16_at;
 use decoder::Called;
 use decoder::Outcome;
-use decoder::Record;
-use decoder::Started;
 use judge::Agreed;
 use print::print_code;
 use print::print_frame;
 use print::print_refused;
+use run::Record;
+use run::Started;
 use table::Checked;
 use table::limits::MAX_BITS;
 use table::limits::MAX_CHECKS;
@@ -55,7 +55,7 @@ fn decode(code: &[u8], frame: &[i16], word: &mut [u8], certificate: &mut [u8]) -
     let mut offsets = [0i32; MAX_EDGES];
     let mut multipliers = [0u32; MAX_CHECKS];
     let mut masks = [0u32; MAX_CHECKS];
-    let started = decoder::start(code, &mut copies, &mut offsets);
+    let started = run::start(code, &mut copies, &mut offsets);
     match started {
         Started::Refused(k) => Called {
             outcome: Outcome::Refused(k),

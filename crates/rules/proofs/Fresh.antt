@@ -30,7 +30,7 @@ use Rattle.rules.proofs.Lends.{AllPart}
 use Rattle.rules.proofs.Twins.{Twin}
 
 -- ---- what a start leaves
-zeros-length : (e : ℕ) → length (zeros e) ≡ e
+pub zeros-length : (e : ℕ) → length (zeros e) ≡ e
 zeros-length e = length-replicate e (pos 0)
 
 record Zeroed (t : Table) (z y : List ℤ) (s : Started) : Type 0 where
@@ -55,10 +55,13 @@ zeroed file t z y isFile e = subst (Zeroed t z y) (sym tested)
         ≡ startBy z y (must (leb (edgesOf t) (length z) && leb (edgesOf t) (length y)) bufferShort (gives t))
     tested = ap (startBy z y) (then-of (codeFile file) t (λ x. must (leb (edgesOf x) (length z) && leb (edgesOf x) (length y)) bufferShort (gives x)) isFile)
 
--- a start with room enough is not refused
-roomy : (file : List ℕ) (t : Table) (z y : List ℤ) → codeFile file ≡ gives t → edgesOf t ≤ length z → edgesOf t ≤ length y → start file z y .answer ≡ gives fresh
+-- a start with room enough
+pub started-on : (file : List ℕ) (t : Table) → codeFile file ≡ gives t → (z y : List ℤ) → edgesOf t ≤ length z → edgesOf t ≤ length y
+    → start file z y ≡ record { answer = gives fresh; copies = over (zeros (edgesOf t)) z; offsets = over (zeros (edgesOf t)) y }
 unfolding start
-roomy file t z y isFile h k = ap (λ a. startBy z y a .answer) (then-of (codeFile file) t (λ x. must (leb (edgesOf x) (length z) && leb (edgesOf x) (length y)) bufferShort (gives x)) isFile
+started-on file t isFile z y h k =
+    ap (startBy z y)
+    (then-of (codeFile file) t (λ x. must (leb (edgesOf x) (length z) && leb (edgesOf x) (length y)) bufferShort (gives x)) isFile
     ∙ must-true (leb (edgesOf t) (length z) && leb (edgesOf t) (length y)) bufferShort (gives t) (ap₂ _&&_ (le-leb (edgesOf t) (length z) h) (le-leb (edgesOf t) (length y) k)))
 
 part-least : (n : ℕ) (l : List ℤ) → length (take n l) ≤ length l
@@ -69,8 +72,11 @@ module _ (file : List ℕ) (t : Table) (b : Buffers) (f : FreshStart file t b) w
   on-parts = zeroed file t (take (f .lent .copies) (b .copies)) (take (f .lent .offsets) (b .offsets)) (f .isTable) (f .started)
 
   at-start : Zeroed t (b .copies) (b .offsets) (start file (b .copies) (b .offsets))
-  at-start = zeroed file t (b .copies) (b .offsets) (f .isTable)
-      (roomy file t (b .copies) (b .offsets) (f .isTable) (le-trans (on-parts .room .0) (part-least (f .lent .copies) (b .copies))) (le-trans (on-parts .room .1) (part-least (f .lent .offsets) (b .offsets))))
+  at-start =
+      let h = le-trans (on-parts .room .0) (part-least (f .lent .copies) (b .copies)) in
+      let k = le-trans (on-parts .room .1) (part-least (f .lent .offsets) (b .offsets)) in
+      let e = started-on file t (f .isTable) (b .copies) (b .offsets) h k in
+      record { room = (h, k); copies = ap (λ s. s .copies) e; offsets = ap (λ s. s .offsets) e }
 
   fits-in : (n : ℕ) (l : List ℤ) → edgesOf t ≤ length (take n l) → length (zeros (edgesOf t)) ≤ n
   fits-in n l h = omega (arith, zeros-length (edgesOf t), length-take n l)

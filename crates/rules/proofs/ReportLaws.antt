@@ -19,18 +19,16 @@ use Rattle.rules.specs.Parity.{agreement}
 use Rattle.rules.specs.Input.{eachWithin, onFrame, eachBit, onWord, bitsOf}
 use Rattle.rules.specs.Judge.{Verdict, judge, agreementOf}
 use Rattle.rules.specs.Buffers.{Buffers, Lengths, lengthsOf, needs, fits, partOf, over}
-use Rattle.rules.specs.Run.{Status, running, certified, spent, fresh, Run, stateIn, iterate, isRunning, sound, admits, Called, perform, callOn, callBy, call, startBy, start, zeros}
+use Rattle.rules.specs.Run.{Status, running, certified, spent, fresh, Run, stateIn, iterate, isRunning, sound, admits, Called, perform, callOn, callBy, call, start, zeros}
 use Rattle.rules.specs.Calls.{lend, giveBack, lentCall, startedRun}
 use Rattle.rules.specs.Report.{Line, refusedLine, certifiedLine, lineAt, blank, lineBy, frameLine}
 use Rattle.rules.proofs.AnswerLaws.{must-gives, must-true, then-of}
 use Rattle.rules.proofs.BufferLaws.{Part, take-over, over-take, over-length, buffers-eq, lengths-part, past-lengths}
 use Rattle.rules.proofs.Runs.{held-start, iterate-held}
 use Rattle.rules.proofs.Lends.{lent-call}
+use Rattle.rules.proofs.Fresh.{zeros-length, started-on}
 
 -- ---- a start on longer buffers
-zeros-length : (e : ℕ) → length (zeros e) ≡ e
-zeros-length e = length-replicate e (pos 0)
-
 part-fits : (a b : Lengths) → Part a b → fits a b ≡ true
 unfolding fits
 part-fits a b h = simp (
@@ -47,18 +45,9 @@ part-refl : (a : Lengths) → Part a a
 part-refl a = omega arith
 
 module _ (file : List ℕ) (t : Table) (isFile : codeFile file ≡ gives t) where
-  -- a start with room enough
-  pub started-on : (z y : List ℤ) → edgesOf t ≤ length z → edgesOf t ≤ length y
-      → start file z y ≡ record { answer = gives fresh; copies = over (zeros (edgesOf t)) z; offsets = over (zeros (edgesOf t)) y }
-  unfolding start
-  started-on z y h k =
-      ap (startBy z y)
-      (then-of (codeFile file) t (λ x. must (leb (edgesOf x) (length z) && leb (edgesOf x) (length y)) bufferShort (gives x)) isFile
-      ∙ must-true (leb (edgesOf t) (length z) && leb (edgesOf t) (length y)) bufferShort (gives t) (ap₂ _&&_ (le-leb (edgesOf t) (length z) h) (le-leb (edgesOf t) (length y) k)))
-
   module _ (b : Buffers) (long : Part (needs t) (lengthsOf b)) where
     at-start : start file (b .copies) (b .offsets) ≡ record { answer = gives fresh; copies = over (zeros (edgesOf t)) (b .copies); offsets = over (zeros (edgesOf t)) (b .offsets) }
-    at-start = started-on (b .copies) (b .offsets) (long .copies) (long .offsets)
+    at-start = started-on file t isFile (b .copies) (b .offsets) (long .copies) (long .offsets)
 
     started-length : (x old : List ℤ) → x ≡ over (zeros (edgesOf t)) old → edgesOf t ≤ length old → edgesOf t ≤ length x
     started-length x old e h = omega (arith, ap length e, over-length (zeros (edgesOf t)) old (omega (arith, zeros-length (edgesOf t))))
@@ -83,7 +72,7 @@ module _ (file : List ℕ) (t : Table) (isFile : codeFile file ≡ gives t) wher
 
     on-parts : start file (take (edgesOf t) (b .copies)) (take (edgesOf t) (b .offsets))
         ≡ record { answer = gives fresh; copies = over (zeros (edgesOf t)) (take (edgesOf t) (b .copies)); offsets = over (zeros (edgesOf t)) (take (edgesOf t) (b .offsets)) }
-    on-parts = started-on (take (edgesOf t) (b .copies)) (take (edgesOf t) (b .offsets)) (room (b .copies) (long .copies)) (room (b .offsets) (long .offsets))
+    on-parts = started-on file t isFile (take (edgesOf t) (b .copies)) (take (edgesOf t) (b .offsets)) (room (b .copies) (long .copies)) (room (b .offsets) (long .offsets))
 
     started-part : startedRun file (partOf (needs t) b) ≡ lend (needs t) (startedRun file b)
     started-part = ap (λ x. record { progress = fresh; buffers = x })

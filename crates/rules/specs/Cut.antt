@@ -8,8 +8,8 @@ use lib.ListN.{getD}
 use lib.IntN.{ℤ, pos, negsuc, natAbs}
 use lib.Signed.{ltZ}
 use Rattle.rules.specs.Limits.{unit}
-use Rattle.rules.specs.Refusal.{Answer, gives, then, Reply, replyOf}
-use Rattle.rules.specs.Table.{Table, at, valuesAt}
+use Rattle.rules.specs.Refusal.{Answer, refused, gives, then, Reply, replyOf}
+use Rattle.rules.specs.Table.{at, valuesAt}
 use Rattle.rules.specs.Parity.{odd, left}
 use Rattle.rules.specs.Mask.{maskOf}
 use Rattle.rules.specs.CodeFile.{codeFile}
@@ -53,6 +53,15 @@ cut u ss = keep (violated u (method u ss) ss) (method u ss)
 -- any code file, spins and check number: 1 to 7, 16, 17
 unfoldable pub cutSearch : List ℕ → List ℤ → ℕ → Answer (Option (List Bool))
 cutSearch file s j = then (codeFile file) (λ t. onPoint t s (onCheck t j (gives (cut unit (valuesAt (at s) (getD (t .checks) j []))))))
+
+-- the answer with V as a mask
+abbrev pub maskAnswer : Answer (Option (List Bool)) → Answer (Option ℕ)
+maskAnswer (refused k) = refused k
+maskAnswer (gives none) = gives none
+maskAnswer (gives (some vs)) = gives (some (maskOf vs))
+
+unfoldable pub cutAnswer : List ℕ → List ℤ → ℕ → Answer (Option ℕ)
+cutAnswer file s j = maskAnswer (cutSearch file s j)
 
 -- the values of the answer: the mask, or nothing for none
 abbrev pub cutValues : Option (List Bool) → List ℤ

@@ -45,10 +45,9 @@ judgeReply file l w bs = replyOf verdictValues (judge file l w bs)
 unfoldable pub syndrome : List ℕ → List ℕ → Answer (Option ℕ)
 syndrome file w = then (codeFile file) (λ t. onWord t w (gives (firstBroken 0 (bitsOf w) (t .checks))))
 
-abbrev pub syndromeValues : Option ℕ → List ℤ
-syndromeValues none = []
-syndromeValues (some j) = pos j ∷ []
-
 -- the agreement of a word with a frame
 unfoldable pub agreementOf : List ℕ → List ℤ → List ℕ → Answer ℤ
 agreementOf file l w = then (codeFile file) (λ t. onFrame t l (onWord t w (gives (agreement (t .bits) l (bitsOf w)))))
+
+abbrev pub agreementValues : ℤ → List ℤ
+agreementValues a = a ∷ []

@@ -8,3 +8,4 @@ pub mod StageLaws
 pub mod AcceptedLaws
 pub mod LoadedLaws
 pub mod HeldLaws
+pub mod ViewLaws

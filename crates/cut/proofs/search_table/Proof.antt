@@ -3,7 +3,7 @@ use mathlib.Core.Path.{_≡_, sym, _∙_, subst}
 use Prim.Native.Nat.{_<_}
 use Rattle.table.specs.Held.{Part}
 use Rattle.inputs.specs.Refusals.{pointRefusal}
-use Rattle.cut.proofs.ReplyLaws.{point-right, none-refused, search-turned, reply-mask}
+use Rattle.cut.proofs.ReplyLaws.{point-right, none-refused, search-turned, search-mask}
 use Rattle.cut.proofs.search_table.Statement.{statement}
 use Rattle.cut.proofs.search_table.Tie as tie
 
@@ -28,7 +28,7 @@ answer-of-requires c κs = tt
 returns-2 : tie.Need-returns-2
 returns-2 c =
     let refused = c .before .before .before in
-    reply-mask _ _ _ _ _ _ _ _ (sym (refused .refusal .ensures) ∙ c .before .before .if1 .left) (c .before .check-cut .ensures) (c .answer-of .ensures)
+    search-mask _ _ _ _ _ _ _ _ (sym (refused .refusal .ensures) ∙ c .before .before .if1 .left) (c .before .check-cut .ensures) (c .answer-of .ensures)
 
 pub search-table-spec : {M : Type 1} → statement M
 search-table-spec =

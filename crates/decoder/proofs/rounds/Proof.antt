@@ -1,9 +1,19 @@
 -- `rounds` meets its contract: a refusal as `admit` gives it, or the rounds that `perform_sized` does on the first parts. Assumes nothing.
-use mathlib.Core.Path.{_∙_}
+use mathlib.Core.Path.{refl, _∙_}
+use Prim.Native.Nat.{_≤_, _<_}
+use native.Mathlib.Omega.{arith}
 use borrow.Author.Needs.{needs}
+use Rattle.rules.specs.Limits.{maxChecks, maxEdges}
 use Rattle.decoder.proofs.CallLaws.{told, call-refused, admitted-fit, admitted-call}
 use Rattle.decoder.proofs.rounds.Statement.{statement}
 use Rattle.decoder.proofs.rounds.Tie as tie
+
+-- the two arrays hold every table
+starts-room : maxChecks < 2049
+starts-room = omega arith
+
+members-room : maxEdges ≤ 8192
+members-room = omega arith
 
 slice-aggregate-admit : tie.Need-slice-aggregate-admit
 slice-aggregate-admit c = search needs
@@ -27,41 +37,41 @@ slice-aggregate-perform-sized-2 : tie.Need-slice-aggregate-perform-sized-2
 slice-aggregate-perform-sized-2 c = search needs
 
 perform-sized-requires : tie.Need-perform-sized-requires
-perform-sized-requires c κs = admitted-fit _ _ _ _ _ _ _ _ _ _ _ (told _ _ _ _ _ (c .before .before .before .before .before .before .before .before .before .before .answer2 .given .1) (c .before .before .before .before .before .before .before .before .before .before .before .before .before .before .admit .ensures)) (search needs) (search needs)
+perform-sized-requires c κs = admitted-fit _ _ _ _ _ _ _ _ _ _ _ (told _ _ _ _ _ (c .before .before .before .before .before .before .before .before .before .before .answer2 .given .1) (c .before .before .before .before .before .before .before .before .before .before .before .before .before .before .admit .ensures)) starts-room members-room
 
 same-length : tie.Need-same-length
-same-length c = search needs
+same-length c = refl
 
 same-length-2 : tie.Need-same-length-2
-same-length-2 c = search needs
+same-length-2 c = refl
 
 returns : tie.Need-returns
-returns c = call-refused _ _ _ _ _ _ _ _ _ (told _ _ _ _ _ (c .before .answer .given .1) (c .before .before .before .before .before .admit .ensures))
+returns c = call-refused _ _ _ _ _ _ _ _ _ (told _ _ _ _ _ (c .before .answer .given .1) (c .before .before .before .before .before .admit .ensures)) starts-room members-room
 
 same-length-3 : tie.Need-same-length-3
-same-length-3 c = search needs
+same-length-3 c = c .before .before .before .before .before .before .before .before .before .before .before .perform-sized .kept .1 .1 .1 .1 .1 .1 .1 .1 .0
 
 same-length-4 : tie.Need-same-length-4
-same-length-4 c = search needs
+same-length-4 c = c .before .before .before .before .before .before .before .before .before .before .before .perform-sized .kept .1 .1 .1 .1 .1 .1 .1 .1 .1 .0
 
 same-length-5 : tie.Need-same-length-5
-same-length-5 c = search needs
+same-length-5 c = c .before .before .before .before .before .before .before .before .before .before .before .perform-sized .kept .1 .1 .1 .1 .1 .1 .1 .1 .1 .1 .0
 
 same-length-6 : tie.Need-same-length-6
-same-length-6 c = search needs
+same-length-6 c = c .before .before .before .before .before .before .before .before .before .before .before .perform-sized .kept .1 .1 .1 .1 .1 .1 .1 .1 .1 .1 .1 .0
 
 same-length-7 : tie.Need-same-length-7
-same-length-7 c = search needs
+same-length-7 c = c .before .before .before .before .before .before .before .before .before .before .before .perform-sized .kept .1 .1 .1 .1 .1 .1 .1 .1 .1 .1 .1 .1 .0
 
 same-length-8 : tie.Need-same-length-8
-same-length-8 c = search needs
+same-length-8 c = c .before .before .before .before .before .before .before .before .before .before .before .perform-sized .kept .1 .1 .1 .1 .1 .1 .1 .1 .1 .1 .1 .1 .1 .0
 
 same-length-9 : tie.Need-same-length-9
-same-length-9 c = search needs
+same-length-9 c = c .before .before .before .before .before .before .before .before .before .before .before .perform-sized .kept .1 .1 .1 .1 .1 .1 .1 .1 .1 .1 .1 .1 .1 .1 .0
 
 returns-2 : tie.Need-returns-2
 returns-2 c = c .before .before .before .before .before .before .before .before .before .before .before .perform-sized .ensures
-    ∙ admitted-call _ _ _ _ _ _ _ _ _ _ _ (told _ _ _ _ _ (c .before .before .before .before .before .before .before .before .before .before .before .before .before .before .before .before .before .before .before .before .before .before .answer2 .given .1) (c .before .before .before .before .before .before .before .before .before .before .before .before .before .before .before .before .before .before .before .before .before .before .before .before .before .before .admit .ensures)) (search needs) (search needs)
+    ∙ admitted-call _ _ _ _ _ _ _ _ _ _ _ (told _ _ _ _ _ (c .before .before .before .before .before .before .before .before .before .before .before .before .before .before .before .before .before .before .before .before .before .before .answer2 .given .1) (c .before .before .before .before .before .before .before .before .before .before .before .before .before .before .before .before .before .before .before .before .before .before .before .before .before .before .admit .ensures)) starts-room members-room
 
 pub rounds-spec : {M : Type 1} → statement M
 rounds-spec =

@@ -5,7 +5,9 @@ use mir.Syntax.{w64}
 use mir.Val.{SFits}
 use mir.Facts.{toZ-ofZ}
 use Rattle.integers.specs.Machine.{fit}
-use Rattle.judge.specs.Reply.{numbered}
+use Rattle.rules.specs.Refusal.{replyOf}
+use Rattle.rules.specs.Judge.{verdictValues, judgeReply}
+use Rattle.judge.specs.Reply.{verdictOf}
 use Rattle.jugnayap.specs.Numbers.{verdictFrom}
 use Rattle.jugnayap.proofs.AnswerLaws.{broken-small}
 use Rattle.jugnayap.proofs.jugnayap_judge.Statement.{statement}
@@ -24,7 +26,7 @@ enum-known-answer-2 : tie.Need-enum-known-answer-2
 enum-known-answer-2 c = search needs
 
 cast-t11 : tie.Need-cast-t11
-cast-t11 c = let small = broken-small _ _ _ _ _ (ap numbered (sym (c .before .answer2 .given .1)) ∙ c .before .before .before .judge .ensures) in search needs
+cast-t11 c = let small = broken-small _ _ _ _ _ (ap verdictOf (sym (c .before .answer2 .given .1)) ∙ c .before .before .before .judge .ensures) in search needs
 
 enum-told : tie.Need-enum-told
 enum-told c = search needs
@@ -33,20 +35,24 @@ enum-known-answer-3 : tie.Need-enum-known-answer-3
 enum-known-answer-3 c = search needs
 
 returns : tie.Need-returns
-returns c = ap verdictFrom (ap numbered (sym (c .before .answer .given .1)) ∙ c .before .before .before .judge .ensures)
+unfolding replyOf judgeReply
+returns c = ap (λ a. verdictFrom (replyOf verdictValues a)) (ap verdictOf (sym (c .before .answer .given .1)) ∙ c .before .before .before .judge .ensures)
 
 returns-2 : tie.Need-returns-2
-returns-2 c = ap (λ z. record { number = 0; kind = 0; value = z }) (toZ-ofZ (cast-t11 c)) ∙ ap verdictFrom (ap numbered (sym (c .before .answer2 .given .1)) ∙ c .before .before .before .judge .ensures)
+unfolding replyOf judgeReply
+returns-2 c = ap (λ z. record { number = 0; kind = 0; value = z }) (toZ-ofZ (cast-t11 c)) ∙ ap (λ a. verdictFrom (replyOf verdictValues a)) (ap verdictOf (sym (c .before .answer2 .given .1)) ∙ c .before .before .before .judge .ensures)
 
 returns-3 : tie.Need-returns-3
-returns-3 c = ap verdictFrom (ap numbered (sym (c .enum-told .given .1)) ∙ c .before .before .judge .ensures)
+unfolding replyOf judgeReply
+returns-3 c = ap (λ a. verdictFrom (replyOf verdictValues a)) (ap verdictOf (sym (c .enum-told .given .1)) ∙ c .before .before .judge .ensures)
 
 -- the gap fits its type
 gap-fits : (c : tie.After-known-told3) → SFits w64 (c .before .answer3 .given .0 .0)
 gap-fits c = fit w64 (c .before .answer3 .given .0 .0) (search needs)
 
 returns-4 : tie.Need-returns-4
-returns-4 c = ap (λ z. record { number = 0; kind = 2; value = z }) (toZ-ofZ (gap-fits c)) ∙ (ap verdictFrom (ap numbered (sym (c .before .answer3 .given .1)) ∙ c .before .before .before .judge .ensures))
+unfolding replyOf judgeReply
+returns-4 c = ap (λ z. record { number = 0; kind = 2; value = z }) (toZ-ofZ (gap-fits c)) ∙ (ap (λ a. verdictFrom (replyOf verdictValues a)) (ap verdictOf (sym (c .before .answer3 .given .1)) ∙ c .before .before .before .judge .ensures))
 
 pub jugnayap-judge-spec : {M : Type 1} → statement M
 jugnayap-judge-spec =

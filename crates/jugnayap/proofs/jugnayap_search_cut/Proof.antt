@@ -1,8 +1,8 @@
 -- `jugnayap_search_cut` meets its contract: each arm has the answer of `cut::search`. Assumes nothing.
 use borrow.Author.Needs.{needs}
 use mathlib.Core.Path.{sym, _∙_, ap}
-use Rattle.cut.specs.Reply.{numbered}
-use Rattle.jugnayap.specs.Numbers.{cutFrom}
+use Rattle.cut.specs.Reply.{foundOf}
+use Rattle.jugnayap.proofs.AnswerLaws.{cut-numbers}
 use Rattle.jugnayap.proofs.jugnayap_search_cut.Statement.{statement}
 use Rattle.jugnayap.proofs.jugnayap_search_cut.Tie as tie
 
@@ -22,13 +22,13 @@ enum-known-answer-2 : tie.Need-enum-known-answer-2
 enum-known-answer-2 c = search needs
 
 returns : tie.Need-returns
-returns c = ap cutFrom (ap numbered (sym (c .before .answer .given .1)) ∙ c .before .before .before .search .ensures)
+returns c = cut-numbers _ _ _ _ (ap foundOf (sym (c .before .answer .given .1)) ∙ c .before .before .before .search .ensures)
 
 returns-2 : tie.Need-returns-2
-returns-2 c = ap cutFrom (ap numbered (sym (c .enum-told .given .1)) ∙ c .before .before .search .ensures)
+returns-2 c = cut-numbers _ _ _ _ (ap foundOf (sym (c .enum-told .given .1)) ∙ c .before .before .search .ensures)
 
 returns-3 : tie.Need-returns-3
-returns-3 c = ap cutFrom (ap numbered (sym (c .before .answer2 .given .1)) ∙ c .before .before .before .search .ensures)
+returns-3 c = cut-numbers _ _ _ _ (ap foundOf (sym (c .before .answer2 .given .1)) ∙ c .before .before .before .search .ensures)
 
 pub jugnayap-search-cut-spec : {M : Type 1} → statement M
 jugnayap-search-cut-spec =

@@ -1,4 +1,4 @@
--- `jugnayap_start` meets its contract: the answer of `decoder::start`, and the buffers that it leaves. Assumes nothing.
+-- `jugnayap_start` meets its contract: the answer of `run::start`, and the buffers that it leaves. Assumes nothing.
 use borrow.Author.Needs.{needs}
 use Rattle.jugnayap.proofs.RunLaws.{start-left}
 use Rattle.jugnayap.proofs.jugnayap_start.Statement.{statement}

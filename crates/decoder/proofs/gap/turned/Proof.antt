@@ -7,7 +7,7 @@ use mir.Facts.{toZ-ofZ}
 use Rattle.integers.specs.Linear.{lin, arithZ, Within}
 use Rattle.integers.specs.Machine.{known, reads}
 use Rattle.rules.specs.Parity.{turn}
-use Rattle.decoder.proofs.SignLaws.{below-zero, from-zero}
+use Rattle.writing.proofs.WordLaws.{below-zero, from-zero}
 use Rattle.decoder.proofs.gap.turned.Statement.{statement}
 use Rattle.decoder.proofs.gap.turned.Tie as tie
 

@@ -1,7 +1,7 @@
 -- `outcome_of` meets its contract. Assumes nothing.
 use mathlib.Core.Path.{sym, ap}
 use Rattle.rules.specs.Refusal.{gives}
-use Rattle.decoder.specs.Reply.{statusOf}
+use Rattle.run.specs.Reply.{statusOf}
 use borrow.Author.Needs.{needs}
 use Rattle.decoder.proofs.perform.outcome_of.Statement.{statement}
 use Rattle.decoder.proofs.perform.outcome_of.Tie as tie

@@ -1,6 +1,7 @@
 -- `perform_sized` meets its contract. Assumes nothing.
 use mathlib.Core.Path.{sym}
-use lib.Seq.{length-take-le}
+use lib.Seq.{length-take-le, length-front}
+use Rattle.rules.specs.Limits.{certificateLength}
 use Rattle.decoder.proofs.PartsLaws.{parts-given, parts-back}
 use borrow.Author.Needs.{needs}
 use Rattle.decoder.proofs.perform.perform_sized.Statement.{statement}
@@ -67,25 +68,46 @@ perform-requires : tie.Need-perform-requires
 perform-requires c κs = parts-given _ _ _ _ _ _ _ _ (c .before .before .before .before .before .before .before .before .before .before .before .before .before .before .before .pre)
 
 same-length : tie.Need-same-length
-same-length c = search needs
+same-length c =
+    let args = c .before .before .before .before .before .before .before .before .before .before .before .before .before .before .before .before .before .before .before .before .before .before .before .before .before .before .before .args in
+    let call = c .before .before .before .before .before .before .before .before .before .before .before .perform in
+    length-front (args .spins .now) (call .last .1 .1 .1 .1 .1 .0) (args .n) (call .kept .1 .1 .1 .1 .1 .0)
 
 same-length-2 : tie.Need-same-length-2
-same-length-2 c = search needs
+same-length-2 c =
+    let args = c .before .before .before .before .before .before .before .before .before .before .before .before .before .before .before .before .before .before .before .before .before .before .before .before .before .before .before .args in
+    let call = c .before .before .before .before .before .before .before .before .before .before .before .perform in
+    length-front (args .copies .now) (call .last .1 .1 .1 .1 .1 .1 .0) (args .e) (call .kept .1 .1 .1 .1 .1 .1 .0)
 
 same-length-3 : tie.Need-same-length-3
-same-length-3 c = search needs
+same-length-3 c =
+    let args = c .before .before .before .before .before .before .before .before .before .before .before .before .before .before .before .before .before .before .before .before .before .before .before .before .before .before .before .args in
+    let call = c .before .before .before .before .before .before .before .before .before .before .before .perform in
+    length-front (args .offsets .now) (call .last .1 .1 .1 .1 .1 .1 .1 .0) (args .e) (call .kept .1 .1 .1 .1 .1 .1 .1 .0)
 
 same-length-4 : tie.Need-same-length-4
-same-length-4 c = search needs
+same-length-4 c =
+    let args = c .before .before .before .before .before .before .before .before .before .before .before .before .before .before .before .before .before .before .before .before .before .before .before .before .before .before .before .args in
+    let call = c .before .before .before .before .before .before .before .before .before .before .before .perform in
+    length-front (args .multipliers .now) (call .last .1 .1 .1 .1 .1 .1 .1 .1 .0) (args .m) (call .kept .1 .1 .1 .1 .1 .1 .1 .1 .0)
 
 same-length-5 : tie.Need-same-length-5
-same-length-5 c = search needs
+same-length-5 c =
+    let args = c .before .before .before .before .before .before .before .before .before .before .before .before .before .before .before .before .before .before .before .before .before .before .before .before .before .before .before .args in
+    let call = c .before .before .before .before .before .before .before .before .before .before .before .perform in
+    length-front (args .masks .now) (call .last .1 .1 .1 .1 .1 .1 .1 .1 .1 .0) (args .m) (call .kept .1 .1 .1 .1 .1 .1 .1 .1 .1 .0)
 
 same-length-6 : tie.Need-same-length-6
-same-length-6 c = search needs
+same-length-6 c =
+    let args = c .before .before .before .before .before .before .before .before .before .before .before .before .before .before .before .before .before .before .before .before .before .before .before .before .before .before .before .args in
+    let call = c .before .before .before .before .before .before .before .before .before .before .before .perform in
+    length-front (args .word .now) (call .last .1 .1 .1 .1 .1 .1 .1 .1 .1 .1 .0) (args .n) (call .kept .1 .1 .1 .1 .1 .1 .1 .1 .1 .1 .0)
 
 same-length-7 : tie.Need-same-length-7
-same-length-7 c = search needs
+same-length-7 c =
+    let args = c .before .before .before .before .before .before .before .before .before .before .before .before .before .before .before .before .before .before .before .before .before .before .before .before .before .before .before .args in
+    let call = c .before .before .before .before .before .before .before .before .before .before .before .perform in
+    length-front (args .certificate .now) (call .last .1 .1 .1 .1 .1 .1 .1 .1 .1 .1 .1 .0) (certificateLength (args .m)) (call .kept .1 .1 .1 .1 .1 .1 .1 .1 .1 .1 .1 .0)
 
 returns : tie.Need-returns
 returns c = parts-back _ _ _ _ _ _ _ _ (c .before .before .before .before .before .before .before .before .before .before .before .before .before .before .before .before .before .before .before .before .before .before .before .before .before .before .before .pre) _ _ (c .before .before .before .before .before .before .before .before .before .before .before .perform .ensures)

@@ -1,8 +1,9 @@
 -- `certify` meets its contract. Assumes nothing.
-use mathlib.Core.Path.{sym, _∙_}
+use mathlib.Core.Path.{sym, _∙_, ap}
 use borrow.Author.Tests.{not-true, not-false}
-use Rattle.decoder.proofs.HalvesLaws.{no-candidate, no-closing, closed-both}
 use borrow.Author.Needs.{needs}
+use Rattle.writing.proofs.WordLaws.{word-whole}
+use Rattle.decoder.proofs.HalvesLaws.{no-candidate, no-closing, closed-both, certificate-fits}
 use Rattle.decoder.proofs.round.certify.Statement.{statement}
 use Rattle.decoder.proofs.round.certify.Tie as tie
 
@@ -32,8 +33,11 @@ same-length-2 c = search needs
 
 returns-3 : tie.Need-returns-3
 returns-3 c =
-    closed-both _ _ _ _ _ _ _ _ (sym (c .before .before .before .before .before .before .before .before .before .before .before .meets-checks .ensures) ∙ not-false _ (c .before .before .before .before .before .before .before .before .before .before .if1 .left)) (sym (c .before .before .before .before .before .before .before .before .before .closes .ensures) ∙ not-false _ (c .before .before .before .before .before .before .before .before .if2 .left))
-    _ _ (c .before .before .before .before .before .before .write-word .ensures) (c .before .before .write-certificate .ensures)
+    let word = c .before .before .before .before .before .before in
+    let closes = word .before .before in
+    let pre = closes .before .before .before .before .before .before .before .before .before .before .pre in
+    closed-both _ _ _ _ _ _ _ _ (sym (closes .before .before .before .meets-checks .ensures) ∙ not-false _ (closes .before .before .if1 .left)) (sym (closes .before .closes .ensures) ∙ not-false _ (closes .if2 .left))
+    _ _ (ap (λ d. d .bytes) (word .write-word .ensures ∙ word-whole _ _ (pre .1))) (ap (λ d. d .bytes) (c .before .before .write-certificate .ensures ∙ certificate-fits _ _ _ _ _ _ _ _ (pre .0) (pre .2)))
 
 pub certify-spec : {M : Type 1} → statement M
 certify-spec =

@@ -1,13 +1,13 @@
 -- `verdict_of` meets its contract. Assumes nothing.
 use mathlib.Core.Path.{sym, _∙_, ap, subst}
-use mathlib.Core.List.{[], _∷_}
 use native.Mathlib.Omega.{arith}
-use lib.IntN.{pos}
 use mir.Syntax.{w64}
 use mir.Facts.{toZ-ofZ}
 use borrow.Author.Needs.{needs}
 use Rattle.integers.specs.Machine.{fit, eq-lit}
+use Rattle.rules.specs.Refusal.{gives}
 use Rattle.rules.specs.Certificate.{entriesOf}
+use Rattle.rules.specs.Judge.{misses}
 use Rattle.table.specs.Held.{degreeAt, Held}
 use Rattle.judge.specs.Rows.{AllPlaced}
 use Rattle.judge.specs.Reply.{foundIn}
@@ -55,7 +55,7 @@ returns-3 c =
     let args = c .before .before .before .before .before .before .before .before .before .args in
     let pre = c .before .before .before .before .before .before .before .before .before .pre in
     let g = c .before .gap-of .result in
-    ap (λ z. record { number = 0; values = pos 2 ∷ z ∷ [] }) (toZ-ofZ (fit w64 g (c .before .gap-of .ok)))
+    ap (λ z. gives (misses z)) (toZ-ofZ (fit w64 g (c .before .gap-of .ok)))
     ∙ verdict-gap (args .n) (args .m) (args .starts .now) (args .members .now) (args .frame .now) (args .word .now) (args .certificate .now)
     (frame-word-long (args .n) (args .frame .now) (args .word .now) (pre .2 .frame) (pre .2 .word) .1) (certificate-passed (args .m) (degreeAt (args .starts .now)) (args .certificate .now) (pre .2 .certificate))
     (ap foundIn (sym (c .before .before .enum-told .given .1)) ∙ c .before .before .before .before .first-broken .ensures) g (c .before .gap-of .ensures) (c .if1 .left)

@@ -1,0 +1,297 @@
+/* Answer, record and all seven buffers of starts and calls for rounds, held to document 01's numbers and
+ * to what follows from them by its steps. Says what differs; exit status 0 only if nothing does. */
+#include <string.h>
+
+#include "jugnayap.h"
+#include "same.h"
+
+enum { UNIT = 4096, BITS = 3, CHECKS = 1, EDGES = 3, CERTIFICATE = 4 + 10 * CHECKS };
+
+static const uint8_t code[] = {3, 0, 1, 0, 0, 0, 3, 0, 0, 0, 1, 0, 2, 0};
+static const int16_t leaning[BITS] = {4000, 4000, -2000};
+static const JugnayapRun fresh = {.rounds = 0, .status = JUGNAYAP_RUNNING};
+
+/* Each buffer is lent with one element more than is needed, and has one more that is not lent. */
+enum { LENT = 1, SPARE = 2 };
+
+typedef struct {
+    int32_t spins[BITS + SPARE], copies[EDGES + SPARE], offsets[EDGES + SPARE];
+    uint32_t multipliers[CHECKS + SPARE], masks[CHECKS + SPARE];
+    uint8_t word[BITS + SPARE], certificate[CERTIFICATE + SPARE];
+} Buffers;
+
+typedef struct {
+    size_t spins, copies, offsets, multipliers, masks, word, certificate;
+} Lengths;
+
+static const Lengths needed = {BITS, EDGES, EDGES, CHECKS, CHECKS, BITS, CERTIFICATE};
+static const Lengths lent = {BITS + LENT,   EDGES + LENT, EDGES + LENT,      CHECKS + LENT,
+                             CHECKS + LENT, BITS + LENT,  CERTIFICATE + LENT};
+static const Lengths none = {0};
+
+static void same_called(const char *call, JugnayapCalled got, JugnayapCalled wanted)
+{
+    SAME(number);
+    SAME(run.rounds);
+    SAME(run.status);
+}
+
+static void same_buffers(const char *call, Buffers got, Buffers wanted)
+{
+    SAME_ALL(spins);
+    SAME_ALL(copies);
+    SAME_ALL(offsets);
+    SAME_ALL(multipliers);
+    SAME_ALL(masks);
+    SAME_ALL(word);
+    SAME_ALL(certificate);
+}
+
+/* Numbers that no call writes, different in each buffer; the copies and offsets are of no run. */
+static Buffers junk(void)
+{
+    Buffers b;
+    for (int i = 0; i < BITS + SPARE; i++) {
+        b.spins[i] = 10000000 + i;
+        b.word[i] = (uint8_t)(100 + i);
+    }
+    for (int i = 0; i < EDGES + SPARE; i++) {
+        b.copies[i] = 20000000 + i;
+        b.offsets[i] = 30000000 + i;
+    }
+    for (int i = 0; i < CHECKS + SPARE; i++) {
+        b.multipliers[i] = (uint32_t)(40000000 + i);
+        b.masks[i] = (uint32_t)(50000000 + i);
+    }
+    for (int i = 0; i < CERTIFICATE + SPARE; i++)
+        b.certificate[i] = (uint8_t)(200 + i);
+    return b;
+}
+
+static Buffers started(void)
+{
+    Buffers b = junk();
+    memset(b.copies, 0, EDGES * sizeof b.copies[0]);
+    memset(b.offsets, 0, EDGES * sizeof b.offsets[0]);
+    return b;
+}
+
+/* What a round shows. */
+typedef struct {
+    int32_t spins[BITS], copies[EDGES], offsets[EDGES];
+    uint32_t multiplier, mask;
+} Shown;
+
+static void show(Buffers *b, const Shown *round)
+{
+    memcpy(b->spins, round->spins, sizeof round->spins);
+    memcpy(b->copies, round->copies, sizeof round->copies);
+    memcpy(b->offsets, round->offsets, sizeof round->offsets);
+    b->multipliers[0] = round->multiplier;
+    b->masks[0] = round->mask;
+}
+
+static void show_certified(Buffers *b, const Shown *round, const uint8_t *word, const uint8_t *certificate,
+                           size_t length)
+{
+    show(b, round);
+    memcpy(b->word, word, BITS);
+    memcpy(b->certificate, certificate, length);
+}
+
+/* ---- starts ---- */
+
+static JugnayapCalled start(size_t code_len, size_t copies, size_t offsets, Buffers *b)
+{
+    return jugnayap_start(code, code_len, b->copies, copies, b->offsets, offsets);
+}
+
+/* A start writes E copies and E offsets; refused, it leaves them. */
+static void starts(void)
+{
+    Buffers b = junk();
+    same_called("copies short", start(sizeof code, 2, 4, &b), (JugnayapCalled){.number = 41});
+    same_called("offsets short", start(sizeof code, 4, 2, &b), (JugnayapCalled){.number = 41});
+    same_called("code a byte short", start(sizeof code - 1, 4, 4, &b), (JugnayapCalled){.number = 5});
+    same_called("nothing lent", jugnayap_start(code, sizeof code, NULL, 0, NULL, 0),
+                (JugnayapCalled){.number = 41});
+    same_buffers("refused start", b, junk());
+    same_called("start", start(sizeof code, 4, 4, &b), (JugnayapCalled){.number = 0, .run = fresh});
+    same_buffers("start", b, started());
+}
+
+/* ---- calls for rounds ---- */
+
+static JugnayapCalled rounds(const int16_t *frame, JugnayapRun run, uint32_t wanted, Lengths n, Buffers *b)
+{
+    return jugnayap_rounds(code, sizeof code, frame, BITS, run, wanted, b->spins, n.spins, b->copies,
+                           n.copies, b->offsets, n.offsets, b->multipliers, n.multipliers, b->masks,
+                           n.masks, b->word, n.word, b->certificate, n.certificate);
+}
+
+/* Document 01's first reference frame, a round at a time. */
+static void three_rounds(void)
+{
+    static const Shown shown[] = {
+        {{4000, 4000, -2000}, {2032, 2032, -32}, {1968, 1968, -1968}, 1968, 4},
+        {{4064, 4064, -64}, {2698, 2698, 1302}, {3334, 3334, -3334}, 3334, 4},
+        {{3364, 3364, 2636}, {3365, 3365, 2635}, {3333, 3333, -3333}, 3333, 4}};
+    static const uint8_t word[] = {0, 0, 0}, certificate[] = {1, 0, 1, 0, 0, 0, 0x05, 0x0D, 0, 0, 4, 0, 0, 0};
+    const JugnayapRun first = {1, JUGNAYAP_RUNNING}, second = {2, JUGNAYAP_RUNNING},
+                      third = {3, JUGNAYAP_CERTIFIED};
+    Buffers b = started(), wanted = started();
+    same_called("0 rounds", rounds(leaning, fresh, 0, lent, &b), (JugnayapCalled){.run = fresh});
+    same_buffers("0 rounds", b, wanted);
+    same_called("round 1", rounds(leaning, fresh, 1, lent, &b), (JugnayapCalled){.run = first});
+    show(&wanted, &shown[0]);
+    same_buffers("round 1", b, wanted);
+    same_called("round 2", rounds(leaning, first, 1, lent, &b), (JugnayapCalled){.run = second});
+    show(&wanted, &shown[1]);
+    same_buffers("round 2", b, wanted);
+    same_called("round 3", rounds(leaning, second, 1, lent, &b), (JugnayapCalled){.run = third});
+    show_certified(&wanted, &shown[2], word, certificate, sizeof certificate);
+    same_buffers("round 3", b, wanted);
+    same_called("round 4", rounds(leaning, third, 1, lent, &b), (JugnayapCalled){.number = 42, .run = third});
+    same_buffers("round 4", b, wanted);
+}
+
+/* (-4000, -4000, -2000) in one call: word 110 after round 3. No more is lent than is needed. */
+static void two_ones(void)
+{
+    static const int16_t frame[BITS] = {-4000, -4000, -2000};
+    static const Shown last = {{-3364, -3364, 2636}, {-3365, -3365, 2635}, {-3333, -3333, -3333}, 3333, 7};
+    static const uint8_t word[] = {1, 1, 0}, certificate[] = {1, 0, 1, 0, 0, 0, 0x05, 0x0D, 0, 0, 7, 0, 0, 0};
+    Buffers b = started(), wanted = started();
+    same_called("word 110", rounds(frame, fresh, 1024, needed, &b),
+                (JugnayapCalled){.run = {.rounds = 3, .status = JUGNAYAP_CERTIFIED}});
+    show_certified(&wanted, &last, word, certificate, sizeof certificate);
+    same_buffers("word 110", b, wanted);
+}
+
+/* (10, 10, 10) needs no cut: 4 bytes of the certificate are written, and just these are judged. */
+static void no_cut(void)
+{
+    static const int16_t frame[BITS] = {10, 10, 10};
+    static const Shown last = {{10, 10, 10}, {10, 10, 10}, {0, 0, 0}, 0, 0};
+    static const uint8_t word[] = {0, 0, 0}, certificate[] = {0, 0, 1, 0};
+    Buffers b = started(), wanted = started();
+    same_called("no cut", rounds(frame, fresh, 5, lent, &b),
+                (JugnayapCalled){.run = {.rounds = 1, .status = JUGNAYAP_CERTIFIED}});
+    show_certified(&wanted, &last, word, certificate, sizeof certificate);
+    same_buffers("no cut", b, wanted);
+    same_verdict("4 + 10q bytes",
+                 jugnayap_judge(code, sizeof code, frame, BITS, b.word, BITS, b.certificate, 4),
+                 (JugnayapVerdict){.kind = JUGNAYAP_PASSED});
+    same_verdict("all bytes lent",
+                 jugnayap_judge(code, sizeof code, frame, BITS, b.word, BITS, b.certificate, CERTIFICATE),
+                 (JugnayapVerdict){.number = 10});
+}
+
+/* A frame of zeros, from the start and resumed: all is 0, and word and certificate stay. */
+static void spent(void)
+{
+    static const int16_t frame[BITS] = {0, 0, 0};
+    static const Shown last = {0};
+    static const uint32_t done[] = {0, 1000, 1023}, wants[] = {1024, 1024, 1};
+    const JugnayapRun end = {.rounds = 1024, .status = JUGNAYAP_SPENT};
+    for (size_t i = 0; i < COUNT(done); i++) {
+        Buffers b = started(), wanted = started();
+        JugnayapRun run = {.rounds = done[i], .status = JUGNAYAP_RUNNING};
+        same_called("spent", rounds(frame, run, wants[i], lent, &b), (JugnayapCalled){.run = end});
+        show(&wanted, &last);
+        same_buffers("spent", b, wanted);
+    }
+}
+
+/* ---- refused calls: the record comes back as handed in, and no buffer changes ---- */
+
+static void refused(const char *call, uint32_t number, JugnayapRun run, uint32_t wanted, Lengths n, Buffers b)
+{
+    const Buffers before = b;
+    same_called(call, rounds(leaning, run, wanted, n, &b), (JugnayapCalled){.number = number, .run = run});
+    same_buffers(call, b, before);
+}
+
+static void refused_records(void)
+{
+    static const struct {
+        const char *call;
+        uint32_t number;
+        JugnayapRun run;
+        uint32_t wanted;
+    } cases[] = {{"1025 rounds", 17, {7, JUGNAYAP_RUNNING}, 1025},
+                 {"4294967295 rounds", 17, {9, JUGNAYAP_SPENT}, UINT32_MAX},
+                 {"certified before", 42, {3, JUGNAYAP_CERTIFIED}, 1},
+                 {"spent before", 42, {1024, JUGNAYAP_SPENT}, 1},
+                 {"spent after 70000", 42, {70000, JUGNAYAP_SPENT}, 0},
+                 {"running after 1024", 43, {1024, JUGNAYAP_RUNNING}, 0},
+                 {"running after 1025", 43, {1025, JUGNAYAP_RUNNING}, 1},
+                 {"running after 4294967295", 43, {UINT32_MAX, JUGNAYAP_RUNNING}, 1},
+                 {"status 3", 43, {5, 3}, 1},
+                 {"status 4294967295", 43, {UINT32_MAX, UINT32_MAX}, 1}};
+    for (size_t i = 0; i < COUNT(cases); i++)
+        refused(cases[i].call, cases[i].number, cases[i].run, cases[i].wanted, lent, started());
+}
+
+static void refused_lengths(void)
+{
+    const JugnayapRun run = {.rounds = 2, .status = 9};
+    Lengths n = needed;
+    const struct {
+        const char *call;
+        size_t *length;
+    } cases[] = {{"spins short", &n.spins},     {"copies short", &n.copies},
+                 {"offsets short", &n.offsets}, {"multipliers short", &n.multipliers},
+                 {"masks short", &n.masks},     {"word short", &n.word},
+                 {"certificate short", &n.certificate}};
+    for (size_t i = 0; i < COUNT(cases); i++) {
+        --*cases[i].length;
+        refused(cases[i].call, 41, run, 1, n, started());
+        ++*cases[i].length;
+    }
+    refused("nothing lent", 41, run, 1, none, started());
+    same_called("nothing lent, NULL",
+                jugnayap_rounds(code, sizeof code, leaning, BITS, run, 1, NULL, 0, NULL, 0, NULL, 0, NULL, 0,
+                                NULL, 0, NULL, 0, NULL, 0),
+                (JugnayapCalled){.number = 41, .run = run});
+}
+
+static void refused_edges(void)
+{
+    const JugnayapRun run = {.rounds = 2, .status = JUGNAYAP_RUNNING};
+    refused("no start", 43, run, 1, lent, junk());
+    Buffers b = started();
+    b.copies[2] = -UNIT - 1;
+    refused("copy -4097", 43, run, 1, lent, b);
+    b = started();
+    b.offsets[1] = 2 * 8192 + 1;
+    refused("offset 16385 after 2 rounds", 43, run, 1, lent, b);
+}
+
+static void refused_frames(void)
+{
+    static const int16_t too_large[BITS] = {4000, 4000, 8192};
+    const JugnayapRun run = {.rounds = 70000, .status = 9};
+    Buffers b = started();
+    same_called("frame out of range", rounds(too_large, run, 1025, lent, &b),
+                (JugnayapCalled){.number = 9, .run = run});
+    same_called("no frame, no buffers",
+                jugnayap_rounds(code, sizeof code, NULL, 0, run, 1025, NULL, 0, NULL, 0, NULL, 0, NULL, 0,
+                                NULL, 0, NULL, 0, NULL, 0),
+                (JugnayapCalled){.number = 8, .run = run});
+    same_buffers("refused frames", b, started());
+}
+
+int main(void)
+{
+    starts();
+    three_rounds();
+    two_ones();
+    no_cut();
+    spent();
+    refused_records();
+    refused_lengths();
+    refused_edges();
+    refused_frames();
+    return account("buffers");
+}

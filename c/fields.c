@@ -1,0 +1,141 @@
+/* Every field that table, cut search, judge and agreement answer, held to document 01's numbers and to
+ * some worked out by hand. Says what differs; exit status 0 only if nothing does. */
+#include <string.h>
+
+#include "jugnayap.h"
+#include "same.h"
+
+enum { UNIT = 4096, BITS = 3, CERTIFICATE = 14 };
+
+/* Document 01's one check on bits 0, 1 and 2, and the (7,4) Hamming code: checks on 0 2 4 6, 1 2 5 6 and
+ * 3 4 5 6, so that n, m and E are three different numbers. */
+static const uint8_t three[] = {3, 0, 1, 0, 0, 0, 3, 0, 0, 0, 1, 0, 2, 0};
+static const uint8_t hamming[] = {7, 0, 3, 0, 0, 0, 4, 0, 4, 0, 4, 0, 8, 0, 4, 0, 0, 0, 2, 0,
+                                  4, 0, 6, 0, 1, 0, 2, 0, 5, 0, 6, 0, 3, 0, 4, 0, 5, 0, 6, 0};
+
+static const int16_t leaning[BITS] = {4000, 4000, -2000};
+static const int16_t too_large[BITS] = {4000, 4000, 8192};
+
+static void same_table(const char *call, JugnayapTable got, JugnayapTable wanted)
+{
+    SAME(number);
+    SAME(bits);
+    SAME(checks);
+    SAME(edges);
+}
+
+static void same_cut(const char *call, JugnayapCut got, JugnayapCut wanted)
+{
+    SAME(number);
+    SAME(mask);
+}
+
+static void same_agreement(const char *call, JugnayapAgreement got, JugnayapAgreement wanted)
+{
+    SAME(number);
+    SAME(agreement);
+}
+
+static void tables(void)
+{
+    same_table("table", jugnayap_check_table(hamming, sizeof hamming),
+               (JugnayapTable){.number = 0, .bits = 7, .checks = 3, .edges = 12});
+    same_table("table a byte short", jugnayap_check_table(hamming, sizeof hamming - 1),
+               (JugnayapTable){.number = 5});
+    same_table("no table", jugnayap_check_table(NULL, 0), (JugnayapTable){.number = 1});
+}
+
+static void cuts(void)
+{
+    int32_t spins[7] = {UNIT, UNIT, UNIT, UNIT, UNIT, -UNIT, UNIT};
+    const int32_t uncut[BITS] = {1365, 1365, -1366}, cut[BITS] = {1365, 1365, -1367};
+    same_cut("check 2, whose third member leans",
+             jugnayap_search_cut(hamming, sizeof hamming, spins, 7, 2), (JugnayapCut){.mask = 4});
+    same_cut("check 0, which is met", jugnayap_search_cut(hamming, sizeof hamming, spins, 7, 0),
+             (JugnayapCut){.mask = 0});
+    same_cut("check 3 of 3", jugnayap_search_cut(hamming, sizeof hamming, spins, 7, 3),
+             (JugnayapCut){.number = 17});
+    same_cut("no spins", jugnayap_search_cut(hamming, sizeof hamming, NULL, 0, 2),
+             (JugnayapCut){.number = 16});
+    spins[6] = UNIT + 1;
+    same_cut("spin 4097", jugnayap_search_cut(hamming, sizeof hamming, spins, 7, 2),
+             (JugnayapCut){.number = 16});
+    same_cut("1365 1365 -1366", jugnayap_search_cut(three, sizeof three, uncut, BITS, 0),
+             (JugnayapCut){.mask = 0});
+    same_cut("1365 1365 -1367", jugnayap_search_cut(three, sizeof three, cut, BITS, 0),
+             (JugnayapCut){.mask = 4});
+}
+
+/* Document 01's certificate of one entry, scale 1, mask 4, on word 000. */
+static JugnayapVerdict judged(const int16_t *frame, uint16_t multiplier, size_t length)
+{
+    const uint8_t word[BITS] = {0, 0, 0};
+    const uint8_t certificate[CERTIFICATE + 1] = {
+        1, 0, 1, 0, 0, 0, (uint8_t)multiplier, (uint8_t)(multiplier >> 8), 0, 0, 4};
+    return jugnayap_judge(three, sizeof three, frame, BITS, word, BITS, certificate, length);
+}
+
+static void verdicts(void)
+{
+    const uint8_t word[7] = {0, 0, 0, 1, 0, 0, 0}, empty[] = {0, 0, 1, 0};
+    const int16_t frame[7] = {10, 10, 10, 10, 10, 10, 10};
+    same_verdict("word that breaks check 2",
+                 jugnayap_judge(hamming, sizeof hamming, frame, 7, word, 7, empty, sizeof empty),
+                 (JugnayapVerdict){.kind = JUGNAYAP_BROKEN, .value = 2});
+    same_verdict("multiplier 1999", judged(leaning, 1999, CERTIFICATE),
+                 (JugnayapVerdict){.kind = JUGNAYAP_GAP, .value = 2});
+    same_verdict("multiplier 2000", judged(leaning, 2000, CERTIFICATE),
+                 (JugnayapVerdict){.kind = JUGNAYAP_PASSED});
+    same_verdict("multiplier 4001", judged(leaning, 4001, CERTIFICATE),
+                 (JugnayapVerdict){.kind = JUGNAYAP_GAP, .value = 4});
+    same_verdict("frame out of range", judged(too_large, 2000, CERTIFICATE),
+                 (JugnayapVerdict){.number = 9});
+    same_verdict("certificate longer than 4 + 10q", judged(leaning, 2000, CERTIFICATE + 1),
+                 (JugnayapVerdict){.number = 10});
+    same_verdict("multiplier 0", judged(leaning, 0, CERTIFICATE), (JugnayapVerdict){.number = 12});
+    same_verdict("no frame", jugnayap_judge(three, sizeof three, NULL, 0, NULL, 0, NULL, 0),
+                 (JugnayapVerdict){.number = 8});
+}
+
+/* A gap of more than 32 bits: one check on 32 bits, the masks 1, 2, 4, 7 and 8 with the greatest
+ * multiplier b each, and a frame of zeros. The reduced numbers have sizes b (bits 0 to 2), 3b (bit 3) and
+ * 5b (the other 28), 146b in all; the multipliers add 5 x 30b. */
+static void large_gap(void)
+{
+    const uint8_t masks[5] = {1, 2, 4, 7, 8}, word[32] = {0};
+    const int16_t frame[32] = {0};
+    uint8_t code[8 + 2 * 32] = {32, 0, 1, 0, 0, 0, 32, 0}, certificate[4 + 10 * 5] = {5, 0, 1, 0};
+    for (int i = 0; i < 32; i++)
+        code[8 + 2 * i] = (uint8_t)i;
+    for (int i = 0; i < 5; i++) {
+        memset(certificate + 4 + 6 * i + 2, 0xFF, 3);
+        certificate[4 + 6 * 5 + 4 * i] = masks[i];
+    }
+    same_verdict("large gap",
+                 jugnayap_judge(code, sizeof code, frame, 32, word, 32, certificate, sizeof certificate),
+                 (JugnayapVerdict){.kind = JUGNAYAP_GAP, .value = INT64_C(296) * 16777215});
+}
+
+static void agreements(void)
+{
+    const uint8_t zeros[BITS] = {0, 0, 0}, ones[BITS] = {1, 1, 0}, two[BITS] = {0, 0, 2};
+    same_agreement("word 000", jugnayap_agreement(three, sizeof three, leaning, BITS, zeros, BITS),
+                   (JugnayapAgreement){.agreement = 6000});
+    same_agreement("word 110", jugnayap_agreement(three, sizeof three, leaning, BITS, ones, BITS),
+                   (JugnayapAgreement){.agreement = -10000});
+    same_agreement("word 002", jugnayap_agreement(three, sizeof three, leaning, BITS, two, BITS),
+                   (JugnayapAgreement){.number = 15});
+    same_agreement("frame out of range",
+                   jugnayap_agreement(three, sizeof three, too_large, BITS, zeros, BITS),
+                   (JugnayapAgreement){.number = 9});
+}
+
+int main(void)
+{
+    tables();
+    cuts();
+    verdicts();
+    large_gap();
+    agreements();
+    return account("fields");
+}

@@ -1,0 +1,22 @@
+-- The contract tells any two answers apart: each is read back from its view. Assumes nothing.
+use mathlib.Core.Path.{_≡_, refl}
+use mathlib.Core.Option.{Option, some, none}
+use mathlib.Mathlib.Logic.Function.Defs.{LeftInverse·injective}
+use Prim.Native.Nat.{ℕ}
+use Rattle.rules.specs.Refusal.{Answer, refused, gives}
+use Rattle.cut.specs.declared.Found.{Found}
+use Rattle.cut.specs.declared.Found.the-variants.{Refused, Nothing, Mask}
+use Rattle.cut.specs.Reply.{foundOf}
+
+pub found-inj : (a b : Found) → foundOf a ≡ foundOf b → a ≡ b
+found-inj = LeftInverse·injective back foundOf again
+  where
+    back : Answer (Option ℕ) → Found
+    back (refused k) = Refused k
+    back (gives none) = Nothing
+    back (gives (some m)) = Mask m
+
+    again : (a : Found) → back (foundOf a) ≡ a
+    again (Refused k) = refl
+    again Nothing = refl
+    again (Mask m) = refl

@@ -1,0 +1,198 @@
+-- The refusals of a call for rounds: buffers too short, what admitting a call leaves, and rules' own tests in the code's numbers. Assumes nothing.
+use mathlib.Core.Path.{_≡_, refl, sym, _∙_, ap}
+use mathlib.Core.Bool.{Bool, true, false, _&&_}
+use mathlib.Core.List.{List, [], _∷_}
+use Prim.Native.Nat.{ℕ, zero, suc, _*_, _≤_, _<_}
+use native.Mathlib.Omega.{arith}
+use lib.Dec.{leb, ltb, eqb}
+use lib.ListN.{length}
+use lib.IntN.{ℤ, pos}
+use borrow.Author.Tests.{ltb-true, lt-ltb, le-leb, eqb-true}
+use Rattle.integers.specs.Sum.{AllWithin}
+use Rattle.rules.specs.Limits.{unit, maxChecks, maxEdges, frameLimit, roundLimit, offsetPerRound}
+use Rattle.rules.specs.Refusal.{Answer, refused, gives, must, then, Reply, replyOf, frameLength, frameRange, askedTooMuch, bufferShort, runEnded, runDamaged}
+use Rattle.rules.specs.Table.{Table, edgesOf, checksOf}
+use Rattle.rules.specs.CodeFile.{codeFile, tableValues}
+use Rattle.rules.specs.Input.{eachWithin, onFrame}
+use Rattle.rules.specs.Round.{State}
+use Rattle.rules.specs.Buffers.{Lengths, needs, fits}
+use Rattle.rules.specs.Run.{Progress, Run, isRunning, sound, stateIn, admits}
+use Rattle.rules.proofs.Basics.{and-both}
+use Rattle.rules.proofs.BufferLaws.{Part, fits-part}
+use Rattle.rules.proofs.AnswerLaws.{refused≢gives, gives-inj, must-gives, must-true, then-gives}
+use Rattle.table.specs.Loaded.{withRoom, laid, loaded}
+use Rattle.table.proofs.AnswerLaws.{and-holds}
+use Rattle.table.proofs.AcceptedLaws.{readable-table}
+use Rattle.table.proofs.LoadedLaws.{laid-reply}
+use Rattle.inputs.specs.Refusals.{frameRefusal, turnedDown}
+use Rattle.inputs.proofs.InputLaws.{frame-law}
+use Rattle.cut.proofs.ReplyLaws.{each-all}
+use Rattle.run.specs.Admitted.{Sizes, sizesOf, admitsBy, firstState, admissionBy, admission}
+
+-- ---- 41
+module _ (a b : Lengths) where
+  pub short : (Part a b → ⊥) → false ≡ fits a b
+  short h = go (fits a b) refl
+    where
+      go : (x : Bool) → fits a b ≡ x → false ≡ x
+      go true e = absurd (h (fits-part a b e))
+      go false e = refl
+
+  pub long : a .spins ≤ b .spins → a .copies ≤ b .copies → a .offsets ≤ b .offsets → a .multipliers ≤ b .multipliers → a .masks ≤ b .masks → a .word ≤ b .word
+      → leb (a .certificate) (b .certificate) ≡ fits a b
+  unfolding fits
+  long h1 h2 h3 h4 h5 h6 = sym (simp (le-leb _ _ h1, le-leb _ _ h2, le-leb _ _ h3, le-leb _ _ h4, le-leb _ _ h5, le-leb _ _ h6))
+
+-- ---- 8, 9
+pub turned-down : {A : Type 0} (j k : ℕ) (a : Answer A) → (k ≡ 0 → ⊥) → k ≡ j → refused k ≡ turnedDown j a
+unfolding turnedDown
+turned-down j k a h e = go k h ∙ ap (λ x. turnedDown x a) e
+  where
+    go : (k : ℕ) → (k ≡ 0 → ⊥) → refused k ≡ turnedDown k a
+    go zero h = absurd (h refl)
+    go (suc k) h = refl
+
+-- ---- what a load tells of the code file, and what admitting the call then leaves
+-- the table, once there is room for it
+module _ (file s ms : List ℕ) where
+  abbrev roomy : Answer Table
+  roomy = then (codeFile file) (withRoom s ms)
+
+  roomy-file : (t : Table) → roomy ≡ gives t → codeFile file ≡ gives t
+  unfolding withRoom
+  roomy-file t e =
+      let f = then-gives (codeFile file) (withRoom s ms) t e in
+      f .first ∙ must-gives (ltb (checksOf (f .value)) (length s) && leb (edgesOf (f .value)) (length ms)) bufferShort (gives (f .value)) t (f .second) .1
+
+  -- room for the largest table is room for every table
+  module _ (hs : maxChecks < length s) (hm : maxEdges ≤ length ms) where
+    enough : (a : Answer Table) → codeFile file ≡ a → then a (withRoom s ms) ≡ a
+    unfolding then withRoom
+    enough (refused k) e = refl
+    enough (gives t) e =
+        let r = readable-table file (t .bits) (checksOf t) (edgesOf t) t e refl refl refl in
+        let starts = lt-ltb (checksOf t) (length s) (omega (arith, r .many)) in
+        let members = le-leb (edgesOf t) (length ms) (omega (arith, r .few)) in
+        must-true (ltb (checksOf t) (length s) && leb (edgesOf t) (length ms)) bufferShort (gives t) (and-holds (ltb (checksOf t) (length s)) (leb (edgesOf t) (length ms)) starts ∙ members)
+
+    pub admission-room : (l : List ℤ) (wanted : ℕ) (lent : Lengths) (p : Progress) (z y : List ℤ)
+        → admission file l wanted lent p z y s ms ≡ admissionBy (codeFile file) l wanted lent p z y s ms
+    unfolding admission
+    admission-room l wanted lent p z y = ap (λ a. admissionBy a l wanted lent p z y s ms) (enough (codeFile file) refl)
+
+-- q the load's reply, s′ and ms′ what it left
+module _ (file s ms : List ℕ) (q : Reply) (s′ ms′ : List ℕ) (h : record { reply = q; starts = s′; members = ms′ } ≡ loaded file s ms) where
+  laid-is : record { reply = q; starts = s′; members = ms′ } ≡ laid (roomy file s ms) s ms
+  unfolding loaded
+  laid-is = h
+
+  pub checks-few : (n m e : ℕ) → q ≡ record { number = 0; values = pos n ∷ pos m ∷ pos e ∷ [] } → m ≤ maxChecks
+  unfolding replyOf
+  checks-few n m e g = go (roomy file s ms) refl (ap (λ r. r .values) (sym g ∙ ap (λ r. r .reply) laid-is ∙ laid-reply (roomy file s ms) s ms))
+    where
+      go : (a : Answer Table) → roomy file s ms ≡ a → pos n ∷ pos m ∷ pos e ∷ [] ≡ replyOf tableValues a .values → m ≤ maxChecks
+      go (refused x) f v = absurd (let z : _≡_ {A = ℕ} 0 1 = cc in omega arith)
+      go (gives t) f v = readable-table file n m e t (roomy-file file s ms t f) (cc) (cc) (cc) .many
+
+  module _ (l : List ℤ) (wanted : ℕ) (lent : Lengths) (p : Progress) (z y : List ℤ) where
+    pub admission-refused : (k : ℕ) → q ≡ record { number = k; values = [] }
+        → record { answer = refused k; starts = s′; members = ms′ } ≡ admission file l wanted lent p z y s ms
+    unfolding laid replyOf admission
+    admission-refused k g = go (roomy file s ms) laid-is
+      where
+        go : (b : Answer Table) → record { reply = q; starts = s′; members = ms′ } ≡ laid b s ms → record { answer = refused k; starts = s′; members = ms′ } ≡ admissionBy b l wanted lent p z y s ms
+        go (refused x) f =
+            let number : k ≡ x = ap (λ r. r .number) (sym g ∙ ap (λ r. r .reply) f) in
+            let starts : s′ ≡ s = ap (λ r. r .starts) f in
+            let members : ms′ ≡ ms = ap (λ r. r .members) f in
+            cc
+        go (gives t) f = absurd (let z : _≡_ {A = ℕ} 0 1 = cc (ap (λ r. r .values) (sym g ∙ ap (λ r. r .reply) f)) in omega arith)
+
+    pub admission-sized : (n m e : ℕ) → q ≡ record { number = 0; values = pos n ∷ pos m ∷ pos e ∷ [] }
+        → (a : Answer Sizes) → a ≡ admitsBy (record { bits = n; checks = m; edges = e }) l wanted lent p (firstState e z y)
+        → record { answer = a; starts = s′; members = ms′ } ≡ admission file l wanted lent p z y s ms
+    unfolding laid replyOf admission
+    admission-sized n m e g a w = go (roomy file s ms) laid-is
+      where
+        go : (b : Answer Table) → record { reply = q; starts = s′; members = ms′ } ≡ laid b s ms → record { answer = a; starts = s′; members = ms′ } ≡ admissionBy b l wanted lent p z y s ms
+        go (refused x) f = absurd (let z : _≡_ {A = ℕ} 0 1 = cc (ap (λ r. r .values) (sym g ∙ ap (λ r. r .reply) f)) in omega arith)
+        go (gives t) f =
+            let values : pos n ∷ pos m ∷ pos e ∷ [] ≡ tableValues t = ap (λ r. r .values) (sym g ∙ ap (λ r. r .reply) f) in
+            let bits : n ≡ t .bits = cc in
+            let checks : m ≡ checksOf t = cc in
+            let edges : e ≡ edgesOf t = cc in
+            let starts = ap (λ r. r .starts) f in
+            let members = ap (λ r. r .members) f in
+            cc
+
+-- ---- rules' own tests
+module _ (z : Sizes) where
+  then-must : (k : ℕ) (a b c d : Bool)
+      → then (turnedDown k (must a askedTooMuch (must b bufferShort (must c runEnded (must d runDamaged (gives (tt {0}))))))) (λ u. gives z)
+      ≡ turnedDown k (must a askedTooMuch (must b bufferShort (must c runEnded (must d runDamaged (gives z)))))
+  unfolding then turnedDown must
+  then-must (suc k) a b c d = refl
+  then-must zero false b c d = refl
+  then-must zero true false c d = refl
+  then-must zero true true false d = refl
+  then-must zero true true true false = refl
+  then-must zero true true true true = refl
+
+  then-refused : (a : Answer (Unit {0})) (k : ℕ) → then a (λ u. gives z) ≡ refused k → a ≡ refused k
+  unfolding then
+  then-refused (refused x) k e = cc
+  then-refused (gives u) k e = absurd (refused≢gives (sym e))
+
+  then-unit : (a : Answer (Unit {0})) (v : Sizes) → then a (λ u. gives z) ≡ gives v → (a ≡ gives tt) × (v ≡ z)
+  unfolding then
+  then-unit (refused x) v e = absurd (refused≢gives e)
+  then-unit (gives u) v e = (refl, sym (gives-inj z v e))
+
+module _ (t : Table) (l : List ℤ) (wanted : ℕ) (lent : Lengths) (r : Run) where
+  pub admits-by : then (admits t l wanted lent r) (λ u. gives (sizesOf t)) ≡ admitsBy (sizesOf t) l wanted lent (r .progress) (stateIn t (r .buffers))
+  unfolding admits admitsBy
+  admits-by = ap (λ a. then a (λ u. gives (sizesOf t))) (frame-law t l _)
+      ∙ then-must (sizesOf t) (frameRefusal (t .bits) l) (leb wanted roundLimit) (fits (needs t) lent) (isRunning (r .progress .status)) (sound (r .progress .rounds) (stateIn t (r .buffers)))
+
+  pub admits-refused : (k : ℕ) → admitsBy (sizesOf t) l wanted lent (r .progress) (stateIn t (r .buffers)) ≡ refused k → admits t l wanted lent r ≡ refused k
+  admits-refused k e = then-refused (sizesOf t) (admits t l wanted lent r) k (admits-by ∙ e)
+
+  -- every test held
+  pub record Admits (z : Sizes) : Type 0 where
+    pub admitted : admits t l wanted lent r ≡ gives tt
+    pub sizes : z ≡ sizesOf t
+    pub frameLong : length l ≡ t .bits
+    pub frame : eachWithin frameLimit l ≡ true
+    pub asked : leb wanted roundLimit ≡ true
+    pub room : fits (needs t) lent ≡ true
+    pub running : isRunning (r .progress .status) ≡ true
+    pub sound : sound (r .progress .rounds) (stateIn t (r .buffers)) ≡ true
+
+  pub admits-gives : (z : Sizes) → admitsBy (sizesOf t) l wanted lent (r .progress) (stateIn t (r .buffers)) ≡ gives z → Admits z
+  unfolding admits onFrame
+  admits-gives z e =
+      let p = then-unit (sizesOf t) (admits t l wanted lent r) z (admits-by ∙ e) in
+      let p1 = must-gives (eqb (length l) (t .bits)) frameLength _ tt (p .0) in
+      let p2 = must-gives (eachWithin frameLimit l) frameRange _ tt (p1 .1) in
+      let p3 = must-gives (leb wanted roundLimit) askedTooMuch _ tt (p2 .1) in
+      let p4 = must-gives (fits (needs t) lent) bufferShort _ tt (p3 .1) in
+      let p5 = must-gives (isRunning (r .progress .status)) runEnded _ tt (p4 .1) in
+      let p6 = must-gives (sound (r .progress .rounds) (stateIn t (r .buffers))) runDamaged _ tt (p5 .1) in
+      record {
+        admitted = p .0;
+        sizes = p .1;
+        frameLong = eqb-true (length l) (t .bits) (p1 .0);
+        frame = p2 .0;
+        asked = p3 .0;
+        room = p4 .0;
+        running = p5 .0;
+        sound = p6 .0;
+      }
+
+-- ---- what the tests say of the numbers
+pub sound-safe : (k : ℕ) (s : State) → sound k s ≡ true → (k < 1024) × AllWithin 4096 (s .copies) × AllWithin (8192 * k) (s .offsets)
+unfolding sound
+sound-safe k s h =
+    let p = and-both (ltb k roundLimit && eachWithin unit (s .copies)) (eachWithin (offsetPerRound * k) (s .offsets)) h in
+    let q = and-both (ltb k roundLimit) (eachWithin unit (s .copies)) (p .0) in
+    (ltb-true k roundLimit (q .0), each-all unit (s .copies) (q .1), each-all (offsetPerRound * k) (s .offsets) (p .1))

@@ -1,0 +1,5 @@
+pub mod ClearLaws
+pub mod StartLaws
+pub mod BoundsLaws
+pub mod AdmitLaws
+pub mod ViewLaws

@@ -1,0 +1,58 @@
+-- `run::admit` meets its contract: the load's answer decides which case of it is left. Assumes nothing.
+use mathlib.Core.Path.{ap}
+use borrow.Author.Needs.{needs}
+use Rattle.table.specs.Reply.{numbered}
+use Rattle.run.proofs.AdmitLaws.{checks-few, admission-refused, admission-sized}
+use Rattle.run.proofs.admit.Statement.{statement}
+use Rattle.run.proofs.admit.Tie as tie
+
+load-requires : tie.Need-load-requires
+load-requires c κs = tt
+
+enum-known-answer : tie.Need-enum-known-answer
+enum-known-answer c = search needs
+
+enum-known-answer-2 : tie.Need-enum-known-answer-2
+enum-known-answer-2 c = search needs
+
+admit-sized-requires : tie.Need-admit-sized-requires
+admit-sized-requires c κs =
+    let load = c .before .before .before .before .before .before .before in
+    checks-few _ _ _ _ _ _ (load .load .ensures) _ _ _ (ap numbered (c .before .answer2 .given .1))
+
+same-length : tie.Need-same-length
+same-length c = search needs
+
+same-length-2 : tie.Need-same-length-2
+same-length-2 c = search needs
+
+returns : tie.Need-returns
+returns c =
+    let load = c .before .before .before .before .before .before .before in
+    admission-refused _ _ _ _ _ _ (load .load .ensures) _ _ _ _ _ _ _ (ap numbered (c .before .answer .given .1))
+
+same-length-3 : tie.Need-same-length-3
+same-length-3 c = search needs
+
+same-length-4 : tie.Need-same-length-4
+same-length-4 c = search needs
+
+returns-2 : tie.Need-returns-2
+returns-2 c =
+    let load = c .before .before .before .before .before .before .before .before in
+    admission-sized _ _ _ _ _ _ (load .load .ensures) _ _ _ _ _ _ _ _ _ (ap numbered (c .before .before .answer2 .given .1)) _ (c .admit-sized .ensures)
+
+pub admit-spec : {M : Type 1} → statement M
+admit-spec =
+    tie.close
+    (tie.spec
+    load-requires
+    enum-known-answer
+    enum-known-answer-2
+    admit-sized-requires
+    same-length
+    same-length-2
+    returns
+    same-length-3
+    same-length-4
+    returns-2)

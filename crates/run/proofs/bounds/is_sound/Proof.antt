@@ -1,0 +1,55 @@
+-- `run::bounds::is_sound` meets its contract: each return has the tests that led there. Assumes nothing.
+use mathlib.Core.Path.{_≡_, sym, _∙_, ap}
+use mathlib.Core.Bool.{true}
+use Prim.Native.Nat.{_*_}
+use lib.IntN.{pos, natAbs}
+use mir.Syntax.{w32}
+use mir.Val.{toZ}
+use mir.Facts.{toZ-pos}
+use borrow.Author.Needs.{needs}
+use borrow.Author.Tests.{not-true, not-false}
+use Rattle.integers.specs.Linear.{lin, arithZ}
+use Rattle.rules.specs.Limits.{offsetPerRound}
+use Rattle.rules.specs.Input.{eachWithin}
+use Rattle.run.proofs.BoundsLaws.{sound-late, sound-copies}
+use Rattle.run.proofs.bounds.is_sound.Statement.{statement}
+use Rattle.run.proofs.bounds.is_sound.Tie as tie
+
+returns : tie.Need-returns
+returns c = sound-late _ _ _ (c .if1 .taken)
+
+all-within-requires : tie.Need-all-within-requires
+all-within-requires c κs = search needs
+
+returns-2 : tie.Need-returns-2
+returns-2 c = sound-copies _ _ _ (c .before .before .if1 .left) _ (sym (c .before .all-within .ensures) ∙ not-true _ (c .if2 .taken))
+
+mul-all-within : tie.Need-mul-all-within
+mul-all-within c = search needs
+
+cast-all-within : tie.Need-cast-all-within
+cast-all-within c = search needs
+
+-- the limit is the product itself
+limit-is : (c : tie.Else2) → toZ w32 (offsetPerRound * c .before .before .before .args .rounds) ≡ pos (offsetPerRound * c .before .before .before .args .rounds)
+limit-is c = toZ-pos w32 (cast-all-within c .sfits)
+
+all-within-requires-2 : tie.Need-all-within-requires-2
+all-within-requires-2 c κs = rw (limit-is c) (simp lin (omega arithZ))
+
+returns-3 : tie.Need-returns-3
+returns-3 c =
+    c .all-within2 .ensures ∙ ap (λ z. eachWithin (natAbs z) (c .before .before .before .before .args .offsets .now)) (limit-is (c .before))
+    ∙ sound-copies _ _ _ (c .before .before .before .if1 .left) true (sym (c .before .before .all-within .ensures) ∙ not-false _ (c .before .if2 .left))
+
+pub is-sound-spec : {M : Type 1} → statement M
+is-sound-spec =
+    tie.close
+    (tie.spec
+    returns
+    all-within-requires
+    returns-2
+    mul-all-within
+    cast-all-within
+    all-within-requires-2
+    returns-3)

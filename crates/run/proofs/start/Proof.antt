@@ -1,0 +1,68 @@
+-- `run::start` meets its contract: each return has the answer and the tests that led there. Assumes nothing.
+use mathlib.Core.Path.{sym, _∙_, ap}
+use borrow.Author.Needs.{needs}
+use Rattle.table.specs.Reply.{numbered}
+use Rattle.table.proofs.AcceptedLaws.{Readable, readable, refused-is}
+use Rattle.run.proofs.StartLaws.{start-refused, start-few-copies, start-few-offsets, start-fresh}
+use Rattle.run.proofs.start.Statement.{statement}
+use Rattle.run.proofs.start.Tie as tie
+
+check-requires : tie.Need-check-requires
+check-requires c κs = search needs
+
+enum-known-answer : tie.Need-enum-known-answer
+enum-known-answer c = search needs
+
+enum-known-answer-2 : tie.Need-enum-known-answer-2
+enum-known-answer-2 c = search needs
+
+-- the file was accepted
+accepted : (c : tie.After-answer2) → Readable (c .before .before .before .before .args .code .now) (c .answer2 .given .0 .0) (c .answer2 .given .0 .1 .0) (c .answer2 .given .0 .1 .1 .0)
+accepted c = readable _ _ _ _ (ap numbered (sym (c .answer2 .given .1)) ∙ c .before .before .check .ensures)
+
+returns : tie.Need-returns
+returns c = start-few-copies _ _ _ _ _ _ (accepted (c .before .before)) (c .if1 .taken)
+
+returns-2 : tie.Need-returns-2
+returns-2 c = start-few-offsets _ _ _ _ _ _ (accepted (c .before .before .before)) (c .before .if1 .left) (c .if2 .taken)
+
+clear-first-requires : tie.Need-clear-first-requires
+clear-first-requires c κs = search needs
+
+clear-first-requires-2 : tie.Need-clear-first-requires-2
+clear-first-requires-2 c κs = search needs
+
+fresh-requires : tie.Need-fresh-requires
+fresh-requires c κs = search needs
+
+returns-3 : tie.Need-returns-3
+returns-3 c = start-refused _ _ _ _ (refused-is _ _ (ap numbered (sym (c .before .answer .given .1)) ∙ c .before .before .before .check .ensures))
+
+same-length : tie.Need-same-length
+same-length c = search needs
+
+same-length-2 : tie.Need-same-length-2
+same-length-2 c = search needs
+
+returns-4 : tie.Need-returns-4
+returns-4 c =
+    let room = c .before .before .before .before .before .before .before in
+    start-fresh _ _ _ _ _ _ (accepted (room .before .before .before)) _ _ _ (room .before .if1 .left) (room .if2 .left) (c .fresh .ensures)
+    (c .before .before .before .before .before .clear-first .ensures) (c .before .before .clear-first2 .ensures)
+
+pub start-spec : {M : Type 1} → statement M
+start-spec =
+    tie.close
+    (tie.spec
+    check-requires
+    enum-known-answer
+    enum-known-answer-2
+    returns
+    returns-2
+    clear-first-requires
+    clear-first-requires-2
+    fresh-requires
+    returns-3
+    same-length
+    same-length-2
+    returns-4)

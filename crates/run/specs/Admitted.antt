@@ -1,0 +1,81 @@
+-- The refusals of a call for rounds in the code's own numbers, and what admitting a call leaves. Definitions only. Assumes nothing.
+use mathlib.Core.List.{List}
+use Prim.Native.Nat.{ℕ}
+use lib.Dec.{leb}
+use lib.ListN.{length, take}
+use lib.IntN.{ℤ}
+use Rattle.rules.specs.Limits.{roundLimit, certificateLength}
+use Rattle.rules.specs.Refusal.{Answer, refused, gives, must, then, askedTooMuch, bufferShort, runEnded, runDamaged}
+use Rattle.rules.specs.Table.{Table, edges, edgesOf, checksOf}
+use Rattle.rules.specs.Round.{State}
+use Rattle.rules.specs.Buffers.{Lengths, fits, over}
+use Rattle.rules.specs.Run.{Progress, isRunning, sound}
+use Rattle.rules.specs.CodeFile.{codeFile}
+use Rattle.table.specs.Starts.{startsOf}
+use Rattle.table.specs.Loaded.{withRoom}
+use Rattle.inputs.specs.Refusals.{frameRefusal, turnedDown}
+use Rattle.run.specs.declared.Lent.{Lent}
+use Rattle.run.specs.declared.Admitted.{Admitted}
+use Rattle.run.specs.declared.Admitted.the-variants.{Refused, Sized}
+
+-- what n bits, m checks and e edges need
+abbrev pub needsBy : ℕ → ℕ → ℕ → Lengths
+needsBy n m e = record { spins = n; copies = e; offsets = e; multipliers = m; masks = m; word = n; certificate = certificateLength m }
+
+-- what is lent: of copies z and offsets y the length is read, of the others it is told
+abbrev pub lentOf : Lent → List ℤ → List ℤ → Lengths
+lentOf b z y = record {
+  spins = b .spins;
+  copies = length z;
+  offsets = length y;
+  multipliers = b .multipliers;
+  masks = b .masks;
+  word = b .word;
+  certificate = b .certificate;
+}
+
+-- n, m and E
+pub record Sizes : Type 0 where
+  pub bits : ℕ
+  pub checks : ℕ
+  pub edges : ℕ
+
+abbrev pub sizesOf : Table → Sizes
+sizesOf t = record { bits = t .bits; checks = checksOf t; edges = edgesOf t }
+
+abbrev pub admittedOf : Admitted → Answer Sizes
+admittedOf (Refused k) = refused k
+admittedOf (Sized n m e) = gives (record { bits = n; checks = m; edges = e })
+
+-- 8, 9, 17, 41, 42, 43
+unfoldable pub admitsBy : Sizes → List ℤ → ℕ → Lengths → Progress → State → Answer Sizes
+admitsBy z l wanted lent p s =
+    turnedDown (frameRefusal (z .bits) l)
+    (must (leb wanted roundLimit) askedTooMuch
+    (must (fits (needsBy (z .bits) (z .checks) (z .edges)) lent) bufferShort
+    (must (isRunning (p .status)) runEnded
+    (must (sound (p .rounds) s) runDamaged
+    (gives z)))))
+
+-- the first e copies and offsets
+abbrev pub firstState : ℕ → List ℤ → List ℤ → State
+firstState e z y = record { copies = take e z; offsets = take e y }
+
+-- the answer, and what is left in starts and members
+pub record Admission : Type 0 where
+  pub answer : Answer Sizes
+  pub starts : List ℕ
+  pub members : List ℕ
+
+-- of a table that was accepted, starts and members are written whatever is refused after it
+abbrev pub admissionBy : Answer Table → List ℤ → ℕ → Lengths → Progress → List ℤ → List ℤ → List ℕ → List ℕ → Admission
+admissionBy (refused k) l wanted lent p z y ss ms = record { answer = refused k; starts = ss; members = ms }
+admissionBy (gives t) l wanted lent p z y ss ms = record {
+  answer = admitsBy (sizesOf t) l wanted lent p (firstState (edgesOf t) z y);
+  starts = over (startsOf 0 (t .checks)) ss;
+  members = over (edges (t .checks)) ms;
+}
+
+-- any code file, frame, wanted number, record and lent buffers: 1 to 7, then 41 for starts and members, then the rest
+unfoldable pub admission : List ℕ → List ℤ → ℕ → Lengths → Progress → List ℤ → List ℤ → List ℕ → List ℕ → Admission
+admission file l wanted lent p z y ss ms = admissionBy (then (codeFile file) (withRoom ss ms)) l wanted lent p z y ss ms

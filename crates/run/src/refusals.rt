@@ -1,0 +1,103 @@
+// The refusals of a call for rounds on an accepted code file, in document 01's order.
+use super::Admitted;
+use super::Lent;
+use super::Record;
+use super::Status;
+use super::bounds::is_sound;
+use cut::limits::ASKED_TOO_MUCH;
+use table::limits::BUFFER_SHORT;
+ghost use mathlib.Core.Path.{_≡_};
+ghost use Prim.Native.Nat.{_≤_};
+ghost use Rattle.rules.specs.Buffers.{fits};
+ghost use Rattle.rules.specs.Run.{isRunning};
+ghost use Rattle.run.specs.Reply.{statusOf, progressOf};
+ghost use Rattle.run.specs.Admitted.{needsBy, lentOf, admittedOf, admitsBy, firstState};
+
+const RUN_ENDED: u8 = 42;
+
+const RUN_DAMAGED: u8 = 43;
+
+// "41 a lent buffer too short"
+pub(crate) fn long_enough(
+    bits: usize,
+    checks: usize,
+    edges: usize,
+    lent: Lent,
+    copies: &[i32],
+    offsets: &[i32],
+) -> bool
+    requires { ⌜ checks ≤ 2048 ⌝ }
+    ensures { λ r. ⌜ r ≡ fits (needsBy bits checks edges) (lentOf lent (now (copies .entry)) (now (offsets .entry))) ⌝ }
+{
+    if lent.spins < bits {
+        return false;
+    }
+    if copies.len() < edges {
+        return false;
+    }
+    if offsets.len() < edges {
+        return false;
+    }
+    if lent.multipliers < checks {
+        return false;
+    }
+    if lent.masks < checks {
+        return false;
+    }
+    if lent.word < bits {
+        return false;
+    }
+    4 + 10 * checks <= lent.certificate
+}
+
+pub(crate) fn is_running(status: Status) -> bool
+    ensures { λ r. ⌜ r ≡ isRunning (statusOf status) ⌝ }
+{
+    match status {
+        Status::Running => true,
+        Status::Certified => false,
+        Status::Spent => false,
+    }
+}
+
+// 8, 9, 17, 41, 42, 43 of a table with these sizes.
+pub(crate) fn admit_sized(
+    frame: &[i16],
+    run: Record,
+    wanted: u32,
+    lent: Lent,
+    copies: &[i32],
+    offsets: &[i32],
+    bits: usize,
+    checks: usize,
+    edges: usize,
+) -> Admitted
+    requires { ⌜ checks ≤ 2048 ⌝ }
+    ensures { λ r. ⌜ admittedOf r ≡ admitsBy (record { bits = bits; checks = checks; edges = edges }) (now (frame .entry)) wanted (lentOf lent (now (copies .entry)) (now (offsets .entry)))
+        (progressOf run) (firstState edges (now (copies .entry)) (now (offsets .entry))) ⌝ }
+{
+    let k = inputs::frame(frame, bits);
+    if k != 0 {
+        return Admitted::Refused(k);
+    }
+    if Record::ROUND_LIMIT < wanted {
+        return Admitted::Refused(ASKED_TOO_MUCH);
+    }
+    if !long_enough(bits, checks, edges, lent, copies, offsets) {
+        return Admitted::Refused(BUFFER_SHORT);
+    }
+    let status = run.status;
+    let running = is_running(status);
+    let sound = is_sound(run.rounds, &copies[..edges], &offsets[..edges]);
+    if !running {
+        return Admitted::Refused(RUN_ENDED);
+    }
+    if !sound {
+        return Admitted::Refused(RUN_DAMAGED);
+    }
+    Admitted::Sized {
+        bits,
+        checks,
+        edges,
+    }
+}

@@ -1,0 +1,53 @@
+-- `write_entries` meets its contract: its four parts are written one after the other. Assumes nothing.
+use mathlib.Core.Path.{_∙_, ap}
+use native.Mathlib.Omega.{arith}
+use lib.Seq.{sets}
+use borrow.Author.Needs.{needs}
+use Rattle.rules.specs.Bytes.{le16}
+use Rattle.writing.proofs.CertificateLaws.{contents-stop, certificate-all}
+use Rattle.writing.proofs.entries.write_entries.Statement.{statement}
+use Rattle.writing.proofs.entries.write_entries.Tie as tie
+
+count-cuts-requires : tie.Need-count-cuts-requires
+count-cuts-requires c κs = search needs
+
+put16-requires : tie.Need-put16-requires
+put16-requires c κs = search needs
+
+put16-requires-2 : tie.Need-put16-requires-2
+put16-requires-2 c κs = search needs
+
+write-contents-requires : tie.Need-write-contents-requires
+write-contents-requires c κs = search needs
+
+write-bodies-requires : tie.Need-write-bodies-requires
+write-bodies-requires c κs =
+    let args = c .before .before .before .before .before .before .before .before .before .before .before .before .before .before .before .before .before .args in
+    omega (arith, contents-stop (args .multipliers .now) (args .masks .now) (c .before .before .before .write-contents .result) (c .before .before .before .write-contents .ensures .1))
+
+same-length : tie.Need-same-length
+same-length c = search needs
+
+returns : tie.Need-returns
+returns c =
+    let start = c .before .before .before .before .before .before .before .before .before .before .before .before .before .before .before .before .before .before .before .before in
+    let old = start .args .certificate .now in
+    let bodies = c .before .before .write-bodies in
+    let contents = c .before .before .before .before .before .before .write-contents in
+    let scale = c .before .before .before .before .before .before .before .before .before .before .put162 in
+    let count = c .before .before .before .before .before .before .before .before .before .before .before .before .before .before .put16 in
+    let q = c .before .before .before .before .before .before .before .before .before .before .before .before .before .before .before .count-cuts in
+    certificate-all old (count .last .0) (scale .last .0) (contents .last .1 .1 .1 .0) (bodies .last .1 .1 .0) (start .args .multipliers .now) (start .args .masks .now) (contents .result) (start .pre .1)
+    (count .ensures ∙ ap (λ n. sets old 0 (le16 n)) (q .ensures)) (scale .ensures) (contents .ensures .0) (contents .ensures .1) (bodies .ensures)
+
+pub write-entries-spec : {M : Type 1} → statement M
+write-entries-spec =
+    tie.close
+    (tie.spec
+    count-cuts-requires
+    put16-requires
+    put16-requires-2
+    write-contents-requires
+    write-bodies-requires
+    same-length
+    returns)

@@ -1,0 +1,45 @@
+-- `write_certificate` meets its contract: each return has the tests that led there. Assumes nothing.
+use native.Mathlib.Omega.{arith}
+use borrow.Author.Needs.{needs}
+use Rattle.writing.proofs.CertificateLaws.{certificate-many, certificate-uneven, certificate-short, certificate-written}
+use Rattle.writing.proofs.write_certificate.Statement.{statement}
+use Rattle.writing.proofs.write_certificate.Tie as tie
+
+returns : tie.Need-returns
+returns c = certificate-many _ _ _ (c .if1 .taken)
+
+returns-2 : tie.Need-returns-2
+returns-2 c = certificate-uneven _ _ _ (c .before .if1 .left) (c .if2 .taken)
+
+mul-if3 : tie.Need-mul-if3
+mul-if3 c = search needs
+
+add-if3 : tie.Need-add-if3
+add-if3 c = search needs
+
+returns-3 : tie.Need-returns-3
+returns-3 c = certificate-short _ _ _ (c .before .before .if1 .left) (c .before .if2 .left) (c .if3 .taken)
+
+write-entries-requires : tie.Need-write-entries-requires
+write-entries-requires c κs = search needs
+
+same-length : tie.Need-same-length
+same-length c = search needs
+
+returns-4 : tie.Need-returns-4
+returns-4 c =
+    let args = c .before .before .before .before .before .before .before .before .before .before .args in
+    certificate-written (args .multipliers .now) (args .masks .now) (args .certificate .now) (omega arith) (omega arith) _ (omega arith) (c .before .before .write-entries .ensures)
+
+pub write-certificate-spec : {M : Type 1} → statement M
+write-certificate-spec =
+    tie.close
+    (tie.spec
+    returns
+    returns-2
+    mul-if3
+    add-if3
+    returns-3
+    write-entries-requires
+    same-length
+    returns-4)
