@@ -27,11 +27,13 @@ unfolding asked tableSearch searchRefusal pointRefusal turnedDown cut
 mask-4 = refl
 
 -- the same two points by their heights, which make 2U and one less; the buffer's fourth place stays
-heights-no-cut : seen (pos 1365 ∷ pos 1365 ∷ negsuc 1365 ∷ []) (pos 7 ∷ pos 7 ∷ pos 7 ∷ pos 7 ∷ []) ≡ record { number = 0; mask = 0; top = pos 2731; heights = pos 2731 ∷ pos 2731 ∷ pos 2730 ∷ pos 7 ∷ [] }
+heights-no-cut : seen (pos 1365 ∷ pos 1365 ∷ negsuc 1365 ∷ []) (pos 7 ∷ pos 7 ∷ pos 7 ∷ pos 7 ∷ [])
+    ≡ record { number = 0; mask = 0; top = pos 2731; heights = pos 2731 ∷ pos 2731 ∷ pos 2730 ∷ pos 7 ∷ [] }
 unfolding seen seenOn cut clipZ
 heights-no-cut = refl
 
-heights-mask-4 : seen (pos 1365 ∷ pos 1365 ∷ negsuc 1366 ∷ []) (pos 7 ∷ pos 7 ∷ pos 7 ∷ pos 7 ∷ []) ≡ record { number = 0; mask = 4; top = pos 2731; heights = pos 2731 ∷ pos 2731 ∷ pos 2729 ∷ pos 7 ∷ [] }
+heights-mask-4 : seen (pos 1365 ∷ pos 1365 ∷ negsuc 1366 ∷ []) (pos 7 ∷ pos 7 ∷ pos 7 ∷ pos 7 ∷ [])
+    ≡ record { number = 0; mask = 4; top = pos 2731; heights = pos 2731 ∷ pos 2731 ∷ pos 2729 ∷ pos 7 ∷ [] }
 unfolding seen seenOn cut clipZ
 heights-mask-4 = refl
 

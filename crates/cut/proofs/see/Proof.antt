@@ -9,7 +9,7 @@ returns : tie.Need-returns
 returns c = seen-many _ _ (c .if1 .taken)
 
 returns-2 : tie.Need-returns-2
-returns-2 c = search seen-short
+returns-2 c = seen-short _ _ (c .before .if1 .left) (c .if2 .taken)
 
 scan-values-requires : tie.Need-scan-values-requires
 scan-values-requires c κs = search needs

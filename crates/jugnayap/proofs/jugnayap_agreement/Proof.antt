@@ -34,7 +34,9 @@ agreed-fits c = fit w64 (c .before .answer2 .given .0 .0) (search needs)
 
 returns-2 : tie.Need-returns-2
 unfolding replyOf
-returns-2 c = ap (λ z. record { number = 0; agreement = z }) (toZ-ofZ (agreed-fits c)) ∙ (ap (λ a. agreementFrom (replyOf agreementValues a)) (ap agreedOf (sym (c .before .answer2 .given .1)) ∙ c .before .before .before .agreement .ensures))
+returns-2 c =
+    ap (λ z. record { number = 0; agreement = z }) (toZ-ofZ (agreed-fits c))
+    ∙ ap (λ a. agreementFrom (replyOf agreementValues a)) (ap agreedOf (sym (c .before .answer2 .given .1)) ∙ c .before .before .before .agreement .ensures)
 
 pub jugnayap-agreement-spec : {M : Type 1} → statement M
 jugnayap-agreement-spec =

@@ -40,7 +40,9 @@ returns c = ap (λ a. verdictFrom (replyOf verdictValues a)) (ap verdictOf (sym 
 
 returns-2 : tie.Need-returns-2
 unfolding replyOf judgeReply
-returns-2 c = ap (λ z. record { number = 0; kind = 0; value = z }) (toZ-ofZ (cast-t11 c)) ∙ ap (λ a. verdictFrom (replyOf verdictValues a)) (ap verdictOf (sym (c .before .answer2 .given .1)) ∙ c .before .before .before .judge .ensures)
+returns-2 c =
+    ap (λ z. record { number = 0; kind = 0; value = z }) (toZ-ofZ (cast-t11 c))
+    ∙ ap (λ a. verdictFrom (replyOf verdictValues a)) (ap verdictOf (sym (c .before .answer2 .given .1)) ∙ c .before .before .before .judge .ensures)
 
 returns-3 : tie.Need-returns-3
 unfolding replyOf judgeReply
@@ -52,7 +54,9 @@ gap-fits c = fit w64 (c .before .answer3 .given .0 .0) (search needs)
 
 returns-4 : tie.Need-returns-4
 unfolding replyOf judgeReply
-returns-4 c = ap (λ z. record { number = 0; kind = 2; value = z }) (toZ-ofZ (gap-fits c)) ∙ (ap (λ a. verdictFrom (replyOf verdictValues a)) (ap verdictOf (sym (c .before .answer3 .given .1)) ∙ c .before .before .before .judge .ensures))
+returns-4 c =
+    ap (λ z. record { number = 0; kind = 2; value = z }) (toZ-ofZ (gap-fits c))
+    ∙ ap (λ a. verdictFrom (replyOf verdictValues a)) (ap verdictOf (sym (c .before .answer3 .given .1)) ∙ c .before .before .before .judge .ensures)
 
 pub jugnayap-judge-spec : {M : Type 1} → statement M
 jugnayap-judge-spec =

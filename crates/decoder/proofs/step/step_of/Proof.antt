@@ -22,7 +22,7 @@ multiplier-for-requires c κs f =
     let start = added .before .before .before in
     let a = start .args in
     subst (Rising _) (sym (toZ-ofZ (fit w32 (saw .see .result .top) search)))
-    (multiplier-asks (a .spins .now) (a .members .now) (a .copies .now) (a .offsets .now) _ (start .pre) (added .add-spins .ensures) _ (saw .see .result .number) (saw .see .result .mask) (saw .see .result .top) (saw .see .ensures) f)
+    (multiplier-asks (a .spins .now) (a .members .now) (a .copies .now) (a .offsets .now) _ (start .pre) (added .add-spins .ensures) _ _ (saw .see .result .mask) (saw .see .result .top) (saw .see .ensures) f)
 
 move-all-requires : tie.Need-move-all-requires
 move-all-requires c κs =
@@ -31,7 +31,7 @@ move-all-requires c κs =
     let added = saw .before .before .before .before in
     let start = added .before .before .before in
     let a = start .args in
-    move-asks (a .spins .now) (a .members .now) (a .copies .now) (a .offsets .now) _ (start .pre) (added .add-spins .ensures) _ (saw .see .result .number) (saw .see .result .mask) (saw .see .result .top) (saw .see .ensures)
+    move-asks (a .spins .now) (a .members .now) (a .copies .now) (a .offsets .now) _ (start .pre) (added .add-spins .ensures) _ _ (saw .see .result .mask) (saw .see .result .top) (saw .see .ensures)
     (found .multiplier-for .result) (found .multiplier-for .ensures)
 
 same-length : tie.Need-same-length
@@ -48,7 +48,7 @@ returns c =
     let added = saw .before .before .before .before in
     let start = added .before .before .before in
     let a = start .args in
-    step-left (a .spins .now) (a .members .now) (a .copies .now) (a .offsets .now) _ (start .pre) (added .add-spins .ensures) _ (saw .see .result .number) (saw .see .result .mask) (saw .see .result .top) (saw .see .ensures)
+    step-left (a .spins .now) (a .members .now) (a .copies .now) (a .offsets .now) _ (start .pre) (added .add-spins .ensures) _ _ (saw .see .result .mask) (saw .see .result .top) (saw .see .ensures)
     (found .multiplier-for .result) (found .multiplier-for .ensures) _ _ (moved .move-all .ensures)
 
 pub step-of-spec : {M : Type 1} → statement M
