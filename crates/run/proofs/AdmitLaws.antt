@@ -1,5 +1,5 @@
 -- The refusals of a call for rounds: buffers too short, what admitting a call leaves, and rules' own tests in the code's numbers. Assumes nothing.
-use mathlib.Core.Path.{_≡_, refl, sym, _∙_, ap}
+use mathlib.Core.Path.{_≡_, refl, sym, _∙_, ap, ap₂}
 use mathlib.Core.Bool.{Bool, true, false, _&&_}
 use mathlib.Core.List.{List, [], _∷_}
 use Prim.Native.Nat.{ℕ, zero, suc, _*_, _≤_, _<_}
@@ -27,7 +27,7 @@ use Rattle.table.proofs.LoadedLaws.{laid-reply}
 use Rattle.inputs.specs.Refusals.{frameRefusal, turnedDown}
 use Rattle.inputs.proofs.InputLaws.{frame-law}
 use Rattle.cut.proofs.ReplyLaws.{each-all}
-use Rattle.run.specs.Admitted.{Sizes, sizesOf, admitsBy, firstState, admissionBy, admission}
+use Rattle.run.specs.Admitted.{needsBy, Sizes, sizesOf, admitsBy, firstState, admissionBy, admission}
 
 -- ---- 41
 module _ (a b : Lengths) where
@@ -51,6 +51,43 @@ turned-down j k a h e = go k h ∙ ap (λ x. turnedDown x a) e
     go : (k : ℕ) → (k ≡ 0 → ⊥) → refused k ≡ turnedDown k a
     go zero h = absurd (h refl)
     go (suc k) h = refl
+
+-- ---- each answer on an accepted code file
+module _ (z : Sizes) (l : List ℤ) (wanted : ℕ) (lent : Lengths) (p : Progress) (s : State) where
+  -- with these answers to the tests
+  answered : ℕ → Bool → Bool → Bool → Bool → Answer Sizes
+  answered k asked room runs sounds = turnedDown k (must asked askedTooMuch (must room bufferShort (must runs runEnded (must sounds runDamaged (gives z)))))
+
+  answered-is : (k : ℕ) (asked room runs sounds : Bool) → frameRefusal (z .bits) l ≡ k → leb wanted roundLimit ≡ asked → fits (needsBy (z .bits) (z .checks) (z .edges)) lent ≡ room
+      → isRunning (p .status) ≡ runs → sound (p .rounds) s ≡ sounds → answered k asked room runs sounds ≡ admitsBy z l wanted lent p s
+  unfolding admitsBy answered
+  answered-is k asked room runs sounds e f g h i =
+      let size = fits (needsBy (z .bits) (z .checks) (z .edges)) lent in
+      sym (ap₂ (λ x y. answered x y size (isRunning (p .status)) (sound (p .rounds) s)) e f ∙ ap₂ (λ x y. answered k asked x y (sound (p .rounds) s)) g h ∙ ap (answered k asked room runs) i)
+
+  module _ (framed : frameRefusal (z .bits) l ≡ 0) where
+    pub answers-asked : leb wanted roundLimit ≡ false → refused askedTooMuch ≡ admitsBy z l wanted lent p s
+    unfolding answered turnedDown must
+    answers-asked f = answered-is 0 false _ _ _ framed f refl refl refl
+
+    module _ (asked : leb wanted roundLimit ≡ true) where
+      pub answers-short : fits (needsBy (z .bits) (z .checks) (z .edges)) lent ≡ false → refused bufferShort ≡ admitsBy z l wanted lent p s
+      unfolding answered turnedDown must
+      answers-short g = answered-is 0 true false _ _ framed asked g refl refl
+
+      module _ (room : fits (needsBy (z .bits) (z .checks) (z .edges)) lent ≡ true) where
+        pub answers-ended : isRunning (p .status) ≡ false → refused runEnded ≡ admitsBy z l wanted lent p s
+        unfolding answered turnedDown must
+        answers-ended h = answered-is 0 true true false _ framed asked room h refl
+
+        module _ (runs : isRunning (p .status) ≡ true) where
+          pub answers-damaged : sound (p .rounds) s ≡ false → refused runDamaged ≡ admitsBy z l wanted lent p s
+          unfolding answered turnedDown must
+          answers-damaged i = answered-is 0 true true true false framed asked room runs i
+
+          pub answers-admitted : sound (p .rounds) s ≡ true → gives z ≡ admitsBy z l wanted lent p s
+          unfolding answered turnedDown must
+          answers-admitted i = answered-is 0 true true true true framed asked room runs i
 
 -- ---- what a load tells of the code file, and what admitting the call then leaves
 -- the table, once there is room for it

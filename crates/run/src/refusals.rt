@@ -87,12 +87,10 @@ pub(crate) fn admit_sized(
         return Admitted::Refused(BUFFER_SHORT);
     }
     let status = run.status;
-    let running = is_running(status);
-    let sound = is_sound(run.rounds, &copies[..edges], &offsets[..edges]);
-    if !running {
+    if !is_running(status) {
         return Admitted::Refused(RUN_ENDED);
     }
-    if !sound {
+    if !is_sound(run.rounds, &copies[..edges], &offsets[..edges]) {
         return Admitted::Refused(RUN_DAMAGED);
     }
     Admitted::Sized {
