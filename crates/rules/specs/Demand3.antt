@@ -57,7 +57,7 @@ SamePlaces t c (x ∷ xs) [] = ⊥
 SamePlaces t c (x ∷ xs) (y ∷ ys) = SamePlace t c x y × SamePlaces t c xs ys
 
 -- "The rounds done after a list are those wanted by its calls not refused, and those a call counted before 44, added up, but none beyond the round
--- that ends the run": the run, let do its 1,024 rounds, has ended, and by then has done as many as the round that ends it says
+-- that ends the run". That round: the run, let do 1,024, has ended, and has done so many.
 pub record RoundsDone (t : Table) (l : List ℤ) (calls : List Call) (r : Run) (ds : List Called) : Type 0 where
   pub ends : iterate t l roundLimit r .progress .status ≡ running → ⊥
   pub rounds : runAfter r ds .progress .rounds ≡ min (countedIn 0 calls ds) (iterate t l roundLimit r .progress .rounds)
@@ -67,6 +67,7 @@ pub record RoundsDone (t : Table) (l : List ℤ) (calls : List Call) (r : Run) (
 pub record Demand3 (file : List ℕ) (t : Table) (l : List ℤ) (c : List Bool) (calls : List Call) (a b : Buffers) : Type 0 where
   -- "if the list certifies a word w, no codeword and no point of the parity relaxation agrees with the frame better than w"
   pub best : (w : List Bool) (k : ℕ) (bs : List ℕ) → CertifiesOn t w k bs (listFrom file l calls a) → Best t l w
+  -- document 01's "rounds done after a list", whatever it comes to
   pub done : RoundsDone t l calls (startedRun file a) (listFrom file l calls a)
   -- "And whatever the list comes to, the same list [..] has at each place the same answer, the same rounds done and the same multipliers, and where
   -- the first certifies w it certifies w plus c modulo 2"
