@@ -12,12 +12,12 @@ use Rattle.rules.specs.Limits.{frameLimit, maxChecks, maxEdges}
 use Rattle.rules.specs.Refusal.{Answer, refused, gives}
 use Rattle.rules.specs.Table.{Table, edges, edgesOf, checksOf}
 use Rattle.rules.specs.CodeFile.{codeFile}
-use Rattle.rules.specs.Buffers.{lengthsOf, needs, partOf, over}
+use Rattle.rules.specs.Buffers.{lengthsOf, needs, partOf, over, Part}
 use Rattle.rules.specs.Run.{Status, running, certified, spent, Run, stateIn, iterate, isRunning, ranOn, refusedAt, perform, callOn, callBy, call}
 use Rattle.rules.specs.Calls.{giveBack}
 use Rattle.rules.proofs.AnswerLaws.{refused≢gives}
 use Rattle.rules.proofs.Tables.{Sound, file-sound}
-use Rattle.rules.proofs.BufferLaws.{Part, fits-part, take-over, over-length}
+use Rattle.rules.proofs.BufferLaws.{fits-part, take-over, over-length}
 use Rattle.rules.proofs.Lends.{ran-back}
 use Rattle.table.specs.Starts.{startsOf}
 use Rattle.table.proofs.StartsLaws.{starts-length}

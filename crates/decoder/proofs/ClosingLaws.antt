@@ -20,7 +20,7 @@ use Rattle.rules.specs.Step.{Entry, inactive, active}
 use Rattle.rules.specs.Bound.{rowsOf}
 use Rattle.rules.specs.Round.{candidate}
 use Rattle.rules.specs.Certificate.{cutsIn, contentBytes, bodyBytes, certificateOf}
-use Rattle.rules.specs.Run.{multipliersOf, masksOf}
+use Rattle.rules.specs.Buffers.{multipliersOf, masksOf}
 use Rattle.rules.proofs.Basics.{none≢some, some-inj}
 use Rattle.rules.proofs.Signs.{alike-length}
 use Rattle.rules.proofs.Masks.{set-mask}

@@ -10,8 +10,8 @@ use lib.IntN.{ℤ}
 use Rattle.rules.specs.Table.{Table, edges}
 use Rattle.rules.specs.Step.{Entry}
 use Rattle.rules.specs.Round.{State, round}
-use Rattle.rules.specs.Buffers.{Buffers}
-use Rattle.rules.specs.Run.{Progress, multipliersOf, statusAt, written}
+use Rattle.rules.specs.Buffers.{Buffers, multipliersOf}
+use Rattle.rules.specs.Run.{Progress, statusAt, written}
 use Rattle.rules.proofs.Pass.{AtMost}
 use Rattle.rules.proofs.RoundSizes.{Sized, round-sized}
 use Rattle.rules.proofs.Runs.{multipliers-limit}

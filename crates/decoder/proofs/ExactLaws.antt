@@ -7,8 +7,8 @@ use lib.ListN.{length, take, drop}
 use lib.Seq.{take-all, drop-length}
 use Rattle.rules.specs.Table.{Table, edgesOf}
 use Rattle.rules.specs.Round.{Round}
-use Rattle.rules.specs.Buffers.{Buffers, lengthsOf, needs, over}
-use Rattle.rules.specs.Run.{multipliersOf, masksOf, overWord, overCertificate, written, stateIn}
+use Rattle.rules.specs.Buffers.{Buffers, lengthsOf, needs, over, multipliersOf, masksOf}
+use Rattle.rules.specs.Run.{overWord, overCertificate, written, stateIn}
 use Rattle.rules.proofs.BufferLaws.{buffers-eq}
 use Rattle.rules.proofs.RoundSizes.{Sized}
 

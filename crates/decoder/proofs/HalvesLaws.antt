@@ -12,8 +12,7 @@ use Rattle.rules.specs.Table.{at, edges, degreeOf}
 use Rattle.rules.specs.Cut.{negatives, keep}
 use Rattle.rules.specs.Bound.{gap}
 use Rattle.rules.specs.Round.{State, spin, candidate, isZero, firstOf}
-use Rattle.rules.specs.Buffers.{over}
-use Rattle.rules.specs.Run.{bytesOf}
+use Rattle.rules.specs.Buffers.{over, bytesOf}
 use Rattle.rules.proofs.RoundSizes.{first-length}
 use Rattle.writing.specs.Written.{certificateFrom, certificateWritten}
 use Rattle.writing.proofs.CertificateLaws.{certificate-whole}

@@ -9,9 +9,9 @@ use Rattle.integers.specs.Sum.{AllWithin}
 use Rattle.rules.specs.Limits.{unit, roundLimit, offsetPerRound}
 use Rattle.rules.specs.Table.{Table}
 use Rattle.rules.specs.Round.{round}
-use Rattle.rules.specs.Buffers.{Buffers, Lengths, lengthsOf, needs}
+use Rattle.rules.specs.Buffers.{Buffers, Lengths, lengthsOf, needs, Part}
 use Rattle.rules.specs.Run.{Status, running, certified, spent, Run, moved, stateIn, next, iterate}
-use Rattle.rules.proofs.BufferLaws.{Part, past-lengths}
+use Rattle.rules.proofs.BufferLaws.{past-lengths}
 use Rattle.rules.proofs.Runs.{Safe, safe-moves, iterate-safe, held-start, iterate-held, ended-stays, iterate-stays, running≢certified, spent≢running}
 use Rattle.decoder.specs.Ready.{offsetLimit, Ready}
 use Rattle.decoder.specs.Done.{leftBy, runAt, roundOf}

@@ -8,10 +8,10 @@ use lib.IntN.{ℤ}
 use Rattle.integers.specs.Sum.{AllWithin}
 use Rattle.rules.specs.Limits.{frameLimit, roundLimit, offsetPerRound, certificateLength}
 use Rattle.rules.specs.Table.{Table, edges}
-use Rattle.rules.specs.Buffers.{Buffers, lengthsOf, needs, partOf, over}
+use Rattle.rules.specs.Buffers.{Buffers, lengthsOf, needs, partOf, over, Part}
 use Rattle.rules.specs.Run.{Called, iterate, ranOn}
 use Rattle.rules.specs.Calls.{giveBack}
-use Rattle.rules.proofs.BufferLaws.{Part, lengths-part, buffers-eq, past-lengths}
+use Rattle.rules.proofs.BufferLaws.{lengths-part, buffers-eq, past-lengths}
 use Rattle.rules.proofs.Runs.{held-start, iterate-held}
 use Rattle.decoder.specs.Layout.{checksFrom, tableOf, Holds}
 use Rattle.decoder.specs.Ready.{offsetLimit, Ready}

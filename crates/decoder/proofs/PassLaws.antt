@@ -8,7 +8,7 @@ use lib.Seq.{drop-drop, take-at, drop-at}
 use lib.IntN.{ℤ}
 use Rattle.rules.specs.Step.{Entry, Step, step}
 use Rattle.rules.specs.Round.{values, pass, copiesIn, offsetsIn, entriesIn}
-use Rattle.rules.specs.Run.{multiplierOf, multipliersOf, maskIn, masksOf}
+use Rattle.rules.specs.Buffers.{multiplierOf, multipliersOf, maskIn, masksOf}
 use Rattle.rules.proofs.Signs.{alike-length}
 use Rattle.rules.proofs.Pass.{pass-laid}
 use Rattle.decoder.proofs.LayoutLaws.{edgesBefore}

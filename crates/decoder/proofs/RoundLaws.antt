@@ -14,8 +14,8 @@ use Rattle.rules.specs.Cut.{negatives, keep}
 use Rattle.rules.specs.Step.{Entry, Step}
 use Rattle.rules.specs.Bound.{rowsOf, gap}
 use Rattle.rules.specs.Round.{State, spin, pass, entriesIn, candidate, isZero, certify, firstOf, round}
-use Rattle.rules.specs.Buffers.{Buffers, lengthsOf, needs, over}
-use Rattle.rules.specs.Run.{multipliersOf, masksOf, overWord, overCertificate, written}
+use Rattle.rules.specs.Buffers.{Buffers, lengthsOf, needs, over, multipliersOf, masksOf}
+use Rattle.rules.specs.Run.{overWord, overCertificate, written}
 use Rattle.rules.proofs.Pass.{AllLaid, pass-laid}
 use Rattle.rules.proofs.WrittenPasses.{AllProper}
 use Rattle.rules.proofs.RoundSizes.{first-length, round-sized}

@@ -12,10 +12,9 @@ use Rattle.rules.specs.Limits.{unit}
 use Rattle.rules.specs.Table.{at}
 use Rattle.rules.specs.Mask.{setOf}
 use Rattle.rules.specs.Cut.{cut}
-use Rattle.rules.specs.Buffers.{over}
+use Rattle.rules.specs.Buffers.{over, multiplierOf}
 use Rattle.rules.specs.Step.{clips, multiplier, minus, stepBy, step}
 use Rattle.rules.specs.Round.{values}
-use Rattle.rules.specs.Run.{multiplierOf}
 use Rattle.rules.proofs.BufferLaws.{over-length}
 use Rattle.rules.proofs.Signs.{alike-length}
 use Rattle.rules.proofs.CutRule.{Cuts, cut-sound}

@@ -13,8 +13,8 @@ use Rattle.rules.specs.Table.{Table, at}
 use Rattle.rules.specs.Cut.{negatives, keep}
 use Rattle.rules.specs.Bound.{gap}
 use Rattle.rules.specs.Round.{Round, round, candidate, isZero}
-use Rattle.rules.specs.Buffers.{Buffers, over}
-use Rattle.rules.specs.Run.{Status, running, certified, spent, Run, moved, multipliersOf, masksOf, bytesOf}
+use Rattle.rules.specs.Buffers.{Buffers, over, multipliersOf, masksOf, bytesOf}
+use Rattle.rules.specs.Run.{Status, running, certified, spent, Run, moved}
 use Rattle.writing.specs.Written.{certificateFrom}
 use Rattle.decoder.specs.Layout.{checksFrom}
 use Rattle.decoder.specs.Closing.{metBy, rowsFrom}

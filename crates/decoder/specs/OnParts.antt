@@ -6,10 +6,9 @@ use lib.ListN.{length, take}
 use lib.IntN.{ℤ}
 use Rattle.integers.specs.Sum.{AllWithin}
 use Rattle.rules.specs.Limits.{unit, frameLimit, roundLimit, offsetPerRound, maxChecks}
-use Rattle.rules.specs.Buffers.{Buffers, lengthsOf, partOf}
+use Rattle.rules.specs.Buffers.{Buffers, lengthsOf, partOf, Part}
 use Rattle.rules.specs.Run.{iterate, ranOn, Called}
 use Rattle.rules.specs.Calls.{giveBack}
-use Rattle.rules.proofs.BufferLaws.{Part}
 use Rattle.decoder.specs.Layout.{checksFrom, tableOf, Holds}
 use Rattle.decoder.specs.Done.{runAt}
 use Rattle.run.specs.Admitted.{needsBy}

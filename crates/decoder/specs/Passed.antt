@@ -8,7 +8,7 @@ use Rattle.integers.specs.Sum.{AllWithin}
 use Rattle.rules.specs.Limits.{unit}
 use Rattle.rules.specs.Step.{Step}
 use Rattle.rules.specs.Round.{pass, copiesIn, offsetsIn, entriesIn}
-use Rattle.rules.specs.Run.{multipliersOf, masksOf}
+use Rattle.rules.specs.Buffers.{multipliersOf, masksOf}
 use Rattle.decoder.specs.Layout.{checksFrom, Holds}
 
 pub record Passed : Type 0 where

@@ -8,7 +8,7 @@ use Rattle.integers.specs.Sum.{AllWithin}
 use Rattle.rules.specs.Limits.{unit}
 use Rattle.rules.specs.Step.{Step, step}
 use Rattle.rules.specs.Round.{values}
-use Rattle.rules.specs.Run.{multiplierOf, maskIn}
+use Rattle.rules.specs.Buffers.{multiplierOf, maskIn}
 use Rattle.rules.proofs.Duality.{Below}
 
 pub record Stepped : Type 0 where

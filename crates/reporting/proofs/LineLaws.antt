@@ -14,13 +14,12 @@ use Rattle.rules.specs.Bytes.{u16At}
 use Rattle.rules.specs.Table.{Table, edgesOf}
 use Rattle.rules.specs.CodeFile.{codeFile}
 use Rattle.rules.specs.Judge.{passes, agreementOf}
-use Rattle.rules.specs.Buffers.{Buffers, needs}
+use Rattle.rules.specs.Buffers.{Buffers, needs, Part}
 use Rattle.rules.specs.Run.{Status, running, certified, spent, Progress, fresh, Run, Called, callBy, call, startBy, start}
 use Rattle.rules.specs.Calls.{startedRun}
 use Rattle.rules.specs.Report.{refusedLine, certifiedLine, lineAt, blank, frameLine}
 use Rattle.rules.proofs.AnswerLaws.{refused≢gives, gives-inj}
 use Rattle.rules.proofs.Tables.{Sound, file-sound}
-use Rattle.rules.proofs.BufferLaws.{Part}
 use Rattle.rules.proofs.CallPasses.{call-passes}
 use Rattle.rules.proofs.Fresh.{started-on}
 use Rattle.rules.proofs.ReportLaws.{blank-line, refused-line, Asked, judged-asked}

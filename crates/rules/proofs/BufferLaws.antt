@@ -1,16 +1,17 @@
 -- Laws of lent buffers: a part that is long enough is as good as the whole, and what is past the stated lengths stays. Assumes nothing.
-use mathlib.Core.Path.{_≡_, refl, sym, _∙_, ap, subst}
-use mathlib.Core.Bool.{true, _&&_}
+use mathlib.Core.Path.{_≡_, refl, sym, _∙_, ap, subst, fun-ext}
+use mathlib.Core.Bool.{Bool, true}
+use mathlib.Core.Option.{Option, some, none}
 use mathlib.Core.List.{List, [], _∷_, _++_, append-nil}
 use Prim.Native.Nat.{ℕ, zero, suc, _+_, _-_, _≤_}
 use native.Mathlib.Omega.{arith}
-use native.Mathlib.Nat.{le-of-suc-le-suc, le-trans, add-sub-of-le}
+use native.Mathlib.Nat.{le-of-suc-le-suc, le-refl, le-trans, add-sub-of-le}
 use lib.Dec.{leb}
-use borrow.Author.Tests.{leb-true}
+use borrow.Author.Tests.{leb-true, le-leb}
 use lib.ListN.{length, take, drop, length-drop, length-append, take-append-drop, drop-of-length-le}
 use lib.Seq.{length-take-le, take-all, take-at, drop-drop}
 use lib.IntN.{ℤ}
-use Rattle.rules.specs.Buffers.{Buffers, Lengths, lengthsOf, fits, partOf, over, overAll}
+use Rattle.rules.specs.Buffers.{Buffer, spins, copies, offsets, multipliers, masks, word, certificate, Elem, Buffers, the, each, every, Lengths, lengthsOf, Part, fits, partOf, over, overAll, Writes, overBy, write}
 use Rattle.rules.proofs.Basics.{and-both}
 
 -- ---- one list
@@ -73,114 +74,110 @@ past-wider m n xs ys h p = record { size = p .size; rest = split xs ∙ ap (drop
 over-past : {A : Type 0} (n : ℕ) (xs ys : List A) → n ≤ length ys → Past n xs ys → over (take n xs) ys ≡ xs
 over-past n xs ys h p = ap (λ k. take n xs ++ drop k ys) (length-take-le n xs (subst (λ k. n ≤ k) (sym (p .size)) h)) ∙ ap (λ l. take n xs ++ l) (sym (p .rest)) ∙ take-append-drop n xs
 
--- ---- all buffers
--- each length of the first is at most the second's
-pub record Part (n m : Lengths) : Type 0 where
-  pub spins : n .spins ≤ m .spins
-  pub copies : n .copies ≤ m .copies
-  pub offsets : n .offsets ≤ m .offsets
-  pub multipliers : n .multipliers ≤ m .multipliers
-  pub masks : n .masks ≤ m .masks
-  pub word : n .word ≤ m .word
-  pub certificate : n .certificate ≤ m .certificate
+-- ---- all buffers, each by its name
+pub by-name : (P : Buffer → Type 0) → P spins → P copies → P offsets → P multipliers → P masks → P word → P certificate → (x : Buffer) → P x
+by-name P p z y b k w c spins = p
+by-name P p z y b k w c copies = z
+by-name P p z y b k w c offsets = y
+by-name P p z y b k w c multipliers = b
+by-name P p z y b k w c masks = k
+by-name P p z y b k w c word = w
+by-name P p z y b k w c certificate = c
+
+pub the-each : (f : (x : Buffer) → List (Elem x)) (x : Buffer) → the x (each f) ≡ f x
+the-each f = by-name (λ x. the x (each f) ≡ f x) refl refl refl refl refl refl refl
+
+pub buffers-eq : {a b : Buffers} → ((x : Buffer) → the x a ≡ the x b) → a ≡ b
+buffers-eq h = λ i. each (λ x. h x i)
+
+pub every-true : (p : Buffer → Bool) → every p ≡ true → (x : Buffer) → p x ≡ true
+every-true p e1 =
+    let e2 = and-both (p spins) _ e1 .1 in
+    let e3 = and-both (p copies) _ e2 .1 in
+    let e4 = and-both (p offsets) _ e3 .1 in
+    let e5 = and-both (p multipliers) _ e4 .1 in
+    let e6 = and-both (p masks) _ e5 .1 in
+    let e7 = and-both (p word) _ e6 in
+    by-name (λ x. p x ≡ true) (and-both (p spins) _ e1 .0) (and-both (p copies) _ e2 .0) (and-both (p offsets) _ e3 .0) (and-both (p multipliers) _ e4 .0)
+    (and-both (p masks) _ e5 .0) (e7 .0) (e7 .1)
+
+pub true-every : (p : Buffer → Bool) → ((x : Buffer) → p x ≡ true) → every p ≡ true
+true-every p h = λ i. every (λ x. h x i)
+
+-- ---- lengths
+pub part-refl : (a : Lengths) → Part a a
+part-refl a x = le-refl (a x)
 
 pub part-trans : (a b c : Lengths) → Part a b → Part b c → Part a c
-part-trans a b c h k = record {
-  spins = le-trans (h .spins) (k .spins);
-  copies = le-trans (h .copies) (k .copies);
-  offsets = le-trans (h .offsets) (k .offsets);
-  multipliers = le-trans (h .multipliers) (k .multipliers);
-  masks = le-trans (h .masks) (k .masks);
-  word = le-trans (h .word) (k .word);
-  certificate = le-trans (h .certificate) (k .certificate);
-}
+part-trans a b c h k x = le-trans (h x) (k x)
 
 pub fits-part : (a b : Lengths) → fits a b ≡ true → Part a b
 unfolding fits
-fits-part a b e =
-    let p6 = and-both (leb (a .spins) (b .spins) && leb (a .copies) (b .copies) && leb (a .offsets) (b .offsets) && leb (a .multipliers) (b .multipliers) && leb (a .masks) (b .masks) && leb (a .word) (b .word))
-    (leb (a .certificate) (b .certificate)) e in
-    let p5 = and-both (leb (a .spins) (b .spins) && leb (a .copies) (b .copies) && leb (a .offsets) (b .offsets) && leb (a .multipliers) (b .multipliers) && leb (a .masks) (b .masks))
-    (leb (a .word) (b .word)) (p6 .0) in
-    let p4 = and-both (leb (a .spins) (b .spins) && leb (a .copies) (b .copies) && leb (a .offsets) (b .offsets) && leb (a .multipliers) (b .multipliers)) (leb (a .masks) (b .masks)) (p5 .0) in
-    let p3 = and-both (leb (a .spins) (b .spins) && leb (a .copies) (b .copies) && leb (a .offsets) (b .offsets)) (leb (a .multipliers) (b .multipliers)) (p4 .0) in
-    let p2 = and-both (leb (a .spins) (b .spins) && leb (a .copies) (b .copies)) (leb (a .offsets) (b .offsets)) (p3 .0) in
-    let p1 = and-both (leb (a .spins) (b .spins)) (leb (a .copies) (b .copies)) (p2 .0) in
-    record {
-      spins = leb-true (a .spins) (b .spins) (p1 .0);
-      copies = leb-true (a .copies) (b .copies) (p1 .1);
-      offsets = leb-true (a .offsets) (b .offsets) (p2 .1);
-      multipliers = leb-true (a .multipliers) (b .multipliers) (p3 .1);
-      masks = leb-true (a .masks) (b .masks) (p4 .1);
-      word = leb-true (a .word) (b .word) (p5 .1);
-      certificate = leb-true (a .certificate) (b .certificate) (p6 .1);
-    }
+fits-part a b e x = leb-true (a x) (b x) (every-true (λ x. leb (a x) (b x)) e x)
 
-pub buffers-eq : {p p' z z' y y' : List ℤ} {b b' m m' w w' c c' : List ℕ} → p ≡ p' → z ≡ z' → y ≡ y' → b ≡ b' → m ≡ m' → w ≡ w' → c ≡ c'
-    → _≡_ {A = Buffers} (record { spins = p; copies = z; offsets = y; multipliers = b; masks = m; word = w; certificate = c })
-    (record { spins = p'; copies = z'; offsets = y'; multipliers = b'; masks = m'; word = w'; certificate = c' })
-buffers-eq e f g h k l m = λ i. record { spins = e i; copies = f i; offsets = g i; multipliers = h i; masks = k i; word = l i; certificate = m i }
-
-lengths-eq : {p p' z z' y y' b b' m m' w w' c c' : ℕ} → p ≡ p' → z ≡ z' → y ≡ y' → b ≡ b' → m ≡ m' → w ≡ w' → c ≡ c'
-    → _≡_ {A = Lengths} (record { spins = p; copies = z; offsets = y; multipliers = b; masks = m; word = w; certificate = c })
-    (record { spins = p'; copies = z'; offsets = y'; multipliers = b'; masks = m'; word = w'; certificate = c' })
-lengths-eq e f g h k l m = λ i. record { spins = e i; copies = f i; offsets = g i; multipliers = h i; masks = k i; word = l i; certificate = m i }
+pub part-fits : (a b : Lengths) → Part a b → fits a b ≡ true
+unfolding fits
+part-fits a b h = true-every (λ x. leb (a x) (b x)) (λ x. le-leb (a x) (b x) (h x))
 
 pub lengths-part : (n : Lengths) (b : Buffers) → Part n (lengthsOf b) → lengthsOf (partOf n b) ≡ n
-lengths-part n b h = lengths-eq (length-take-le (n .spins) (b .spins) (h .spins)) (length-take-le (n .copies) (b .copies) (h .copies)) (length-take-le (n .offsets) (b .offsets) (h .offsets))
-    (length-take-le (n .multipliers) (b .multipliers) (h .multipliers)) (length-take-le (n .masks) (b .masks) (h .masks)) (length-take-le (n .word) (b .word) (h .word))
-    (length-take-le (n .certificate) (b .certificate) (h .certificate))
+lengths-part n b h = fun-ext (λ x. ap length (the-each (λ x. take (n x) (the x b)) x) ∙ length-take-le (n x) (the x b) (h x))
 
--- parts handed back as they were
+-- ---- parts handed back
+-- what is past a part is the whole's
+the-back : (a b : Buffers) (n : Lengths) (x : Buffer) → the x (overAll (partOf n a) b) ≡ over (take (n x) (the x a)) (the x b)
+the-back a b n x = the-each (λ x. over (the x (partOf n a)) (the x b)) x ∙ ap (λ l. over l (the x b)) (the-each (λ x. take (n x) (the x a)) x)
+
+-- as they were
 pub over-same : (n : Lengths) (b : Buffers) → overAll (partOf n b) b ≡ b
-over-same n b = buffers-eq (over-part (n .spins) (b .spins)) (over-part (n .copies) (b .copies)) (over-part (n .offsets) (b .offsets)) (over-part (n .multipliers) (b .multipliers))
-    (over-part (n .masks) (b .masks)) (over-part (n .word) (b .word)) (over-part (n .certificate) (b .certificate))
+over-same n b = buffers-eq (λ x. the-back b b n x ∙ over-part (n x) (the x b))
 
 -- "Bytes past the stated lengths never change"
-pub record AllPast (n : Lengths) (a b : Buffers) : Type 0 where
-  pub spins : Past (n .spins) (a .spins) (b .spins)
-  pub copies : Past (n .copies) (a .copies) (b .copies)
-  pub offsets : Past (n .offsets) (a .offsets) (b .offsets)
-  pub multipliers : Past (n .multipliers) (a .multipliers) (b .multipliers)
-  pub masks : Past (n .masks) (a .masks) (b .masks)
-  pub word : Past (n .word) (a .word) (b .word)
-  pub certificate : Past (n .certificate) (a .certificate) (b .certificate)
+abbrev pub AllPast : Lengths → Buffers → Buffers → Type 0
+AllPast n a b = (x : Buffer) → Past (n x) (the x a) (the x b)
 
 pub all-past-refl : (n : Lengths) (b : Buffers) → AllPast n b b
-all-past-refl n b = record {
-  spins = past-refl (n .spins) (b .spins);
-  copies = past-refl (n .copies) (b .copies);
-  offsets = past-refl (n .offsets) (b .offsets);
-  multipliers = past-refl (n .multipliers) (b .multipliers);
-  masks = past-refl (n .masks) (b .masks);
-  word = past-refl (n .word) (b .word);
-  certificate = past-refl (n .certificate) (b .certificate);
-}
+all-past-refl n b x = past-refl (n x) (the x b)
 
 pub all-past-trans : (n : Lengths) (a b c : Buffers) → AllPast n a b → AllPast n b c → AllPast n a c
-all-past-trans n a b c p q = record {
-  spins = past-trans (p .spins) (q .spins);
-  copies = past-trans (p .copies) (q .copies);
-  offsets = past-trans (p .offsets) (q .offsets);
-  multipliers = past-trans (p .multipliers) (q .multipliers);
-  masks = past-trans (p .masks) (q .masks);
-  word = past-trans (p .word) (q .word);
-  certificate = past-trans (p .certificate) (q .certificate);
-}
+all-past-trans n a b c p q x = past-trans (p x) (q x)
 
 pub past-lengths : (n : Lengths) (a b : Buffers) → AllPast n a b → lengthsOf a ≡ lengthsOf b
-past-lengths n a b p = lengths-eq (p .spins .size) (p .copies .size) (p .offsets .size) (p .multipliers .size) (p .masks .size) (p .word .size) (p .certificate .size)
+past-lengths n a b p = fun-ext (λ x. p x .size)
 
 -- parts handed back make the whole, if nothing has changed past a smaller part m
 pub over-parts : (m n : Lengths) (a b : Buffers) → Part m n → Part n (lengthsOf b) → AllPast m a b → overAll (partOf n a) b ≡ a
-over-parts m n a b h k p = buffers-eq
-    (one (m .spins) (n .spins) (a .spins) (b .spins) (h .spins) (k .spins) (p .spins))
-    (one (m .copies) (n .copies) (a .copies) (b .copies) (h .copies) (k .copies) (p .copies))
-    (one (m .offsets) (n .offsets) (a .offsets) (b .offsets) (h .offsets) (k .offsets) (p .offsets))
-    (one (m .multipliers) (n .multipliers) (a .multipliers) (b .multipliers) (h .multipliers) (k .multipliers) (p .multipliers))
-    (one (m .masks) (n .masks) (a .masks) (b .masks) (h .masks) (k .masks) (p .masks))
-    (one (m .word) (n .word) (a .word) (b .word) (h .word) (k .word) (p .word))
-    (one (m .certificate) (n .certificate) (a .certificate) (b .certificate) (h .certificate) (k .certificate) (p .certificate))
-  where
-    one : {A : Type 0} (m n : ℕ) (xs ys : List A) → m ≤ n → n ≤ length ys → Past m xs ys → over (take n xs) ys ≡ xs
-    one m n xs ys h k p = over-past n xs ys k (past-wider m n xs ys h p)
+over-parts m n a b h k p = buffers-eq (λ x. the-back a b n x ∙ over-past (n x) (the x a) (the x b) (k x) (past-wider (m x) (n x) (the x a) (the x b) (h x) (p x)))
+
+-- ---- writing
+-- what is written fits these lengths
+abbrev pub Small : Lengths → Writes → Type 0
+Small n w = (x : Buffer) (new : List (Elem x)) → w x ≡ some new → length new ≤ n x
+
+the-write : (w : Writes) (b : Buffers) (x : Buffer) → the x (write w b) ≡ overBy (w x) (the x b)
+the-write w b x = the-each (λ x. overBy (w x) (the x b)) x
+
+past-by : {A : Type 0} (n : ℕ) (o : Option (List A)) (old : List A) → ((new : List A) → o ≡ some new → length new ≤ n) → n ≤ length old → Past n (overBy o old) old
+past-by n none old h k = past-refl n old
+past-by n (some new) old h k = past-over n new old (h new refl) k
+
+pub write-past : (n : Lengths) (w : Writes) (b : Buffers) → Small n w → Part n (lengthsOf b) → AllPast n (write w b) b
+write-past n w b h k x = subst (λ l. Past (n x) l (the x b)) (sym (the-write w b x)) (past-by (n x) (w x) (the x b) (h x) (k x))
+
+by-take : {A : Type 0} (n : ℕ) (o : Option (List A)) (old : List A) → ((new : List A) → o ≡ some new → length new ≤ n) → overBy o (take n old) ≡ take n (overBy o old)
+by-take n none old h = refl
+by-take n (some new) old h = over-take n new old (h new refl)
+
+-- writing to the parts is the parts of writing to the whole
+pub write-part : (n : Lengths) (w : Writes) (b : Buffers) → Small n w → write w (partOf n b) ≡ partOf n (write w b)
+write-part n w b h = buffers-eq (λ x. the-write w (partOf n b) x ∙ ap (overBy (w x)) (the-each (λ x. take (n x) (the x b)) x) ∙ by-take (n x) (w x) (the x b) (h x)
+    ∙ sym (the-each (λ x. take (n x) (the x (write w b))) x ∙ ap (take (n x)) (the-write w b x)))
+
+by-lent : {A : Type 0} (n : ℕ) (o : Option (List A)) (old : List A) → ((new : List A) → o ≡ some new → length new ≤ n) → over (overBy o (take n old)) old ≡ overBy o old
+by-lent n none old h = over-part n old
+by-lent n (some new) old h = over-lent n new old (h new refl)
+
+-- a write to the parts, given back, is the write to the whole
+pub write-lent : (n : Lengths) (w : Writes) (b : Buffers) → Small n w → overAll (write w (partOf n b)) b ≡ write w b
+write-lent n w b h = buffers-eq (λ x. the-each (λ x. over (the x (write w (partOf n b))) (the x b)) x
+    ∙ ap (λ l. over l (the x b)) (the-write w (partOf n b) x ∙ ap (overBy (w x)) (the-each (λ x. take (n x) (the x b)) x))
+    ∙ by-lent (n x) (w x) (the x b) (h x) ∙ sym (the-write w b x))

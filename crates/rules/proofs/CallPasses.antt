@@ -19,8 +19,8 @@ use Rattle.rules.specs.Round.{State, entriesIn, round}
 use Rattle.rules.specs.Bytes.{u16At}
 use Rattle.rules.specs.Certificate.{cutsIn, certificateOf, entriesOf}
 use Rattle.rules.specs.Judge.{passes, judge}
-use Rattle.rules.specs.Buffers.{Lengths, lengthsOf, needs, fits, over}
-use Rattle.rules.specs.Run.{Status, running, certified, spent, Run, bytesOf, overWord, overCertificate, stateIn, iterate, isRunning, admits, Called, perform, callOn, callBy, call}
+use Rattle.rules.specs.Buffers.{Lengths, lengthsOf, needs, fits, over, overBy, bytesOf, wordLeft, certificateLeft}
+use Rattle.rules.specs.Run.{Status, running, certified, spent, Run, stateIn, iterate, isRunning, admits, Called, perform, callOn, callBy, call}
 use Rattle.rules.proofs.AnswerLaws.{refused≢gives, must-gives}
 use Rattle.rules.proofs.Tables.{file-sound}
 use Rattle.rules.proofs.Pass.{AllLaid, stepsIn, steps-laid, entries-length}
@@ -33,13 +33,13 @@ use Rattle.rules.proofs.Runs.{coming, Ends, iterate-ends}
 use Rattle.rules.proofs.Lists.{answer-certified}
 
 -- ---- the entries of a round are such as a certificate may have
-laid-proper : (u : ℕ) (cs : List (List ℕ)) (ss : List Step) → AllLaid u cs ss → AllProper cs (entriesIn ss)
+pub laid-proper : (u : ℕ) (cs : List (List ℕ)) (ss : List Step) → AllLaid u cs ss → AllProper cs (entriesIn ss)
 laid-proper u [] [] h = tt
 laid-proper u [] (s ∷ ss) h = absurd h
 laid-proper u (ms ∷ cs) [] h = absurd h
 laid-proper u (ms ∷ cs) (s ∷ ss) h = (h .0 .proper, laid-proper u cs ss (h .1))
 
-round-proper : (t : Table) (l : List ℤ) (s : State) → AllProper (t .checks) (round t l s .entries)
+pub round-proper : (t : Table) (l : List ℤ) (s : State) → AllProper (t .checks) (round t l s .entries)
 unfolding round
 round-proper t l s = laid-proper unit (t .checks) (stepsIn t l s) (steps-laid t l s)
 
@@ -62,12 +62,12 @@ module _ (t : Table) (l : List ℤ) (q : Run) (e : Ends t l q) where
 
   pub ended-word : take (t .bits) (q .buffers .word) ≡ bytesOf (e .word)
   ended-word = ap (λ r. take (t .bits) (r .buffers .word)) (e .same)
-      ∙ ap (λ o. take (t .bits) (overWord o (e .last .buffers .word))) (e .by)
+      ∙ ap (λ o. take (t .bits) (overBy (wordLeft o) (e .last .buffers .word))) (e .by)
       ∙ take-over (t .bits) (bytesOf (e .word)) (e .last .buffers .word) (round-sized t l (stateIn t (e .last .buffers)) .word (e .word) (e .by))
 
   left-bytes : q .buffers .certificate ≡ over (certificateOf es) (e .last .buffers .certificate)
   unfolding es
-  left-bytes = ap (λ r. r .buffers .certificate) (e .same) ∙ ap (λ o. overCertificate o (coming t l (e .last) .entries) (e .last .buffers .certificate)) (e .by)
+  left-bytes = ap (λ r. r .buffers .certificate) (e .same) ∙ ap (λ o. overBy (certificateLeft o (coming t l (e .last) .entries)) (e .last .buffers .certificate)) (e .by)
 
   count : checksOf t ≤ maxChecks → entriesOf (q .buffers .certificate) ≡ cutsIn es
   unfolding es

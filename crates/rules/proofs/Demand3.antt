@@ -8,8 +8,8 @@ use lib.IntN.{ℤ}
 use Rattle.rules.specs.Table.{Table}
 use Rattle.rules.specs.Parity.{plus, turns, Codeword}
 use Rattle.rules.specs.Input.{bitsOf}
-use Rattle.rules.specs.Buffers.{Buffers}
-use Rattle.rules.specs.Run.{Run, bytesOf, stateIn, iterate}
+use Rattle.rules.specs.Buffers.{Buffers, bytesOf}
+use Rattle.rules.specs.Run.{Run, stateIn, iterate}
 use Rattle.rules.specs.Calls.{Call, startedRun, wantedIn}
 use Rattle.rules.specs.Demand3.{Best, FreshStart, AllLent, listFrom, CertifiesOn, SamePlace, SamePlaces, RoundsDone, Demand3}
 use Rattle.rules.proofs.Tables.{file-sound}

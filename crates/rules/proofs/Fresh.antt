@@ -1,13 +1,14 @@
 -- A run from a fresh start: its state is zero, its limits hold, and its twin is alike. Assumes nothing.
 use mathlib.Core.Path.{_≡_, refl, sym, _∙_, ap, ap₂, subst}
-use mathlib.Core.Bool.{Bool, true, false, _&&_}
+use mathlib.Core.Bool.{Bool, true, false, false≢true, cond, not, _||_}
+use mathlib.Core.Option.{some, none}
 use mathlib.Core.List.{List, [], _∷_}
 use Prim.Native.Nat.{ℕ, zero, suc, _*_, _≤_}
 use native.Mathlib.Omega.{arith}
 use native.Mathlib.Nat.{le-trans}
 use lib.Dec.{leb}
 use borrow.Author.Tests.{leb-true, le-leb}
-use lib.ListN.{length, take, length-take, length-replicate}
+use lib.ListN.{length, take, replicate, length-take, length-replicate}
 use lib.IntN.{ℤ, pos}
 use Rattle.integers.specs.Order.{within-zero}
 use Rattle.integers.specs.Sum.{AllWithin}
@@ -16,94 +17,101 @@ use Rattle.rules.specs.Refusal.{gives, must, then, bufferShort}
 use Rattle.rules.specs.Table.{Table, edgesOf}
 use Rattle.rules.specs.Parity.{turns}
 use Rattle.rules.specs.CodeFile.{codeFile}
-use Rattle.rules.specs.Buffers.{Buffers, lengthsOf, over}
-use Rattle.rules.specs.Run.{stateIn, Started, zeros, startBy, start, fresh}
+use Rattle.rules.specs.Buffers.{Buffer, nought, Buffers, the, Lengths, lengthsOf, needs, partOf, over, overAll, write, zeroed, fitsStart, zeroing}
+use Rattle.rules.specs.Run.{stateIn, startBy, start, fresh}
 use Rattle.rules.specs.Calls.{Call, startOn, startedRun}
 use Rattle.rules.specs.Demand3.{FreshStart, AllLent}
-use Rattle.rules.proofs.Basics.{and-both}
+use Rattle.rules.proofs.Basics.{none≢some, some-inj}
 use Rattle.rules.proofs.Signs.{turn-zero}
 use Rattle.rules.proofs.AnswerLaws.{refused≢gives, must-true, then-of}
-use Rattle.rules.proofs.BufferLaws.{take-over, over-lent, over-length, fits-part}
+use Rattle.rules.proofs.BufferLaws.{take-over, the-each, every-true, true-every, part-refl, fits-part, past-lengths, Small, write-past, write-lent}
 use Rattle.rules.proofs.RoundTurns.{signs, turnState}
 use Rattle.rules.proofs.Runs.{Safe, running≢certified}
 use Rattle.rules.proofs.Lends.{AllPart}
 use Rattle.rules.proofs.Twins.{Twin}
 
 -- ---- what a start leaves
-pub zeros-length : (e : ℕ) → length (zeros e) ≡ e
-zeros-length e = length-replicate e (pos 0)
+abbrev pub zeros : ℕ → List ℤ
+zeros e = replicate e (pos 0)
 
-record Zeroed (t : Table) (z y : List ℤ) (s : Started) : Type 0 where
-  room : (edgesOf t ≤ length z) × (edgesOf t ≤ length y)
-  copies : s .copies ≡ over (zeros (edgesOf t)) z
-  offsets : s .offsets ≡ over (zeros (edgesOf t)) y
+-- what a start writes fits where its own 41 has looked
+module _ (t : Table) (n : Lengths) (h : fitsStart t n ≡ true) where
+  room : (x : Buffer) → zeroed x ≡ true → needs t x ≤ n x
+  unfolding fitsStart
+  room x e = leb-true (needs t x) (n x) (by (zeroed x) e (every-true (λ x. not (zeroed x) || leb (needs t x) (n x)) h x))
+    where
+      by : (z : Bool) → z ≡ true → not z || leb (needs t x) (n x) ≡ true → leb (needs t x) (n x) ≡ true
+      by true e k = k
+      by false e k = absurd (false≢true e)
 
-zeroed-by : (t : Table) (z y : List ℤ) (b : Bool) → leb (edgesOf t) (length z) && leb (edgesOf t) (length y) ≡ b
-    → startBy z y (must b bufferShort (gives t)) .answer ≡ gives fresh → Zeroed t z y (startBy z y (must b bufferShort (gives t)))
-unfolding must
-zeroed-by t z y true p q =
-    let r = and-both (leb (edgesOf t) (length z)) (leb (edgesOf t) (length y)) p in
-    record { room = (leb-true (edgesOf t) (length z) (r .0), leb-true (edgesOf t) (length y) (r .1)); copies = refl; offsets = refl }
-zeroed-by t z y false p q = absurd (refused≢gives q)
+  pub zeroing-small : Small n (zeroing t)
+  zeroing-small x new = go (zeroed x) refl
+    where
+      go : (z : Bool) → zeroed x ≡ z → cond z (some (replicate (needs t x) (nought x))) none ≡ some new → length new ≤ n x
+      go true p e = subst (λ k. k ≤ n x) (sym (length-replicate (needs t x) (nought x)) ∙ ap length (some-inj (replicate (needs t x) (nought x)) new e)) (room x p)
+      go false p e = absurd (none≢some e)
 
-zeroed : (file : List ℕ) (t : Table) (z y : List ℤ) → codeFile file ≡ gives t → start file z y .answer ≡ gives fresh → Zeroed t z y (start file z y)
-unfolding start
-zeroed file t z y isFile e = subst (Zeroed t z y) (sym tested)
-    (zeroed-by t z y (leb (edgesOf t) (length z) && leb (edgesOf t) (length y)) refl (ap (λ s. s .answer) (sym tested) ∙ e))
+-- where 41 has looked at parts, it need not look at the whole
+pub fits-start : (t : Table) (m n : Lengths) → ((x : Buffer) → m x ≤ n x) → fitsStart t m ≡ true → fitsStart t n ≡ true
+unfolding fitsStart
+fits-start t m n h e = true-every (λ x. not (zeroed x) || leb (needs t x) (n x)) (λ x. go x (zeroed x) refl)
   where
-    tested : startBy z y (then (codeFile file) (λ x. must (leb (edgesOf x) (length z) && leb (edgesOf x) (length y)) bufferShort (gives x)))
-        ≡ startBy z y (must (leb (edgesOf t) (length z) && leb (edgesOf t) (length y)) bufferShort (gives t))
-    tested = ap (startBy z y) (then-of (codeFile file) t (λ x. must (leb (edgesOf x) (length z) && leb (edgesOf x) (length y)) bufferShort (gives x)) isFile)
+    go : (x : Buffer) (z : Bool) → zeroed x ≡ z → not z || leb (needs t x) (n x) ≡ true
+    go x true p = le-leb (needs t x) (n x) (le-trans (room t m e x p) (h x))
+    go x false p = refl
 
 -- a start with room enough
-pub started-on : (file : List ℕ) (t : Table) → codeFile file ≡ gives t → (z y : List ℤ) → edgesOf t ≤ length z → edgesOf t ≤ length y
-    → start file z y ≡ record { answer = gives fresh; copies = over (zeros (edgesOf t)) z; offsets = over (zeros (edgesOf t)) y }
+pub started-on : (file : List ℕ) (t : Table) (b : Buffers) → codeFile file ≡ gives t → fitsStart t (lengthsOf b) ≡ true
+    → start file b ≡ record { answer = gives fresh; buffers = write (zeroing t) b }
 unfolding start
-started-on file t isFile z y h k =
-    ap (startBy z y)
-    (then-of (codeFile file) t (λ x. must (leb (edgesOf x) (length z) && leb (edgesOf x) (length y)) bufferShort (gives x)) isFile
-    ∙ must-true (leb (edgesOf t) (length z) && leb (edgesOf t) (length y)) bufferShort (gives t) (ap₂ _&&_ (le-leb (edgesOf t) (length z) h) (le-leb (edgesOf t) (length y) k)))
+started-on file t b isFile h = ap (startBy b) (then-of (codeFile file) t (λ x. must (fitsStart x (lengthsOf b)) bufferShort (gives x)) isFile ∙ must-true (fitsStart t (lengthsOf b)) bufferShort (gives t) h)
 
-part-least : (n : ℕ) (l : List ℤ) → length (take n l) ≤ length l
-part-least n l = omega (arith, length-take n l)
+-- one that is not refused had it
+started-fits : (file : List ℕ) (t : Table) (b : Buffers) → codeFile file ≡ gives t → start file b .answer ≡ gives fresh → fitsStart t (lengthsOf b) ≡ true
+unfolding start must
+started-fits file t b isFile e = go (fitsStart t (lengthsOf b)) (ap (λ a. startBy b a .answer) (sym (then-of (codeFile file) t (λ x. must (fitsStart x (lengthsOf b)) bufferShort (gives x)) isFile)) ∙ e)
+  where
+    go : (z : Bool) → startBy b (must z bufferShort (gives t)) .answer ≡ gives fresh → z ≡ true
+    go true q = refl
+    go false q = absurd (refused≢gives q)
 
 module _ (file : List ℕ) (t : Table) (b : Buffers) (f : FreshStart file t b) where
-  on-parts : Zeroed t (take (f .lent .copies) (b .copies)) (take (f .lent .offsets) (b .offsets)) (startOn file (f .lent) b)
-  on-parts = zeroed file t (take (f .lent .copies) (b .copies)) (take (f .lent .offsets) (b .offsets)) (f .isTable) (f .started)
+  on-parts : fitsStart t (lengthsOf (partOf (f .lent) b)) ≡ true
+  on-parts = started-fits file t (partOf (f .lent) b) (f .isTable) (f .started)
 
-  at-start : Zeroed t (b .copies) (b .offsets) (start file (b .copies) (b .offsets))
-  at-start =
-      let h = le-trans (on-parts .room .0) (part-least (f .lent .copies) (b .copies)) in
-      let k = le-trans (on-parts .room .1) (part-least (f .lent .offsets) (b .offsets)) in
-      let e = started-on file t (f .isTable) (b .copies) (b .offsets) h k in
-      record { room = (h, k); copies = ap (λ s. s .copies) e; offsets = ap (λ s. s .offsets) e }
+  part-size : (x : Buffer) → lengthsOf (partOf (f .lent) b) x ≡ length (take (f .lent x) (the x b))
+  part-size x = ap length (the-each (λ x. take (f .lent x) (the x b)) x)
 
-  fits-in : (n : ℕ) (l : List ℤ) → edgesOf t ≤ length (take n l) → length (zeros (edgesOf t)) ≤ n
-  fits-in n l h = omega (arith, zeros-length (edgesOf t), length-take n l)
+  on-whole : fitsStart t (lengthsOf b) ≡ true
+  on-whole = fits-start t (lengthsOf (partOf (f .lent) b)) (lengthsOf b) (λ x. least (f .lent x) (the x b) (part-size x)) on-parts
+    where
+      least : {A : Type 0} {k : ℕ} (n : ℕ) (l : List A) → k ≡ length (take n l) → k ≤ length l
+      least n l e = omega (arith, length-take n l)
+
+  on-lent : fitsStart t (f .lent) ≡ true
+  on-lent = fits-start t (lengthsOf (partOf (f .lent) b)) (f .lent) (λ x. least (f .lent x) (the x b) (part-size x)) on-parts
+    where
+      least : {A : Type 0} {k : ℕ} (n : ℕ) (l : List A) → k ≡ length (take n l) → k ≤ n
+      least n l e = omega (arith, length-take n l)
+
+  at-start : start file b ≡ record { answer = gives fresh; buffers = write (zeroing t) b }
+  at-start = started-on file t b (f .isTable) on-whole
 
   -- what a start that is lent parts leaves in the whole is what it would leave if it were lent the whole
-  pub started-copies : over (startOn file (f .lent) b .copies) (b .copies) ≡ start file (b .copies) (b .offsets) .copies
-  started-copies = ap (λ x. over x (b .copies)) (on-parts .copies) ∙ over-lent (f .lent .copies) (zeros (edgesOf t)) (b .copies) (fits-in (f .lent .copies) (b .copies) (on-parts .room .0)) ∙ sym (at-start .copies)
-
-  pub started-offsets : over (startOn file (f .lent) b .offsets) (b .offsets) ≡ start file (b .copies) (b .offsets) .offsets
-  started-offsets = ap (λ x. over x (b .offsets)) (on-parts .offsets) ∙ over-lent (f .lent .offsets) (zeros (edgesOf t)) (b .offsets) (fits-in (f .lent .offsets) (b .offsets) (on-parts .room .1)) ∙ sym (at-start .offsets)
-
-  zero-part : (x old : List ℤ) → x ≡ over (zeros (edgesOf t)) old → take (edgesOf t) x ≡ zeros (edgesOf t)
-  zero-part x old e = ap (take (edgesOf t)) e ∙ take-over (edgesOf t) (zeros (edgesOf t)) old (zeros-length (edgesOf t))
-
-  zero-length : (x old : List ℤ) → x ≡ over (zeros (edgesOf t)) old → edgesOf t ≤ length old → length x ≡ length old
-  zero-length x old e h = ap length e ∙ over-length (zeros (edgesOf t)) old (subst (λ n. n ≤ length old) (sym (zeros-length (edgesOf t))) h)
+  pub started-back : overAll (startOn file (f .lent) b .buffers) b ≡ start file b .buffers
+  started-back = ap (λ s. overAll (s .buffers) b) (started-on file t (partOf (f .lent) b) (f .isTable) on-parts)
+      ∙ write-lent (f .lent) (zeroing t) b (zeroing-small t (f .lent) on-lent) ∙ ap (λ s. s .buffers) (sym at-start)
 
   -- its copies and offsets are zero
   pub started-state : stateIn t (startedRun file b .buffers) ≡ record { copies = zeros (edgesOf t); offsets = zeros (edgesOf t) }
-  started-state = ap₂ (λ z y. record { copies = z; offsets = y }) (zero-part (start file (b .copies) (b .offsets) .copies) (b .copies) (at-start .copies))
-      (zero-part (start file (b .copies) (b .offsets) .offsets) (b .offsets) (at-start .offsets))
+  started-state = ap (λ s. stateIn t (s .buffers)) at-start ∙ ap₂ (λ z y. record { copies = z; offsets = y }) (front (b .copies)) (front (b .offsets))
+    where
+      front : (l : List ℤ) → take (edgesOf t) (over (replicate (edgesOf t) (pos 0)) l) ≡ replicate (edgesOf t) (pos 0)
+      front l = take-over (edgesOf t) (replicate (edgesOf t) (pos 0)) l (length-replicate (edgesOf t) (pos 0))
 
   -- its buffers are as long as they were
   pub started-lengths : lengthsOf (startedRun file b .buffers) ≡ lengthsOf b
-  started-lengths = ap₂ (λ z y. record { spins = length (b .spins); copies = z; offsets = y; multipliers = length (b .multipliers); masks = length (b .masks); word = length (b .word); certificate = length (b .certificate) })
-      (zero-length (start file (b .copies) (b .offsets) .copies) (b .copies) (at-start .copies) (at-start .room .0))
-      (zero-length (start file (b .copies) (b .offsets) .offsets) (b .offsets) (at-start .offsets) (at-start .room .1))
+  started-lengths = ap (λ s. lengthsOf (s .buffers)) at-start ∙ past-lengths (lengthsOf b) (write (zeroing t) b) b (write-past (lengthsOf b) (zeroing t) b (zeroing-small t (lengthsOf b) on-whole) (part-refl (lengthsOf b)))
 
 -- ---- so it is safe
 pub zeros-within : (m e : ℕ) → AllWithin m (zeros e)

@@ -12,11 +12,11 @@ use Rattle.rules.specs.Table.{Table}
 use Rattle.rules.specs.CodeFile.{codeFile}
 use Rattle.rules.specs.Input.{eachWithin, onFrame}
 use Rattle.rules.specs.Round.{round}
-use Rattle.rules.specs.Buffers.{Lengths, lengthsOf, needs, fits}
+use Rattle.rules.specs.Buffers.{Lengths, lengthsOf, needs, fits, Part}
 use Rattle.rules.specs.Run.{Status, running, certified, spent, Run, moved, tooLarge, nextBy, stateIn, next, iterate, isRunning, sound, admits, Called, refusedAt, perform, ranOn, callOn, callBy, call}
 use Rattle.rules.specs.Calls.{Call, lend, giveBack, lentCall, callList}
 use Rattle.rules.proofs.AnswerLaws.{refused≢gives, must-false}
-use Rattle.rules.proofs.BufferLaws.{Part, part-trans, fits-part, lengths-part, over-same, past-lengths, over-parts}
+use Rattle.rules.proofs.BufferLaws.{part-trans, fits-part, lengths-part, over-same, past-lengths, over-parts}
 use Rattle.rules.proofs.RoundSizes.{round-sized, state-part, written-part}
 use Rattle.rules.proofs.Runs.{coming, held-start, iterate-held}
 

@@ -14,7 +14,8 @@ use lib.ListN.{take}
 use lib.IntN.{ℤ}
 use Rattle.rules.specs.Refusal.{Answer, refused, gives, multiplierLarge}
 use Rattle.rules.specs.Table.{Table, checksOf}
-use Rattle.rules.specs.Run.{Status, running, certified, spent, Run, bytesOf, next, iterate, admits, answerAt, Called, perform, callOn}
+use Rattle.rules.specs.Buffers.{bytesOf}
+use Rattle.rules.specs.Run.{Status, running, certified, spent, Run, next, iterate, admits, answerAt, Called, perform, callOn}
 use Rattle.rules.specs.Calls.{Call, wantedBy, wantedIn, Certifies, here, later}
 use Rattle.rules.proofs.AnswerLaws.{refused≢gives, gives-inj}
 use Rattle.rules.proofs.Lends.{callsOn}

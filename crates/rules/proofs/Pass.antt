@@ -15,7 +15,7 @@ use Rattle.rules.specs.Parity.{odd, Alike}
 use Rattle.rules.specs.Step.{Entry, inactive, active, Step, step}
 use Rattle.rules.specs.Bound.{Row, rowsOf}
 use Rattle.rules.specs.Round.{State, spin, values, pass, copiesIn, offsetsIn, entriesIn}
-use Rattle.rules.specs.Run.{multiplierOf}
+use Rattle.rules.specs.Buffers.{multiplierOf}
 use Rattle.rules.proofs.Signs.{alike-sym, alike-trans, alike-length}
 use Rattle.rules.proofs.Steps.{Proper, Shape, step-shape}
 

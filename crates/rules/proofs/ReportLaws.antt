@@ -1,6 +1,6 @@
 -- A frame's line on blank buffers that are longer than they need be; and the agreement of a word that was judged can be asked for. Assumes nothing.
 use mathlib.Core.Path.{_≡_, refl, sym, _∙_, ap, ap₂, subst}
-use mathlib.Core.Bool.{true, _&&_}
+use mathlib.Core.Bool.{Bool, true, false, not, _&&_, _||_}
 use mathlib.Core.List.{List, _∷_}
 use Prim.Native.Nat.{ℕ, zero, suc, _+_, _*_, _≤_}
 use native.Mathlib.Omega.{arith}
@@ -18,68 +18,39 @@ use Rattle.rules.specs.CodeFile.{codeFile}
 use Rattle.rules.specs.Parity.{agreement}
 use Rattle.rules.specs.Input.{eachWithin, onFrame, eachBit, onWord, bitsOf}
 use Rattle.rules.specs.Judge.{Verdict, judge, agreementOf}
-use Rattle.rules.specs.Buffers.{Buffers, Lengths, lengthsOf, needs, fits, partOf, over}
-use Rattle.rules.specs.Run.{Status, running, certified, spent, fresh, Run, stateIn, iterate, isRunning, sound, admits, Called, perform, callOn, callBy, call, start, zeros}
+use Rattle.rules.specs.Buffers.{Buffer, word, certificate, nought, Buffers, the, Lengths, lengthsOf, Part, needs, blank, partOf, over, write, zeroed, fitsStart, zeroing}
+use Rattle.rules.specs.Run.{Status, running, certified, spent, fresh, Run, stateIn, iterate, isRunning, sound, admits, Called, perform, callOn, callBy, call, start}
 use Rattle.rules.specs.Calls.{lend, giveBack, lentCall, startedRun}
-use Rattle.rules.specs.Report.{Line, refusedLine, certifiedLine, lineAt, blank, lineBy, frameLine}
+use Rattle.rules.specs.Report.{Line, refusedLine, certifiedLine, lineAt, lineBy, frameLine}
 use Rattle.rules.proofs.AnswerLaws.{must-gives, must-true, then-of}
-use Rattle.rules.proofs.BufferLaws.{Part, take-over, over-take, over-length, buffers-eq, lengths-part, past-lengths}
+use Rattle.rules.proofs.BufferLaws.{take-over, the-each, buffers-eq, true-every, part-refl, part-fits, lengths-part, past-lengths, write-past, write-part}
 use Rattle.rules.proofs.Runs.{held-start, iterate-held}
 use Rattle.rules.proofs.Lends.{lent-call}
-use Rattle.rules.proofs.Fresh.{zeros-length, started-on}
+use Rattle.rules.proofs.Fresh.{zeroing-small, started-on}
 
 -- ---- a start on longer buffers
-part-fits : (a b : Lengths) → Part a b → fits a b ≡ true
-unfolding fits
-part-fits a b h = simp (
-  le-leb (a .spins) (b .spins) (h .spins),
-  le-leb (a .copies) (b .copies) (h .copies),
-  le-leb (a .offsets) (b .offsets) (h .offsets),
-  le-leb (a .multipliers) (b .multipliers) (h .multipliers),
-  le-leb (a .masks) (b .masks) (h .masks),
-  le-leb (a .word) (b .word) (h .word),
-  le-leb (a .certificate) (b .certificate) (h .certificate),
-)
-
-part-refl : (a : Lengths) → Part a a
-part-refl a = omega arith
-
 module _ (file : List ℕ) (t : Table) (isFile : codeFile file ≡ gives t) where
-  module _ (b : Buffers) (long : Part (needs t) (lengthsOf b)) where
-    at-start : start file (b .copies) (b .offsets) ≡ record { answer = gives fresh; copies = over (zeros (edgesOf t)) (b .copies); offsets = over (zeros (edgesOf t)) (b .offsets) }
-    at-start = started-on file t isFile (b .copies) (b .offsets) (long .copies) (long .offsets)
+  enough : (n : Lengths) → Part (needs t) n → fitsStart t n ≡ true
+  unfolding fitsStart
+  enough n h = true-every (λ x. not (zeroed x) || leb (needs t x) (n x)) (λ x. go (zeroed x) (le-leb (needs t x) (n x) (h x)))
+    where
+      go : (z : Bool) {b : Bool} → b ≡ true → not z || b ≡ true
+      go true e = e
+      go false e = refl
 
-    started-length : (x old : List ℤ) → x ≡ over (zeros (edgesOf t)) old → edgesOf t ≤ length old → edgesOf t ≤ length x
-    started-length x old e h = omega (arith, ap length e, over-length (zeros (edgesOf t)) old (omega (arith, zeros-length (edgesOf t))))
+  module _ (b : Buffers) (long : Part (needs t) (lengthsOf b)) where
+    at-start : start file b ≡ record { answer = gives fresh; buffers = write (zeroing t) b }
+    at-start = started-on file t b isFile (enough (lengthsOf b) long)
 
     started-long : Part (needs t) (lengthsOf (startedRun file b .buffers))
-    started-long = record {
-      spins = long .spins;
-      copies = started-length (start file (b .copies) (b .offsets) .copies) (b .copies) (ap (λ s. s .copies) at-start) (long .copies);
-      offsets = started-length (start file (b .copies) (b .offsets) .offsets) (b .offsets) (ap (λ s. s .offsets) at-start) (long .offsets);
-      multipliers = long .multipliers;
-      masks = long .masks;
-      word = long .word;
-      certificate = long .certificate;
-    }
+    started-long = subst (Part (needs t)) (sym (ap (λ s. lengthsOf (s .buffers)) at-start
+        ∙ past-lengths (needs t) (write (zeroing t) b) b (write-past (needs t) (zeroing t) b (zeroing-small t (needs t) (enough (needs t) (part-refl (needs t)))) long))) long
 
     -- a start on the parts that are needed is the part of a start on the whole
-    part-of-start : (z : List ℤ) → over (zeros (edgesOf t)) (take (edgesOf t) z) ≡ take (edgesOf t) (over (zeros (edgesOf t)) z)
-    part-of-start z = over-take (edgesOf t) (zeros (edgesOf t)) z (omega (arith, zeros-length (edgesOf t)))
-
-    room : (z : List ℤ) → edgesOf t ≤ length z → edgesOf t ≤ length (take (edgesOf t) z)
-    room z h = omega (arith, length-take (edgesOf t) z)
-
-    on-parts : start file (take (edgesOf t) (b .copies)) (take (edgesOf t) (b .offsets))
-        ≡ record { answer = gives fresh; copies = over (zeros (edgesOf t)) (take (edgesOf t) (b .copies)); offsets = over (zeros (edgesOf t)) (take (edgesOf t) (b .offsets)) }
-    on-parts = started-on file t isFile (take (edgesOf t) (b .copies)) (take (edgesOf t) (b .offsets)) (room (b .copies) (long .copies)) (room (b .offsets) (long .offsets))
-
     started-part : startedRun file (partOf (needs t) b) ≡ lend (needs t) (startedRun file b)
     started-part = ap (λ x. record { progress = fresh; buffers = x })
-        (buffers-eq refl
-        (ap (λ s. s .copies) on-parts ∙ part-of-start (b .copies) ∙ ap (λ s. take (edgesOf t) (s .copies)) (sym at-start))
-        (ap (λ s. s .offsets) on-parts ∙ part-of-start (b .offsets) ∙ ap (λ s. take (edgesOf t) (s .offsets)) (sym at-start))
-        refl refl refl refl)
+        (ap (λ s. s .buffers) (started-on file t (partOf (needs t) b) isFile (enough (lengthsOf (partOf (needs t) b)) (subst (Part (needs t)) (sym (lengths-part (needs t) b long)) (part-refl (needs t)))))
+        ∙ write-part (needs t) (zeroing t) b (zeroing-small t (needs t) (enough (needs t) (part-refl (needs t)))) ∙ ap (λ s. partOf (needs t) (s .buffers)) (sym at-start))
 
   -- ---- a call keeps the lengths of buffers that are long enough, and does to the whole what it does to the parts that are needed
   call-lengths : (l : List ℤ) (v : ℕ) (r : Run) → Part (needs t) (lengthsOf (r .buffers)) → lengthsOf (call file l v r .run .buffers) ≡ lengthsOf (r .buffers)
@@ -115,8 +86,8 @@ line-back t l d r e = go (d .answer)
     go (refused k) = refl
     go (gives running) = refl
     go (gives certified) = ap₂ (λ w q. certifiedLine (d .run .progress .rounds) (agreement (t .bits) l (bitsOf w)) q)
-        (take-over (t .bits) (d .run .buffers .word) (r .buffers .word) (ap (λ n. n .word) e) ∙ sym (take-all (t .bits) (d .run .buffers .word) (omega (arith, ap (λ n. n .word) e))))
-        (u16-front (d .run .buffers .certificate) (r .buffers .certificate) (omega (arith, ap (λ n. n .certificate) e)))
+        (take-over (t .bits) (d .run .buffers .word) (r .buffers .word) (ap (λ n. n word) e) ∙ sym (take-all (t .bits) (d .run .buffers .word) (omega (arith, ap (λ n. n word) e))))
+        (u16-front (d .run .buffers .certificate) (r .buffers .certificate) (omega (arith, ap (λ n. n certificate) e)))
     go (gives spent) = refl
 
 -- the part of a blank buffer is blank
@@ -126,23 +97,11 @@ take-replicate (suc n) zero a h = absurd (omega arith)
 take-replicate (suc n) (suc k) a h = ap (λ l. a ∷ l) (take-replicate n k a (le-of-suc-le-suc h))
 
 blank-part : (n g : Lengths) → Part n g → partOf n (blank g) ≡ blank n
-blank-part n g h = buffers-eq (take-replicate (n .spins) (g .spins) (pos 0) (h .spins)) (take-replicate (n .copies) (g .copies) (pos 0) (h .copies))
-    (take-replicate (n .offsets) (g .offsets) (pos 0) (h .offsets)) (take-replicate (n .multipliers) (g .multipliers) 0 (h .multipliers))
-    (take-replicate (n .masks) (g .masks) 0 (h .masks)) (take-replicate (n .word) (g .word) 0 (h .word)) (take-replicate (n .certificate) (g .certificate) 0 (h .certificate))
+blank-part n g h = buffers-eq (λ x. the-each (λ x. take (n x) (the x (blank g))) x ∙ ap (take (n x)) (the-each (λ x. replicate (g x) (nought x)) x)
+    ∙ take-replicate (n x) (g x) (nought x) (h x) ∙ sym (the-each (λ x. replicate (n x) (nought x)) x))
 
 blank-long : (n g : Lengths) → Part n g → Part n (lengthsOf (blank g))
-blank-long n g h = record {
-  spins = long (n .spins) (g .spins) (pos 0) (h .spins);
-  copies = long (n .copies) (g .copies) (pos 0) (h .copies);
-  offsets = long (n .offsets) (g .offsets) (pos 0) (h .offsets);
-  multipliers = long (n .multipliers) (g .multipliers) 0 (h .multipliers);
-  masks = long (n .masks) (g .masks) 0 (h .masks);
-  word = long (n .word) (g .word) 0 (h .word);
-  certificate = long (n .certificate) (g .certificate) 0 (h .certificate);
-}
-  where
-    long : {A : Type 0} (n k : ℕ) (a : A) → n ≤ k → n ≤ length (replicate k a)
-    long n k a h = subst (λ x. n ≤ x) (sym (length-replicate k a)) h
+blank-long n g h x = subst (λ k. n x ≤ k) (sym (ap length (the-each (λ x. replicate (g x) (nought x)) x) ∙ length-replicate (g x) (nought x))) (h x)
 
 -- ---- blank buffers of any lengths that are enough give the same line
 pub blank-line : (file : List ℕ) (t : Table) (l : List ℤ) (g : Lengths) → codeFile file ≡ gives t → Part (needs t) g
@@ -151,10 +110,10 @@ unfolding frameLine lineIn
 blank-line file t l g isFile h =
     let long = blank-long (needs t) g h in
     let r = startedRun file (blank g) in
-    let enough = started-long file t isFile (blank g) long in
-    let sized = lengths-part (needs t) (r .buffers) enough in
+    let roomy = started-long file t isFile (blank g) long in
+    let sized = lengths-part (needs t) (r .buffers) roomy in
     let parts = lend (needs t) r in
-    ap (lineIn t l) (long-call file t isFile l roundLimit r enough)
+    ap (lineIn t l) (long-call file t isFile l roundLimit r roomy)
     ∙ line-back t l (call file l roundLimit parts) r (call-lengths file t isFile l roundLimit parts (subst (Part (needs t)) (sym sized) (part-refl (needs t))) ∙ sized)
     ∙ ap (λ x. lineIn t l (call file l roundLimit x)) (sym (started-part file t isFile (blank g) long))
     ∙ ap (λ b. lineIn t l (call file l roundLimit (startedRun file b))) (blank-part (needs t) g h)

@@ -5,7 +5,7 @@ use mathlib.Core.List.{List, [], _∷_}
 use mathlib.Core.Option.{Option, some, none}
 use Prim.Native.Nat.{ℕ, zero, suc, _+_, _*_, _≤_}
 use native.Mathlib.Omega.{arith}
-use native.Mathlib.Nat.{le-of-eq, le-trans}
+use native.Mathlib.Nat.{le-of-eq, le-refl, le-trans}
 use lib.ListN.{length, take}
 use lib.Seq.{take-take}
 use lib.IntN.{ℤ}
@@ -16,14 +16,14 @@ use Rattle.rules.specs.Step.{Entry}
 use Rattle.rules.specs.Bound.{Row, rowsOf, gap}
 use Rattle.rules.specs.Round.{State, entriesIn, bitOf, join, candidate, isZero, certify, firstOf, Round, round}
 use Rattle.rules.specs.Certificate.{cutsIn, certificateOf}
-use Rattle.rules.specs.Buffers.{Buffers, Lengths, lengthsOf, needs, partOf}
-use Rattle.rules.specs.Run.{multipliersOf, masksOf, bytesOf, overWord, overCertificate, written, stateIn}
+use Rattle.rules.specs.Buffers.{Buffer, copies, offsets, Elem, Buffers, Lengths, lengthsOf, Part, needs, partOf, multipliersOf, masksOf, bytesOf, wordLeft, certificateLeft, leaves}
+use Rattle.rules.specs.Run.{written, stateIn}
 use Rattle.rules.proofs.Basics.{none≢some, some-inj}
 use Rattle.rules.proofs.Pass.{spinsIn, stepsIn, steps-laid, entries-length, copies-length, offsets-length}
 use Rattle.rules.proofs.Optimal.{keep-is}
 use Rattle.rules.proofs.Written.{cuts-few, certificate-length}
 use Rattle.rules.proofs.WrittenPasses.{bytes-length}
-use Rattle.rules.proofs.BufferLaws.{Past, past-refl, past-over, take-over, over-take, Part, buffers-eq, AllPast}
+use Rattle.rules.proofs.BufferLaws.{take-over, by-name, AllPast, Small, write-past, write-part}
 
 -- ---- lengths
 pub first-length : (n : ℕ) (f : ℕ → ℤ) → length (firstOf n f) ≡ n
@@ -82,24 +82,33 @@ round-sized t l s = record {
     room a c n m p q r = omega arith
 
 -- ---- what writing leaves
-word-past : (n : ℕ) (o : Option (List Bool)) (old : List ℕ) → ((w : List Bool) → o ≡ some w → length (bytesOf w) ≡ n) → n ≤ length old → Past n (overWord o old) old
-word-past n none old h k = past-refl n old
-word-past n (some w) old h k = past-over n (bytesOf w) old (le-of-eq (h w refl)) k
+upTo : {a b c : ℕ} → a ≡ b → b ≤ c → a ≤ c
+upTo e h = le-trans (le-of-eq e) h
 
-certificate-past : (n : ℕ) (o : Option (List Bool)) (es : List Entry) (old : List ℕ) → length (certificateOf es) ≤ n → n ≤ length old → Past n (overCertificate o es old) old
-certificate-past n none es old h k = past-refl n old
-certificate-past n (some w) es old h k = past-over n (certificateOf es) old h k
+word-small : (n : ℕ) (o : Option (List Bool)) → ((w : List Bool) → o ≡ some w → length (bytesOf w) ≡ n) → (new : List ℕ) → wordLeft o ≡ some new → length new ≤ n
+word-small n none h new e = absurd (none≢some e)
+word-small n (some w) h new e = upTo (ap length (sym (some-inj (bytesOf w) new e)) ∙ h w refl) (le-refl n)
+
+certificate-small : (n : ℕ) (o : Option (List Bool)) (es : List Entry) → length (certificateOf es) ≤ n → (new : List ℕ) → certificateLeft o es ≡ some new → length new ≤ n
+certificate-small n none es h new e = absurd (none≢some e)
+certificate-small n (some w) es h new e = upTo (ap length (sym (some-inj (certificateOf es) new e))) h
+
+all-small : {A : Type 0} (n : ℕ) (l : List A) → length l ≡ n → (new : List A) → some l ≡ some new → length new ≤ n
+all-small n l h new e = upTo (ap length (sym (some-inj l new e)) ∙ h) (le-refl n)
+
+-- what a round writes fits
+pub leaves-small : (t : Table) (d : Round) → Sized t d → Small (needs t) (leaves d)
+leaves-small t d s = by-name (λ x. (new : List (Elem x)) → leaves d x ≡ some new → length new ≤ needs t x)
+    (all-small (t .bits) (d .spins) (s .spins))
+    (all-small (edgesOf t) (d .state .copies) (s .copies))
+    (all-small (edgesOf t) (d .state .offsets) (s .offsets))
+    (all-small (checksOf t) (multipliersOf (d .entries)) (s .multipliers))
+    (all-small (checksOf t) (masksOf (d .entries)) (s .masks))
+    (word-small (t .bits) (d .word) (s .word))
+    (certificate-small (certificateLength (checksOf t)) (d .word) (d .entries) (s .certificate))
 
 pub written-past : (t : Table) (d : Round) (b : Buffers) → Sized t d → Part (needs t) (lengthsOf b) → AllPast (needs t) (written d b) b
-written-past t d b s h = record {
-  spins = past-over (t .bits) (d .spins) (b .spins) (le-of-eq (s .spins)) (h .spins);
-  copies = past-over (edgesOf t) (d .state .copies) (b .copies) (le-of-eq (s .copies)) (h .copies);
-  offsets = past-over (edgesOf t) (d .state .offsets) (b .offsets) (le-of-eq (s .offsets)) (h .offsets);
-  multipliers = past-over (checksOf t) (multipliersOf (d .entries)) (b .multipliers) (le-of-eq (s .multipliers)) (h .multipliers);
-  masks = past-over (checksOf t) (masksOf (d .entries)) (b .masks) (le-of-eq (s .masks)) (h .masks);
-  word = word-past (t .bits) (d .word) (b .word) (s .word) (h .word);
-  certificate = certificate-past (certificateLength (checksOf t)) (d .word) (d .entries) (b .certificate) (s .certificate) (h .certificate);
-}
+written-past t d b s h = write-past (needs t) (leaves d) b (leaves-small t d s) h
 
 state-eq : {a b y z : List ℤ} → a ≡ b → y ≡ z → _≡_ {A = State} (record { copies = a; offsets = y }) (record { copies = b; offsets = z })
 state-eq p q = λ i. record { copies = p i; offsets = q i }
@@ -110,25 +119,7 @@ state-written t d b s = state-eq (take-over (edgesOf t) (d .state .copies) (b .c
 
 -- ---- and a part that is long enough
 pub state-part : (t : Table) (n : Lengths) (b : Buffers) → Part (needs t) n → stateIn t (partOf n b) ≡ stateIn t b
-state-part t n b h = state-eq (take-take (edgesOf t) (n .copies) (b .copies) (h .copies)) (take-take (edgesOf t) (n .offsets) (b .offsets) (h .offsets))
-
-word-part : (n : ℕ) (o : Option (List Bool)) (old : List ℕ) → ((w : List Bool) → o ≡ some w → length (bytesOf w) ≤ n) → overWord o (take n old) ≡ take n (overWord o old)
-word-part n none old h = refl
-word-part n (some w) old h = over-take n (bytesOf w) old (h w refl)
-
-certificate-part : (n : ℕ) (o : Option (List Bool)) (es : List Entry) (old : List ℕ) → length (certificateOf es) ≤ n → overCertificate o es (take n old) ≡ take n (overCertificate o es old)
-certificate-part n none es old h = refl
-certificate-part n (some w) es old h = over-take n (certificateOf es) old h
+state-part t n b h = state-eq (take-take (edgesOf t) (n copies) (b .copies) (h copies)) (take-take (edgesOf t) (n offsets) (b .offsets) (h offsets))
 
 pub written-part : (t : Table) (d : Round) (n : Lengths) (b : Buffers) → Sized t d → Part (needs t) n → written d (partOf n b) ≡ partOf n (written d b)
-written-part t d n b s h = buffers-eq
-    (over-take (n .spins) (d .spins) (b .spins) (upTo (s .spins) (h .spins)))
-    (over-take (n .copies) (d .state .copies) (b .copies) (upTo (s .copies) (h .copies)))
-    (over-take (n .offsets) (d .state .offsets) (b .offsets) (upTo (s .offsets) (h .offsets)))
-    (over-take (n .multipliers) (multipliersOf (d .entries)) (b .multipliers) (upTo (s .multipliers) (h .multipliers)))
-    (over-take (n .masks) (masksOf (d .entries)) (b .masks) (upTo (s .masks) (h .masks)))
-    (word-part (n .word) (d .word) (b .word) (λ w e. upTo (s .word w e) (h .word)))
-    (certificate-part (n .certificate) (d .word) (d .entries) (b .certificate) (le-trans (s .certificate) (h .certificate)))
-  where
-    upTo : {a b c : ℕ} → a ≡ b → b ≤ c → a ≤ c
-    upTo e h = le-trans (le-of-eq e) h
+written-part t d n b s h = write-part n (leaves d) b (λ x new e. le-trans (leaves-small t d s x new e) (h x))

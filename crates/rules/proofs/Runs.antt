@@ -20,11 +20,11 @@ use Rattle.rules.specs.Table.{Table, edges}
 use Rattle.rules.specs.Input.{eachWithin}
 use Rattle.rules.specs.Step.{Entry}
 use Rattle.rules.specs.Round.{State, spin, offsetsIn, entriesIn, Round, round}
-use Rattle.rules.specs.Buffers.{Buffers, lengthsOf, needs}
-use Rattle.rules.specs.Run.{Status, running, certified, spent, Run, multiplierOf, statusAt, moved, tooLarge, nextBy, stateIn, next, iterate, sound, written}
+use Rattle.rules.specs.Buffers.{Buffers, lengthsOf, needs, multiplierOf, Part}
+use Rattle.rules.specs.Run.{Status, running, certified, spent, Run, statusAt, moved, tooLarge, nextBy, stateIn, next, iterate, sound, written}
 use Rattle.rules.proofs.Pass.{spinsIn, stepsIn, steps-laid, copies-within, offsets-within, AtMost, multipliers-within}
 use Rattle.rules.proofs.RoundSizes.{round-sized, state-written, written-past}
-use Rattle.rules.proofs.BufferLaws.{Part, AllPast, all-past-refl, all-past-trans, past-lengths}
+use Rattle.rules.proofs.BufferLaws.{AllPast, all-past-refl, all-past-trans, past-lengths}
 
 -- the round that comes next
 abbrev pub coming : Table → List ℤ → Run → Round

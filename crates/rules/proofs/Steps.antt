@@ -13,7 +13,7 @@ use Rattle.integers.specs.Sum.{AllWithin}
 use Rattle.rules.specs.Parity.{_⊕_, turn, side, plus, turns, odd, Alike, left}
 use Rattle.rules.specs.Cut.{cut}
 use Rattle.rules.specs.Step.{clips, move, moves, short, lastWhere, multiplier, Entry, inactive, active, Step, minus, settle, stepBy, step}
-use Rattle.rules.specs.Run.{multiplierOf}
+use Rattle.rules.specs.Buffers.{multiplierOf}
 use Rattle.rules.proofs.Signs.{turn-sum, turn-diff, turn-side, clip-turn, left-turn, alike-sym, alike-trans}
 use Rattle.rules.proofs.CutRule.{cut-sound, cut-turns, plusO}
 use Rattle.rules.proofs.Multiplier.{multiplier-least}

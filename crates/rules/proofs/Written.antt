@@ -12,7 +12,7 @@ use Rattle.rules.specs.Limits.{certificateLength}
 use Rattle.rules.specs.Mask.{maskOf}
 use Rattle.rules.specs.Step.{Entry, inactive, active}
 use Rattle.rules.specs.Certificate.{cutsIn, contentBytes, bodyBytes, certificateOf, Item, itemsAt, entriesOf, scaleOf, itemsOf}
-use Rattle.rules.specs.Run.{multiplierOf, maskIn}
+use Rattle.rules.specs.Buffers.{multiplierOf, maskIn}
 
 -- ---- how long it is
 pub cuts-few : (es : List Entry) → cutsIn es ≤ length es

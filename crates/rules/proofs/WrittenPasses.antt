@@ -24,7 +24,8 @@ use Rattle.rules.specs.Step.{Entry, inactive, active}
 use Rattle.rules.specs.Bound.{Row, rowsOf}
 use Rattle.rules.specs.Certificate.{cutsIn, certificateOf, Item, membersAt, follows, onItem, onItems, entriesOf, scaleOf, itemsOf, onCertificate, rowsAt}
 use Rattle.rules.specs.Judge.{passes, verdict, judge, weigh}
-use Rattle.rules.specs.Run.{bytesOf, tooLarge}
+use Rattle.rules.specs.Buffers.{bytesOf}
+use Rattle.rules.specs.Run.{tooLarge}
 use Rattle.rules.proofs.Basics.{or-false}
 use Rattle.rules.proofs.Signs.{alike-length}
 use Rattle.rules.proofs.Masks.{digit-back, set-mask, mask-below, set-right}

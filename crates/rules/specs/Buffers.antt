@@ -1,13 +1,47 @@
--- The lent buffers of a run: which there are, how long each must be, a part of each, and a part written back (document 01, "41 a lent buffer too
--- short" and "Bytes past the stated lengths never change"). A new buffer is added in this file. Definitions only. Assumes nothing.
-use mathlib.Core.Bool.{Bool, _&&_}
-use mathlib.Core.List.{List, _++_}
-use Prim.Native.Nat.{ℕ}
+-- The lent buffers of a run, each told once: its name, what it holds, how long it must be, whether a start zeroes it, and what a round writes to it
+-- (document 01, "41 a lent buffer too short", "Starting a run zeroes", "Bytes past the stated lengths never change"). A new buffer is one line more in
+-- each table here. Definitions only. Assumes nothing.
+use mathlib.Core.Bool.{Bool, true, false, cond, not, _&&_, _||_}
+use mathlib.Core.List.{List, [], _∷_, _++_}
+use mathlib.Core.Option.{Option, some, none}
+use Prim.Native.Nat.{ℕ, _≤_}
 use lib.Dec.{leb}
-use lib.ListN.{length, take, drop}
-use lib.IntN.{ℤ}
+use lib.ListN.{length, take, drop, replicate}
+use lib.IntN.{ℤ, pos}
 use Rattle.rules.specs.Limits.{certificateLength}
 use Rattle.rules.specs.Table.{Table, edgesOf, checksOf}
+use Rattle.rules.specs.Mask.{digit, maskOf}
+use Rattle.rules.specs.Step.{Entry, inactive, active}
+use Rattle.rules.specs.Round.{Round}
+use Rattle.rules.specs.Certificate.{certificateOf}
+
+-- ---- names, and what each holds
+pub data Buffer : Type 0 where
+  spins : Buffer
+  copies : Buffer
+  offsets : Buffer
+  multipliers : Buffer
+  masks : Buffer
+  word : Buffer
+  certificate : Buffer
+
+abbrev pub Elem : Buffer → Type 0
+Elem spins = ℤ
+Elem copies = ℤ
+Elem offsets = ℤ
+Elem multipliers = ℕ
+Elem masks = ℕ
+Elem word = ℕ
+Elem certificate = ℕ
+
+abbrev pub nought : (x : Buffer) → Elem x
+nought spins = pos 0
+nought copies = pos 0
+nought offsets = pos 0
+nought multipliers = 0
+nought masks = 0
+nought word = 0
+nought certificate = 0
 
 pub record Buffers : Type 0 where
   pub spins : List ℤ
@@ -18,67 +52,143 @@ pub record Buffers : Type 0 where
   pub word : List ℕ
   pub certificate : List ℕ
 
-pub record Lengths : Type 0 where
-  pub spins : ℕ
-  pub copies : ℕ
-  pub offsets : ℕ
-  pub multipliers : ℕ
-  pub masks : ℕ
-  pub word : ℕ
-  pub certificate : ℕ
+-- by its name; and all of them, each made from its name
+abbrev pub the : (x : Buffer) → Buffers → List (Elem x)
+the spins b = b .spins
+the copies b = b .copies
+the offsets b = b .offsets
+the multipliers b = b .multipliers
+the masks b = b .masks
+the word b = b .word
+the certificate b = b .certificate
+
+abbrev pub each : ((x : Buffer) → List (Elem x)) → Buffers
+each f = record {
+  spins = f spins;
+  copies = f copies;
+  offsets = f offsets;
+  multipliers = f multipliers;
+  masks = f masks;
+  word = f word;
+  certificate = f certificate;
+}
+
+abbrev pub every : (Buffer → Bool) → Bool
+every p = p spins && (p copies && (p offsets && (p multipliers && (p masks && (p word && p certificate)))))
+
+-- as a call is lent them, in the order of its parameters
+abbrev pub lent : List ℤ → List ℤ → List ℤ → List ℕ → List ℕ → List ℕ → List ℕ → Buffers
+lent p z y b k w c = record { spins = p; copies = z; offsets = y; multipliers = b; masks = k; word = w; certificate = c }
+
+-- ---- lengths
+abbrev pub Lengths : Type 0
+Lengths = Buffer → ℕ
 
 abbrev pub lengthsOf : Buffers → Lengths
-lengthsOf b = record {
-  spins = length (b .spins);
-  copies = length (b .copies);
-  offsets = length (b .offsets);
-  multipliers = length (b .multipliers);
-  masks = length (b .masks);
-  word = length (b .word);
-  certificate = length (b .certificate);
-}
+lengthsOf b x = length (the x b)
 
 -- "spins n; copies, offsets E; multipliers, masks m; word n; certificate 4 + 10m"
+abbrev pub needsBy : ℕ → ℕ → ℕ → Lengths
+needsBy n m e spins = n
+needsBy n m e copies = e
+needsBy n m e offsets = e
+needsBy n m e multipliers = m
+needsBy n m e masks = m
+needsBy n m e word = n
+needsBy n m e certificate = certificateLength m
+
 abbrev pub needs : Table → Lengths
-needs t = record {
-  spins = t .bits;
-  copies = edgesOf t;
-  offsets = edgesOf t;
-  multipliers = checksOf t;
-  masks = checksOf t;
-  word = t .bits;
-  certificate = certificateLength (checksOf t);
-}
+needs t = needsBy (t .bits) (checksOf t) (edgesOf t)
 
 -- each length of the first is at most the second's
-unfoldable pub fits : Lengths → Lengths → Bool
-fits a b =
-    leb (a .spins) (b .spins) && leb (a .copies) (b .copies) && leb (a .offsets) (b .offsets) && leb (a .multipliers) (b .multipliers)
-    && leb (a .masks) (b .masks) && leb (a .word) (b .word) && leb (a .certificate) (b .certificate)
+abbrev pub Part : Lengths → Lengths → Type 0
+Part a b = (x : Buffer) → a x ≤ b x
 
+unfoldable pub fits : Lengths → Lengths → Bool
+fits a b = every (λ x. leb (a x) (b x))
+
+abbrev pub blank : Lengths → Buffers
+blank n = each (λ x. replicate (n x) (nought x))
+
+-- ---- parts and writing
 -- the first part of each buffer
 abbrev pub partOf : Lengths → Buffers → Buffers
-partOf n b = record {
-  spins = take (n .spins) (b .spins);
-  copies = take (n .copies) (b .copies);
-  offsets = take (n .offsets) (b .offsets);
-  multipliers = take (n .multipliers) (b .multipliers);
-  masks = take (n .masks) (b .masks);
-  word = take (n .word) (b .word);
-  certificate = take (n .certificate) (b .certificate);
-}
+partOf n b = each (λ x. take (n x) (the x b))
 
 -- written from the front; what is past it stays
 abbrev pub over : {A : Type 0} → List A → List A → List A
 over new old = new ++ drop (length new) old
 
 abbrev pub overAll : Buffers → Buffers → Buffers
-overAll new old = record {
-  spins = over (new .spins) (old .spins);
-  copies = over (new .copies) (old .copies);
-  offsets = over (new .offsets) (old .offsets);
-  multipliers = over (new .multipliers) (old .multipliers);
-  masks = over (new .masks) (old .masks);
-  word = over (new .word) (old .word);
-  certificate = over (new .certificate) (old .certificate);
-}
+overAll new old = each (λ x. over (the x new) (the x old))
+
+-- what is written to each buffer; none where it is left alone
+abbrev pub Writes : Type 0
+Writes = (x : Buffer) → Option (List (Elem x))
+
+abbrev pub overBy : {A : Type 0} → Option (List A) → List A → List A
+overBy none old = old
+overBy (some new) old = over new old
+
+abbrev pub write : Writes → Buffers → Buffers
+write w b = each (λ x. overBy (w x) (the x b))
+
+-- ---- a start: "Starting a run zeroes the first E copies and offsets"
+abbrev pub zeroed : Buffer → Bool
+zeroed spins = false
+zeroed copies = true
+zeroed offsets = true
+zeroed multipliers = false
+zeroed masks = false
+zeroed word = false
+zeroed certificate = false
+
+-- the buffers that a start is lent, in the order of its parameters
+abbrev pub startLent : List ℤ → List ℤ → Buffers
+startLent z y = lent [] z y [] [] [] []
+
+-- 41 looks at those that it zeroes
+unfoldable pub fitsStart : Table → Lengths → Bool
+fitsStart t n = every (λ x. not (zeroed x) || leb (needs t x) (n x))
+
+abbrev pub zeroing : Table → Writes
+zeroing t x = cond (zeroed x) (some (replicate (needs t x) (nought x))) none
+
+-- ---- a round
+abbrev pub multiplierOf : Entry → ℕ
+multiplierOf inactive = 0
+multiplierOf (active b ts) = b
+
+abbrev pub multipliersOf : List Entry → List ℕ
+multipliersOf [] = []
+multipliersOf (e ∷ es) = multiplierOf e ∷ multipliersOf es
+
+abbrev pub maskIn : Entry → ℕ
+maskIn inactive = 0
+maskIn (active b ts) = maskOf ts
+
+abbrev pub masksOf : List Entry → List ℕ
+masksOf [] = []
+masksOf (e ∷ es) = maskIn e ∷ masksOf es
+
+abbrev pub bytesOf : List Bool → List ℕ
+bytesOf [] = []
+bytesOf (b ∷ bs) = digit b ∷ bytesOf bs
+
+-- "Certified writes word and certificate; other endings don't touch them"
+abbrev pub wordLeft : Option (List Bool) → Option (List ℕ)
+wordLeft none = none
+wordLeft (some w) = some (bytesOf w)
+
+abbrev pub certificateLeft : Option (List Bool) → List Entry → Option (List ℕ)
+certificateLeft none es = none
+certificateLeft (some w) es = some (certificateOf es)
+
+abbrev pub leaves : Round → Writes
+leaves d spins = some (d .spins)
+leaves d copies = some (d .state .copies)
+leaves d offsets = some (d .state .offsets)
+leaves d multipliers = some (multipliersOf (d .entries))
+leaves d masks = some (masksOf (d .entries))
+leaves d word = wordLeft (d .word)
+leaves d certificate = certificateLeft (d .word) (d .entries)

@@ -8,8 +8,8 @@ use lib.Dec.{eqb}
 use lib.ListN.{take}
 use lib.IntN.{ℤ}
 use Rattle.rules.specs.Refusal.{Answer, refused, gives, multiplierLarge}
-use Rattle.rules.specs.Buffers.{Buffers, Lengths, partOf, overAll}
-use Rattle.rules.specs.Run.{Status, certified, Run, Called, call, Started, start, fresh, bytesOf}
+use Rattle.rules.specs.Buffers.{Buffers, Lengths, partOf, overAll, bytesOf}
+use Rattle.rules.specs.Run.{Status, certified, Run, Called, call, Started, start, fresh}
 
 -- "A call in it may want any number of rounds, above 1,024 too, or be lent too short a part of a buffer"
 pub record Call : Type 0 where
@@ -31,28 +31,13 @@ abbrev pub callList : List ℕ → List ℤ → List Call → Run → List Calle
 callList file l [] r = []
 callList file l (x ∷ xs) r = lentCall file l x r ∷ callList file l xs (lentCall file l x r .run)
 
--- A start is lent first parts of copies and offsets.
-pub record StartLent : Type 0 where
-  pub copies : ℕ
-  pub offsets : ℕ
-
-abbrev pub startOn : List ℕ → StartLent → Buffers → Started
-startOn file n b = start file (take (n .copies) (b .copies)) (take (n .offsets) (b .offsets))
+-- A start is lent first parts too; it looks at those of the buffers that it zeroes.
+abbrev pub startOn : List ℕ → Lengths → Buffers → Started
+startOn file n b = start file (partOf n b)
 
 -- "The list begins at what the start left"
 abbrev pub startedRun : List ℕ → Buffers → Run
-startedRun file b = record {
-  progress = fresh;
-  buffers = record {
-    spins = b .spins;
-    copies = start file (b .copies) (b .offsets) .copies;
-    offsets = start file (b .copies) (b .offsets) .offsets;
-    multipliers = b .multipliers;
-    masks = b .masks;
-    word = b .word;
-    certificate = b .certificate;
-  };
-}
+startedRun file b = record { progress = fresh; buffers = start file b .buffers }
 
 -- "The rounds wanted by its calls not refused", added up
 abbrev pub wantedBy : Answer Status → ℕ → ℕ

@@ -11,9 +11,9 @@ use Rattle.rules.specs.Refusal.{gives}
 use Rattle.rules.specs.Table.{Table, checksOf}
 use Rattle.rules.specs.Parity.{plus, turns, Codeword, agreement, Point, pointAgreement}
 use Rattle.rules.specs.CodeFile.{codeFile}
-use Rattle.rules.specs.Buffers.{Buffers, lengthsOf, fits}
-use Rattle.rules.specs.Run.{running, certified, Run, bytesOf, iterate, Called, fresh}
-use Rattle.rules.specs.Calls.{Call, callList, StartLent, startOn, startedRun, wantedIn, runAfter, countedIn, Certifies}
+use Rattle.rules.specs.Buffers.{Buffers, Lengths, lengthsOf, fits, bytesOf}
+use Rattle.rules.specs.Run.{running, certified, Run, iterate, Called, fresh}
+use Rattle.rules.specs.Calls.{Call, callList, startOn, startedRun, wantedIn, runAfter, countedIn, Certifies}
 
 -- "no codeword and no point of the parity relaxation agrees with the frame better than w"
 pub record Best (t : Table) (l : List ℤ) (w : List Bool) : Type 0 where
@@ -25,7 +25,7 @@ pub record Best (t : Table) (l : List ℤ) (w : List Bool) : Type 0 where
 -- it leaves is what it would leave if it were lent the whole (proofs/Fresh).
 pub record FreshStart (file : List ℕ) (t : Table) (b : Buffers) : Type 0 where
   pub isTable : codeFile file ≡ gives t
-  pub lent : StartLent
+  pub lent : Lengths
   pub started : startOn file lent b .answer ≡ gives fresh
 
 -- each call is lent parts of these buffers, long enough or too short

@@ -19,10 +19,10 @@ use Rattle.rules.specs.Bound.{reduced, bound, gap}
 use Rattle.rules.specs.Round.{total, divided, spin, round}
 use Rattle.rules.specs.Certificate.{certificateOf, itemsAt, follows, onItem, onItems, onCertificate}
 use Rattle.rules.specs.Judge.{verdict, judge, judgeReply}
-use Rattle.rules.specs.Buffers.{Buffers, Lengths, fits}
+use Rattle.rules.specs.Buffers.{Buffers, Lengths, needsBy, fits, fitsStart, blank}
 use Rattle.rules.specs.Run.{running, certified, spent, Run, next, iterate, sound, admits, callOn, call, start}
 use Rattle.rules.specs.Calls.{Call, lentCall, countedBy}
-use Rattle.rules.specs.Report.{Line, certifiedLine, spentLine, blank, frameLine}
+use Rattle.rules.specs.Report.{Line, certifiedLine, spentLine, frameLine}
 use Rattle.rules.specs.Question.{Question, fileIs, cutIs, judged, startIs, callIs, lineIs, listIs, countIs, Place, Said, reply, shown, line, places, counts, Case, asked, said, answerTo}
 use Rattle.rules.specs.Frames.{threeBits, oneBit, frameA, word000}
 
@@ -179,7 +179,7 @@ calls =
 -- one bit in two checks of one member: −5 over two edges is −2
 rounds : List Case
 rounds =
-    row (callIs (onBit0 2) (negsuc 4 ∷ []) 1 (stands 0 running (blank (record { spins = 1; copies = 2; offsets = 2; multipliers = 2; masks = 2; word = 1; certificate = 24 }))))
+    row (callIs (onBit0 2) (negsuc 4 ∷ []) 1 (stands 0 running (blank (needsBy 1 2 2))))
     (shown (yes (pos 0 ∷ [])) 1 (record {
       spins = negsuc 1 ∷ [];
       copies = pos 4096 ∷ pos 4096 ∷ [];
@@ -190,7 +190,7 @@ rounds =
       certificate = replicate 24 0;
     }))
     -- checks 0 3, 0 1 and 0 1 2: round 5's candidate 1101 meets all checks with gap 2598, and 0000 is certified in round 14
-    ∷ row (callIs fourBits frameD 5 (stands 0 running (blank (record { spins = 4; copies = 7; offsets = 7; multipliers = 3; masks = 3; word = 4; certificate = 34 }))))
+    ∷ row (callIs fourBits frameD 5 (stands 0 running (blank (needsBy 4 3 7))))
     (shown (yes (pos 0 ∷ [])) 5 (record {
       spins = negsuc 477 ∷ negsuc 583 ∷ pos 4096 ∷ negsuc 599 ∷ [];
       copies = negsuc 538 ∷ negsuc 538 ∷ negsuc 530 ∷ negsuc 530 ∷ negsuc 513 ∷ negsuc 547 ∷ pos 4060 ∷ [];
@@ -205,10 +205,10 @@ rounds =
 
 -- ---- a list of calls, refused ones included, and its twin on the frame negated under 110
 abbrev full : Lengths
-full = record { spins = 3; copies = 3; offsets = 3; multipliers = 1; masks = 1; word = 3; certificate = 14 }
+full = needsBy 3 1 3
 
 abbrev tooShort : Lengths
-tooShort = record { spins = 3; copies = 2; offsets = 3; multipliers = 1; masks = 1; word = 3; certificate = 14 }
+tooShort = needsBy 3 1 2
 
 abbrev dirty : ℤ → ℕ → Buffers
 dirty z n = record {
@@ -269,5 +269,5 @@ pub cases : List Case
 cases = files ++ cuts ++ certificates ++ calls ++ rounds ++ lists ++ report
 
 pub examples : asked cases ≡ said cases
-unfolding cases fourBits frameD files cuts certificates calls rounds lists report regular onBit0 callsOf threeBits oneBit frameA answerTo must then replyOf u16At u32At agreement maskRight ones lib.Count.onesIn inRange contents countsRight startsRight totalCount numbersAt bodies ascends membersRight bitsRight fileOf codeFile codeFileReply onFrame onWord onPoint onCheck cut cutSearch cutReply lastWhere multiplier step reduced bound gap total divided spin round certificateOf itemsAt follows onItem onItems onCertificate verdict judge judgeReply fits next iterate sound admits callOn call start lentCall frameLine clipZ
+unfolding cases fourBits frameD files cuts certificates calls rounds lists report regular onBit0 callsOf threeBits oneBit frameA answerTo must then replyOf u16At u32At agreement maskRight ones lib.Count.onesIn inRange contents countsRight startsRight totalCount numbersAt bodies ascends membersRight bitsRight fileOf codeFile codeFileReply onFrame onWord onPoint onCheck cut cutSearch cutReply lastWhere multiplier step reduced bound gap total divided spin round certificateOf itemsAt follows onItem onItems onCertificate verdict judge judgeReply fits fitsStart next iterate sound admits callOn call start lentCall frameLine clipZ
 examples = refl

@@ -17,7 +17,7 @@ use Rattle.rules.specs.Bound.{reduced, bound, gap}
 use Rattle.rules.specs.Round.{total, divided, spin, round}
 use Rattle.rules.specs.Certificate.{certificateOf, itemsAt, follows, onItem, onItems, onCertificate}
 use Rattle.rules.specs.Judge.{verdict, judge, judgeReply}
-use Rattle.rules.specs.Buffers.{Buffers, fits}
+use Rattle.rules.specs.Buffers.{Buffers, fits, fitsStart}
 use Rattle.rules.specs.Run.{next, iterate, sound, admits, callOn, call, start}
 use Rattle.rules.specs.Question.{Question, shows, boundIs, judged, Said, reply, shown, number, Case, asked, said, answerTo}
 
@@ -128,5 +128,5 @@ cases =
     ∷ []
 
 pub frames : asked cases ≡ said cases
-unfolding cases threeBits oneBit frameA frameB frameC answerTo must then replyOf u16At u32At agreement maskRight ones lib.Count.onesIn inRange contents countsRight startsRight totalCount numbersAt bodies ascends membersRight bitsRight fileOf codeFile codeFileReply onFrame onWord cut lastWhere multiplier step reduced bound gap total divided spin round certificateOf itemsAt follows onItem onItems onCertificate verdict judge judgeReply fits next iterate sound admits callOn call start clipZ
+unfolding cases threeBits oneBit frameA frameB frameC answerTo must then replyOf u16At u32At agreement maskRight ones lib.Count.onesIn inRange contents countsRight startsRight totalCount numbersAt bodies ascends membersRight bitsRight fileOf codeFile codeFileReply onFrame onWord cut lastWhere multiplier step reduced bound gap total divided spin round certificateOf itemsAt follows onItem onItems onCertificate verdict judge judgeReply fits fitsStart next iterate sound admits callOn call start clipZ
 frames = refl

@@ -13,10 +13,10 @@ use Rattle.rules.specs.Cut.{cutReply}
 use Rattle.rules.specs.Bound.{bound}
 use Rattle.rules.specs.Certificate.{scaleOf, itemsOf, rowsAt}
 use Rattle.rules.specs.Judge.{judgeReply}
-use Rattle.rules.specs.Buffers.{Buffers, needs}
+use Rattle.rules.specs.Buffers.{Buffers, needs, startLent, blank}
 use Rattle.rules.specs.Run.{Status, Run, iterate, Called, call, statusValues, Started, start, progressValues}
 use Rattle.rules.specs.Calls.{Call, callList, startedRun, runAfter, countedIn}
-use Rattle.rules.specs.Report.{Line, blank, frameLine}
+use Rattle.rules.specs.Report.{Line, frameLine}
 
 pub data Question : Type 0 where
   -- what the code file is
@@ -82,7 +82,7 @@ unfoldable pub answerTo : Question → Said
 answerTo (fileIs file) = reply (codeFileReply file)
 answerTo (cutIs file s j) = reply (cutReply file s j)
 answerTo (judged file l w bs) = reply (judgeReply file l w bs)
-answerTo (startIs file z y) = reply (replyOf progressValues (start file z y .answer))
+answerTo (startIs file z y) = reply (replyOf progressValues (start file (startLent z y) .answer))
 answerTo (callIs file l k r) = shownIn (call file l k r)
 answerTo (shows file l k) = onTable (codeFile file) (λ t. shownIn (ranFresh file l k t))
 answerTo (boundIs file l k) = onTable (codeFile file) (λ t. boundOf t l (ranFresh file l k t .run .buffers .certificate))

@@ -5,7 +5,7 @@ use mathlib.Core.Bool.{cond, _||_}
 use mathlib.Core.List.{List, [], _∷_, map}
 use Prim.Native.Nat.{ℕ}
 use lib.Dec.{ltb}
-use lib.ListN.{length, replicate, take}
+use lib.ListN.{length, take}
 use lib.IntN.{ℤ}
 use Rattle.rules.specs.Limits.{maxChecks, maxEdges, contentsEnd, fileLength, roundLimit}
 use Rattle.rules.specs.Refusal.{Answer, refused, gives}
@@ -14,8 +14,8 @@ use Rattle.rules.specs.Table.{Table}
 use Rattle.rules.specs.Parity.{agreement}
 use Rattle.rules.specs.CodeFile.{contents, totalCount, codeFile}
 use Rattle.rules.specs.Input.{bitsOf}
-use Rattle.rules.specs.Buffers.{Buffers, Lengths, needs}
-use Rattle.rules.specs.Run.{Status, running, certified, spent, Run, call, zeros}
+use Rattle.rules.specs.Buffers.{needs, blank}
+use Rattle.rules.specs.Run.{Status, running, certified, spent, Run, call}
 use Rattle.rules.specs.Calls.{startedRun}
 
 -- ---- the code file on standard input
@@ -63,17 +63,6 @@ lineAt t l r (gives running) = runningLine (r .progress .rounds)
 lineAt t l r (gives certified) =
     certifiedLine (r .progress .rounds) (agreement (t .bits) l (bitsOf (take (t .bits) (r .buffers .word)))) (u16At (r .buffers .certificate) 0)
 lineAt t l r (gives spent) = spentLine (r .progress .rounds)
-
-abbrev pub blank : Lengths → Buffers
-blank n = record {
-  spins = zeros (n .spins);
-  copies = zeros (n .copies);
-  offsets = zeros (n .offsets);
-  multipliers = replicate (n .multipliers) 0;
-  masks = replicate (n .masks) 0;
-  word = replicate (n .word) 0;
-  certificate = replicate (n .certificate) 0;
-}
 
 -- "each frame gets a fresh run of 1,024 rounds"
 abbrev pub lineBy : List ℕ → List ℤ → Answer Table → Line

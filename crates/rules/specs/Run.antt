@@ -5,18 +5,16 @@ use mathlib.Core.List.{List, [], _∷_}
 use mathlib.Core.Option.{Option, some, none}
 use Prim.Native.Nat.{ℕ, zero, suc, _+_, _*_}
 use lib.Dec.{leb, ltb, eqb}
-use lib.ListN.{length, take, replicate}
+use lib.ListN.{take}
 use lib.IntN.{ℤ, pos}
 use Rattle.rules.specs.Limits.{unit, roundLimit, offsetPerRound, maxMultiplier}
 use Rattle.rules.specs.Refusal.{Answer, refused, gives, must, then, Reply, replyOf, askedTooMuch, bufferShort, runEnded, runDamaged, multiplierLarge}
 use Rattle.rules.specs.Table.{Table, edgesOf}
-use Rattle.rules.specs.Mask.{digit, maskOf}
 use Rattle.rules.specs.CodeFile.{codeFile}
 use Rattle.rules.specs.Input.{eachWithin, onFrame}
-use Rattle.rules.specs.Step.{Entry, inactive, active}
+use Rattle.rules.specs.Step.{Entry}
 use Rattle.rules.specs.Round.{State, Round, round}
-use Rattle.rules.specs.Certificate.{certificateOf}
-use Rattle.rules.specs.Buffers.{Buffers, Lengths, lengthsOf, needs, fits, over}
+use Rattle.rules.specs.Buffers.{Buffers, Lengths, lengthsOf, needs, fits, write, fitsStart, zeroing, multiplierOf, leaves}
 
 -- "whether the run is running, certified or spent"
 pub data Status : Type 0 where
@@ -39,45 +37,8 @@ pub record Run : Type 0 where
   pub buffers : Buffers
 
 -- ---- what a round leaves
-abbrev pub multiplierOf : Entry → ℕ
-multiplierOf inactive = 0
-multiplierOf (active b ts) = b
-
-abbrev pub multipliersOf : List Entry → List ℕ
-multipliersOf [] = []
-multipliersOf (e ∷ es) = multiplierOf e ∷ multipliersOf es
-
-abbrev pub maskIn : Entry → ℕ
-maskIn inactive = 0
-maskIn (active b ts) = maskOf ts
-
-abbrev pub masksOf : List Entry → List ℕ
-masksOf [] = []
-masksOf (e ∷ es) = maskIn e ∷ masksOf es
-
-abbrev pub bytesOf : List Bool → List ℕ
-bytesOf [] = []
-bytesOf (b ∷ bs) = digit b ∷ bytesOf bs
-
--- "Certified writes word and certificate; other endings don't touch them"
-abbrev pub overWord : Option (List Bool) → List ℕ → List ℕ
-overWord none old = old
-overWord (some w) old = over (bytesOf w) old
-
-abbrev pub overCertificate : Option (List Bool) → List Entry → List ℕ → List ℕ
-overCertificate none es old = old
-overCertificate (some w) es old = over (certificateOf es) old
-
 abbrev pub written : Round → Buffers → Buffers
-written d b = record {
-  spins = over (d .spins) (b .spins);
-  copies = over (d .state .copies) (b .copies);
-  offsets = over (d .state .offsets) (b .offsets);
-  multipliers = over (multipliersOf (d .entries)) (b .multipliers);
-  masks = over (masksOf (d .entries)) (b .masks);
-  word = overWord (d .word) (b .word);
-  certificate = overCertificate (d .word) (d .entries) (b .certificate);
-}
+written d b = write (leaves d) b
 
 -- "ends the run as certified"; "done 1,024 without a certificate it is spent"
 abbrev pub statusAt : ℕ → Option (List Bool) → Status
@@ -174,22 +135,18 @@ statusNumber spent = 2
 abbrev pub statusValues : Status → List ℤ
 statusValues s = pos (statusNumber s) ∷ []
 
--- ---- a start: "Starting a run zeroes the first E copies and offsets"
+-- ---- a start
 pub record Started : Type 0 where
   pub answer : Answer Progress
-  pub copies : List ℤ
-  pub offsets : List ℤ
+  pub buffers : Buffers
 
-abbrev pub zeros : ℕ → List ℤ
-zeros e = replicate e (pos 0)
+abbrev pub startBy : Buffers → Answer Table → Started
+startBy b (refused k) = record { answer = refused k; buffers = b }
+startBy b (gives t) = record { answer = gives fresh; buffers = write (zeroing t) b }
 
-abbrev pub startBy : List ℤ → List ℤ → Answer Table → Started
-startBy z y (refused k) = record { answer = refused k; copies = z; offsets = y }
-startBy z y (gives t) = record { answer = gives fresh; copies = over (zeros (edgesOf t)) z; offsets = over (zeros (edgesOf t)) y }
-
--- any code file and lent buffers: 1 to 7, then 41 for the two buffers that a start writes
-unfoldable pub start : List ℕ → List ℤ → List ℤ → Started
-start file z y = startBy z y (then (codeFile file) (λ t. must (leb (edgesOf t) (length z) && leb (edgesOf t) (length y)) bufferShort (gives t)))
+-- any code file and lent buffers: 1 to 7, then 41 for the buffers that a start zeroes
+unfoldable pub start : List ℕ → Buffers → Started
+start file b = startBy b (then (codeFile file) (λ t. must (fitsStart t (lengthsOf b)) bufferShort (gives t)))
 
 -- the values of the answer: the rounds done and the status of the record
 abbrev pub progressValues : Progress → List ℤ

@@ -15,10 +15,10 @@ use Rattle.rules.specs.Table.{Table, edgesOf, checksOf}
 use Rattle.rules.specs.CodeFile.{codeFile, tableValues}
 use Rattle.rules.specs.Input.{eachWithin, onFrame}
 use Rattle.rules.specs.Round.{State}
-use Rattle.rules.specs.Buffers.{Lengths, needs, fits}
+use Rattle.rules.specs.Buffers.{Lengths, needs, fits, Part}
 use Rattle.rules.specs.Run.{Progress, Run, isRunning, sound, stateIn, admits}
 use Rattle.rules.proofs.Basics.{and-both}
-use Rattle.rules.proofs.BufferLaws.{Part, fits-part}
+use Rattle.rules.proofs.BufferLaws.{fits-part}
 use Rattle.rules.proofs.AnswerLaws.{refused≢gives, gives-inj, must-gives, must-true, then-gives}
 use Rattle.table.specs.Loaded.{withRoom, laid, loaded}
 use Rattle.table.proofs.AnswerLaws.{and-holds}

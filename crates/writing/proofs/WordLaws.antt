@@ -14,8 +14,7 @@ use Rattle.rules.specs.Refusal.{gives, must, bufferShort}
 use Rattle.rules.specs.Table.{at}
 use Rattle.rules.specs.Mask.{digit}
 use Rattle.rules.specs.Cut.{isNeg, negatives}
-use Rattle.rules.specs.Buffers.{over}
-use Rattle.rules.specs.Run.{bytesOf}
+use Rattle.rules.specs.Buffers.{over, bytesOf}
 use Rattle.writing.specs.Written.{writtenBy, wordWritten}
 
 -- ---- the sign

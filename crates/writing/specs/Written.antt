@@ -10,8 +10,7 @@ use Rattle.rules.specs.Limits.{maxChecks, certificateLength}
 use Rattle.rules.specs.Refusal.{Answer, refused, gives, must, sizeRange, bufferShort}
 use Rattle.rules.specs.Bytes.{le16, le32}
 use Rattle.rules.specs.Cut.{negatives}
-use Rattle.rules.specs.Buffers.{over}
-use Rattle.rules.specs.Run.{bytesOf}
+use Rattle.rules.specs.Buffers.{over, bytesOf}
 
 -- ---- the certificate, from multipliers and masks: a check with mask 0 has no cut
 unfoldable pub cutsFrom : List ℕ → ℕ

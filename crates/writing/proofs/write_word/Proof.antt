@@ -10,7 +10,7 @@ use mir.Facts.{toZ-ofZ}
 use borrow.Author.Needs.{needs}
 use Rattle.integers.specs.Machine.{fit}
 use Rattle.rules.specs.Cut.{negatives, isNeg}
-use Rattle.rules.specs.Run.{bytesOf}
+use Rattle.rules.specs.Buffers.{bytesOf}
 use Rattle.rules.specs.Table.{at}
 use Rattle.rules.specs.Mask.{digit}
 use Rattle.writing.proofs.WordLaws.{bytes-at, bytes-length, word-short, word-written}
