@@ -17,7 +17,6 @@ use Rattle.decoder.specs.Layout.{checksFrom, Holds}
 use Rattle.decoder.specs.Closing.{GapFits}
 use Rattle.rules.specs.Scatter.{scatterRows}
 use Rattle.decoder.specs.Room.{Room, RowsFit}
-use Rattle.decoder.proofs.SignLaws.{is-zero, not-zero}
 use Rattle.rules.proofs.ScatterLaws.{rows-length, rows-pull}
 
 -- ---- what the frame leaves room for
@@ -58,20 +57,9 @@ bound-is rs l l' x p e f g = ap₂ _+ℤ_ (f ∙ ap (λ z. sumTo (length z) (λ 
     ∙ sumTo-same (length l) (λ i. abs (at (scatterRows rs l) i)) (λ i. abs (reduced 1 l rs i)) (λ i h. ap abs (reduced-is rs l i h))) g
 
 -- ---- the gap
-no-gap : (b a : ℤ) → b ≡ a → b -ℤ pos 1 *ℤ a ≡ pos 0
-no-gap b a = simp ring (omega arithZ)
-
-some-gap : (b a : ℤ) → b -ℤ pos 1 *ℤ a ≡ pos 0 → b ≡ a
-some-gap b a = simp ring (omega arithZ)
-
-module _ (n : ℕ) (l : List ℤ) (rs : List Row) (w : List Bool) (x y : ℤ) (e : x ≡ bound (length l) 1 l rs) (f : y ≡ agreement n l w) (long : length l ≡ n) where
-  at-n : x ≡ bound n 1 l rs
-  at-n = e ∙ ap (λ m. bound m 1 l rs) long
-
-  pub gap-closed : x ≡ y → true ≡ isZero (gap n 1 l rs w)
-  unfolding gap
-  gap-closed h = sym (is-zero (gap n 1 l rs w) (no-gap (bound n 1 l rs) (agreement n l w) (sym at-n ∙ h ∙ f)))
-
-  pub gap-open : (x ≡ y → ⊥) → false ≡ isZero (gap n 1 l rs w)
-  unfolding gap
-  gap-open h = sym (not-zero (gap n 1 l rs w) (λ z. h (at-n ∙ some-gap (bound n 1 l rs) (agreement n l w) z ∙ sym f)))
+pub gap-is : (n : ℕ) (l : List ℤ) (rs : List Row) (w : List Bool) (x y : ℤ) → x ≡ bound (length l) 1 l rs → y ≡ agreement n l w → length l ≡ n → x -ℤ y ≡ gap n 1 l rs w
+unfolding gap
+gap-is n l rs w x y e f long = ap₂ _-ℤ_ (e ∙ ap (λ m. bound m 1 l rs) long) f ∙ once (bound n 1 l rs) (agreement n l w)
+  where
+    once : (b a : ℤ) → b -ℤ a ≡ b -ℤ pos 1 *ℤ a
+    once b a = simp ring (omega arithZ)

@@ -1,34 +1,33 @@
 -- A call for rounds: refused as it stands, or performed on the first parts of its buffers. Assumes nothing.
-use mathlib.Core.Path.{_≡_, refl, sym, _∙_, ap, ap₂, subst}
-use mathlib.Core.Bool.{true, false≢true}
+use mathlib.Core.Path.{_≡_, refl, sym, _∙_, ap, ap₂, subst, fun-ext}
+use mathlib.Core.Bool.{true, false≢true, cond}
 use mathlib.Core.List.{List, [], _∷_, _++_}
 use Prim.Native.Nat.{ℕ, _+_, _≤_, _<_}
 use native.Mathlib.Nat.{add-sub-cancel-left}
 use native.Mathlib.Omega.{arith}
+use borrow.Author.Tests.{eq-eqb}
 use lib.ListN.{length, take, drop}
 use lib.Seq.{take-at, drop-at}
 use lib.IntN.{ℤ}
 use Rattle.rules.specs.Limits.{frameLimit, maxChecks, maxEdges}
-use Rattle.rules.specs.Refusal.{Answer, refused, gives}
+use Rattle.rules.specs.Refusal.{Answer, refused, gives, multiplierLarge}
 use Rattle.rules.specs.Table.{Table, edges, edgesOf, checksOf}
 use Rattle.rules.specs.CodeFile.{codeFile}
-use Rattle.rules.specs.Buffers.{lengthsOf, needs, partOf, over, Part}
-use Rattle.rules.specs.Run.{Status, running, certified, spent, Run, stateIn, iterate, isRunning, ranOn, refusedAt, perform, callOn, callBy, call}
-use Rattle.rules.specs.Calls.{giveBack}
+use Rattle.rules.specs.Buffers.{Lengths, lent, lengthsOf, needs, over, Part}
+use Rattle.rules.specs.Run.{Status, running, certified, spent, Progress, Run, stateIn, iterate, isRunning, answerAt, refusedAt, perform, callOn, callBy, call}
 use Rattle.rules.proofs.AnswerLaws.{refused≢gives}
 use Rattle.rules.proofs.Tables.{Sound, file-sound}
-use Rattle.rules.proofs.BufferLaws.{fits-part, take-over, over-length}
-use Rattle.rules.proofs.Lends.{ran-back}
+use Rattle.rules.proofs.BufferLaws.{by-name, fits-part, take-over, over-length}
+use Rattle.rules.proofs.Runs.{Safe}
+use Rattle.rules.proofs.Counted.{all-counted}
 use Rattle.table.specs.Starts.{startsOf}
 use Rattle.table.proofs.StartsLaws.{starts-length}
 use Rattle.cut.proofs.ReplyLaws.{each-all}
 use Rattle.run.specs.declared.Admitted.{Admitted}
-use Rattle.run.specs.Admitted.{Sizes, admittedOf, sizesOf, Admission, admissionBy, admission}
+use Rattle.run.specs.Admitted.{Sizes, lentOf, admittedOf, sizesOf, Admission, admissionBy, admission}
 use Rattle.run.proofs.AdmitLaws.{Admits, admits-refused, admits-gives, admission-room, sound-safe}
-use Rattle.decoder.specs.Layout.{checksFrom, Holds}
-use Rattle.decoder.specs.OnParts.{PartsFit, onParts}
-use Rattle.decoder.specs.Done.{runAt}
-use Rattle.decoder.proofs.IterateLaws.{same-part}
+use Rattle.decoder.specs.Layout.{checksFrom, tableOf, Holds}
+use Rattle.decoder.specs.Finished.{PartsFit}
 
 -- ---- starts and members hold the checks
 checks-after : (s : ℕ) (ms : List ℕ) (cs : List (List ℕ)) → checksFrom (startsOf (s + length ms) cs) (edges cs) ≡ cs → checksFrom (startsOf s (ms ∷ cs)) (edges (ms ∷ cs)) ≡ ms ∷ cs
@@ -79,10 +78,16 @@ module _ (file : List ℕ) (l : List ℤ) (wanted : ℕ) (r : Run) (ss ms : List
   call-refused k ss' ms' e hs hm = refused-by k (codeFile file) (ap (λ a. a .answer) (e ∙ roomy-in file l wanted r ss ms hs hm))
 
 -- ---- admitted
-running-is : (s : Status) → isRunning s ≡ true → running ≡ s
+running-is : (s : Status) → isRunning s ≡ true → s ≡ running
 running-is running e = refl
 running-is certified e = absurd (false≢true e)
 running-is spent e = absurd (false≢true e)
+
+-- a run that has not ended has done every round that was due
+answers : (s : Status) (a b : ℕ) → (s ≡ running → a ≡ b) → gives s ≡ answerAt s a b
+answers running a b h = ap (λ t. cond t (gives running) (refused multiplierLarge)) (sym (eq-eqb a b (h refl)))
+answers certified a b h = refl
+answers spent a b h = refl
 
 -- with the table's own sizes, starts and members
 module _ (file : List ℕ) (t : Table) (isFile : codeFile file ≡ gives t) (l : List ℤ) (wanted : ℕ) (r : Run) (ss ms : List ℕ) (hs : maxChecks < length ss) (hm : maxEdges ≤ length ms)
@@ -111,42 +116,62 @@ module _ (file : List ℕ) (t : Table) (isFile : codeFile file ≡ gives t) (l :
   long-enough : Part (needs t) (lengthsOf (r .buffers))
   long-enough = fits-part (needs t) (lengthsOf (r .buffers)) (a .room)
 
-  pub parts-fit : PartsFit (t .bits) (checksOf t) (edgesOf t) l (over (startsOf 0 (t .checks)) ss) (over (edges (t .checks)) ms) (r .progress .rounds) (r .buffers)
+  safe : Safe t r
+  safe =
+      let s = sound-safe (r .progress .rounds) (stateIn t (r .buffers)) (a .sound) in
+      record { copies = s .1; offsets = s .2; early = λ e. s .0 }
+
+  -- starts and members as they were left, in front of what was there
+  abbrev startsIn : List ℕ
+  startsIn = over (startsOf 0 (t .checks)) ss
+
+  abbrev membersIn : List ℕ
+  membersIn = over (edges (t .checks)) ms
+
+  table-is : tableOf (t .bits) (take (checksOf t + 1) startsIn) (take (edgesOf t) membersIn) ≡ t
+  table-is = ap (λ cs. record { bits = t .bits; checks = cs }) checks-are
+
+  pub parts-fit : PartsFit (t .bits) (checksOf t) (edgesOf t) l startsIn membersIn r
   parts-fit = record {
-    early = sound-safe (r .progress .rounds) (stateIn t (r .buffers)) (a .sound) .0;
     size = a .frameLong;
     frame = each-all frameLimit l (a .frame);
     few = sound-table .checks .1;
     startsRoom = subst (λ k. checksOf t + 1 ≤ k) (sym (over-length (startsOf 0 (t .checks)) ss room-starts)) (omega (arith, starts-long, room-starts));
     membersRoom = subst (λ k. edgesOf t ≤ k) (sym (over-length (edges (t .checks)) ms room-members)) room-members;
-    holds = subst (λ x. Holds (t .bits) x (take (edgesOf t) (over (edges (t .checks)) ms))) (sym starts-are) (subst (Holds (t .bits) (startsOf 0 (t .checks))) (sym members-are) (holds-checks t sound-table));
+    holds = subst (λ x. Holds (t .bits) x (take (edgesOf t) membersIn)) (sym starts-are) (subst (Holds (t .bits) (startsOf 0 (t .checks))) (sym members-are) (holds-checks t sound-table));
     checks = ap length (sym checks-are);
     room = long-enough;
-    copies = sound-safe (r .progress .rounds) (stateIn t (r .buffers)) (a .sound) .1;
-    offsets = sound-safe (r .progress .rounds) (stateIn t (r .buffers)) (a .sound) .2;
+    runs = running-is (r .progress .status) (a .running);
+    safe = subst (λ x. Safe x r) (sym table-is) safe;
   }
 
-  pub parts-call : onParts (t .bits) (checksOf t) (edgesOf t) l (over (startsOf 0 (t .checks)) ss) (over (edges (t .checks)) ms) (r .progress .rounds) wanted (r .buffers) ≡ call file l wanted r
-  unfolding onParts call callOn
-  parts-call = ap (λ cs. giveBack (ranOn (r .progress .rounds + wanted) (iterate (record { bits = t .bits; checks = cs }) l wanted (runAt (r .progress .rounds) (partOf (needs t) (r .buffers))))) (runAt (r .progress .rounds) (r .buffers))) checks-are
-      ∙ ap (λ s. giveBack (ranOn (r .progress .rounds + wanted) (iterate t l wanted (record { progress = record { rounds = r .progress .rounds; status = s }; buffers = partOf (needs t) (r .buffers) })))
-      (record { progress = record { rounds = r .progress .rounds; status = s }; buffers = r .buffers })) (running-is (r .progress .status) (a .running))
-      ∙ ran-back t l wanted (needs t) r (same-part (needs t)) long-enough
-      ∙ ap (perform t l wanted r) (sym (a .admitted))
-      ∙ ap (callBy l wanted r) (sym isFile)
+  pub parts-call : (x : Answer Status) (q : Run) → q ≡ iterate (tableOf (t .bits) (take (checksOf t + 1) startsIn) (take (edgesOf t) membersIn)) l wanted r → x ≡ gives (q .progress .status)
+      → record { answer = x; run = q } ≡ call file l wanted r
+  unfolding call callOn
+  parts-call x q e f = ap₂ (λ y p. record { answer = y; run = p }) (f ∙ ap (λ p. gives (p .progress .status)) is ∙ answers (end .progress .status) (end .progress .rounds) (r .progress .rounds + wanted) (all-counted t l wanted r safe)) is
+      ∙ ap (perform t l wanted r) (sym (a .admitted)) ∙ ap (callBy l wanted r) (sym isFile)
+    where
+      end : Run
+      end = iterate t l wanted r
 
--- whatever was admitted
+      is : q ≡ iterate t l wanted r
+      is = e ∙ ap (λ x. iterate x l wanted r) table-is
+
+-- whatever was admitted: the call fits its parts, and a run that has done its rounds, with the answer that it stands at, is the call's
+abbrev Done : List ℕ → List ℤ → ℕ → Run → ℕ → ℕ → ℕ → List ℕ → List ℕ → Type 0
+Done file l wanted r n m e ss ms = (x : Answer Status) (q : Run) → q ≡ iterate (tableOf n (take (m + 1) ss) (take e ms)) l wanted r → x ≡ gives (q .progress .status)
+    → record { answer = x; run = q } ≡ call file l wanted r
+
 module _ (file : List ℕ) (l : List ℤ) (wanted : ℕ) (r : Run) (ss ms : List ℕ) (hs : maxChecks < length ss) (hm : maxEdges ≤ length ms) where
   Good : Admission → Type 0
   Good d = (z : Sizes) → d .answer ≡ gives z
-      → (PartsFit (z .bits) (z .checks) (z .edges) l (d .starts) (d .members) (r .progress .rounds) (r .buffers))
-      × (onParts (z .bits) (z .checks) (z .edges) l (d .starts) (d .members) (r .progress .rounds) wanted (r .buffers) ≡ call file l wanted r)
+      → (PartsFit (z .bits) (z .checks) (z .edges) l (d .starts) (d .members) r) × Done file l wanted r (z .bits) (z .checks) (z .edges) (d .starts) (d .members)
 
   good-by : (a : Answer Table) → codeFile file ≡ a → Good (admissionOf a l wanted r ss ms)
   unfolding Good
   good-by (refused k) f z e = absurd (refused≢gives e)
-  good-by (gives t) f z e = subst (λ y. (PartsFit (y .bits) (y .checks) (y .edges) l (over (startsOf 0 (t .checks)) ss) (over (edges (t .checks)) ms) (r .progress .rounds) (r .buffers))
-      × (onParts (y .bits) (y .checks) (y .edges) l (over (startsOf 0 (t .checks)) ss) (over (edges (t .checks)) ms) (r .progress .rounds) wanted (r .buffers) ≡ call file l wanted r)) (sym (a .sizes))
+  good-by (gives t) f z e = subst (λ y. (PartsFit (y .bits) (y .checks) (y .edges) l (over (startsOf 0 (t .checks)) ss) (over (edges (t .checks)) ms) r)
+      × Done file l wanted r (y .bits) (y .checks) (y .edges) (over (startsOf 0 (t .checks)) ss) (over (edges (t .checks)) ms)) (sym (a .sizes))
       (parts-fit file t f l wanted r ss ms hs hm a', parts-call file t f l wanted r ss ms hs hm a')
     where
       a : Admits t l wanted (lengthsOf (r .buffers)) r z
@@ -156,20 +181,26 @@ module _ (file : List ℕ) (l : List ℤ) (wanted : ℕ) (r : Run) (ss ms : List
       a' = subst (Admits t l wanted (lengthsOf (r .buffers)) r) (a .sizes) a
 
   admitted-good : (n m e : ℕ) (ss' ms' : List ℕ) → record { answer = gives (record { bits = n; checks = m; edges = e }); starts = ss'; members = ms' }
-      ≡ admissionIn file l wanted r ss ms
-      → (PartsFit n m e l ss' ms' (r .progress .rounds) (r .buffers)) × (onParts n m e l ss' ms' (r .progress .rounds) wanted (r .buffers) ≡ call file l wanted r)
+      ≡ admissionIn file l wanted r ss ms → (PartsFit n m e l ss' ms' r) × Done file l wanted r n m e ss' ms'
   unfolding Good
   admitted-good n m e ss' ms' f = subst Good (sym (f ∙ roomy-in file l wanted r ss ms hs hm)) (good-by (codeFile file) refl) (record { bits = n; checks = m; edges = e }) refl
 
 module _ (file : List ℕ) (l : List ℤ) (wanted : ℕ) (r : Run) (ss ms : List ℕ) (n m e : ℕ) (ss' ms' : List ℕ)
     (f : record { answer = gives (record { bits = n; checks = m; edges = e }); starts = ss'; members = ms' } ≡ admissionIn file l wanted r ss ms)
     (hs : maxChecks < length ss) (hm : maxEdges ≤ length ms) where
-  pub admitted-fit : PartsFit n m e l ss' ms' (r .progress .rounds) (r .buffers)
+  pub admitted-fit : PartsFit n m e l ss' ms' r
   admitted-fit = admitted-good file l wanted r ss ms hs hm n m e ss' ms' f .0
 
-  pub admitted-call : onParts n m e l ss' ms' (r .progress .rounds) wanted (r .buffers) ≡ call file l wanted r
+  pub admitted-call : Done file l wanted r n m e ss' ms'
   admitted-call = admitted-good file l wanted r ss ms hs hm n m e ss' ms' f .1
 
--- ---- the case that the code's answer was found to be
-pub told : (x y : Admitted) (ss ms : List ℕ) (d : Admission) → x ≡ y → record { answer = admittedOf x; starts = ss; members = ms } ≡ d → record { answer = admittedOf y; starts = ss; members = ms } ≡ d
-told x y ss ms d f e = ap (λ a. record { answer = admittedOf a; starts = ss; members = ms }) (sym f) ∙ e
+-- ---- the case that the code's answer was found to be, with what is lent told in the code's way or by the buffers
+pub lent-lengths : (s z y : List ℤ) (b k w c : List ℕ)
+    → lentOf (record { spins = length s; multipliers = length b; masks = length k; word = length w; certificate = length c }) z y ≡ lengthsOf (lent s z y b k w c)
+lent-lengths s z y b k w c = fun-ext (by-name (λ x. lentOf (record { spins = length s; multipliers = length b; masks = length k; word = length w; certificate = length c }) z y x
+    ≡ lengthsOf (lent s z y b k w c) x) refl refl refl refl refl refl refl)
+
+module _ (file : List ℕ) (l : List ℤ) (wanted : ℕ) (m n : Lengths) (p : Progress) (z y : List ℤ) (ss ms ss' ms' : List ℕ) where
+  pub told : (a b : Admitted) → a ≡ b → m ≡ n → record { answer = admittedOf a; starts = ss'; members = ms' } ≡ admission file l wanted m p z y ss ms
+      → record { answer = admittedOf b; starts = ss'; members = ms' } ≡ admission file l wanted n p z y ss ms
+  told a b f g e = ap (λ x. record { answer = admittedOf x; starts = ss'; members = ms' }) (sym f) ∙ e ∙ ap (λ k. admission file l wanted k p z y ss ms) g

@@ -1,11 +1,9 @@
 -- Demand 3 of document 00 for the code: about every list of calls of `start` and `rounds` of which their contracts, as they are proved, hold.
 -- Assumes nothing.
 use mathlib.Core.Path.{_≡_, refl, sym, _∙_, ap, ap₂, subst}
-use mathlib.Core.Bool.{Bool, _&&_}
+use mathlib.Core.Bool.{Bool, cond}
 use mathlib.Core.List.{List, [], _∷_}
 use Prim.Native.Nat.{ℕ, _≤_}
-use lib.Dec.{leb}
-use lib.ListN.{length, take}
 use lib.IntN.{ℤ}
 use contract.Lifetimes.{Lfts}
 use denote.Ref.{now}
@@ -13,15 +11,15 @@ use denote.Triple.Clauses as Clauses
 use borrow.Fn.World.{ArgsD, ResD}
 use borrow.Fn.Kinds.{endedOf}
 use Rattle.rules.specs.Refusal.{Answer, refused, gives, then, must, bufferShort}
-use Rattle.rules.specs.Table.{Table, edgesOf}
+use Rattle.rules.specs.Table.{Table}
 use Rattle.rules.specs.Parity.{plus, turns, Codeword}
 use Rattle.rules.specs.CodeFile.{codeFile}
-use Rattle.rules.specs.Buffers.{Buffers, over}
+use Rattle.rules.specs.Buffers.{Buffers, lent, Lengths, lengthsOf, partOf, overAll, zeroed, startLent, fitsStart}
 use Rattle.rules.specs.Run.{Progress, Run, Called, call, Started, startBy, start, fresh}
-use Rattle.rules.specs.Calls.{Call, lend, giveBack, lentCall, callList, StartLent, startOn, startedRun, wantedIn}
+use Rattle.rules.specs.Calls.{Call, lend, giveBack, lentCall, callList, startOn, startedRun, wantedIn}
 use Rattle.rules.specs.Demand3.{Best, FreshStart, AllLent, listFrom, CertifiesOn, SamePlaces, RoundsDone, Demand3}
 use Rattle.rules.proofs.AnswerLaws.{refused≢gives, gives-inj}
-use Rattle.rules.proofs.Fresh.{started-copies, started-offsets}
+use Rattle.rules.proofs.Fresh.{started-back}
 use Rattle.rules.proofs.Demand3.{demand3}
 use Rattle.run.specs.Reply.{progressOf, startedOf}
 use Rattle.decoder.specs.Reply.{outcomeOf}
@@ -47,14 +45,11 @@ pub record StartCall : Type 0 where
 abbrev pub startsFile : StartCall → List ℕ
 startsFile x = now (x .args .0)
 
-abbrev pub startsCopies : StartCall → List ℤ
-startsCopies x = now (x .args .1 .0)
-
-abbrev pub startsOffsets : StartCall → List ℤ
-startsOffsets x = now (x .args .1 .1 .0)
+abbrev pub startsLent : StartCall → Buffers
+startsLent x = startLent (now (x .args .1 .0)) (now (x .args .1 .1 .0))
 
 abbrev pub startGave : StartCall → Started
-startGave x = record { answer = startedOf (x .result); copies = now (x .exit .1 .0); offsets = now (x .exit .1 .1 .0) }
+startGave x = record { answer = startedOf (x .result); buffers = startLent (now (x .exit .1 .0)) (now (x .exit .1 .1 .0)) }
 
 pub record RoundsCall : Type 0 where
   pub lives : Lfts 9
@@ -73,13 +68,23 @@ abbrev pub roundsWanted : RoundsCall → ℕ
 roundsWanted x = x .args .1 .1 .1 .0
 
 abbrev pub roundsRun : RoundsCall → Run
-roundsRun x = record { progress = progressOf (x .args .1 .1 .0); buffers = record { spins = now (x .args .1 .1 .1 .1 .0); copies = now (x .args .1 .1 .1 .1 .1 .0); offsets = now (x .args .1 .1 .1 .1 .1 .1 .0); multipliers = now (x .args .1 .1 .1 .1 .1 .1 .1 .0); masks = now (x .args .1 .1 .1 .1 .1 .1 .1 .1 .0); word = now (x .args .1 .1 .1 .1 .1 .1 .1 .1 .1 .0); certificate = now (x .args .1 .1 .1 .1 .1 .1 .1 .1 .1 .1 .0) } }
+roundsRun x =
+    let b = x .args .1 .1 .1 .1 in
+    record { progress = progressOf (x .args .1 .1 .0); buffers = lent (now (b .0)) (now (b .1 .0)) (now (b .1 .1 .0)) (now (b .1 .1 .1 .0)) (now (b .1 .1 .1 .1 .0)) (now (b .1 .1 .1 .1 .1 .0)) (now (b .1 .1 .1 .1 .1 .1 .0)) }
 
 abbrev pub roundsGave : RoundsCall → Called
-roundsGave x = record { answer = outcomeOf (x .result .outcome); run = record { progress = progressOf (x .result .run); buffers = record { spins = now (x .exit .1 .1 .1 .1 .0); copies = now (x .exit .1 .1 .1 .1 .1 .0); offsets = now (x .exit .1 .1 .1 .1 .1 .1 .0); multipliers = now (x .exit .1 .1 .1 .1 .1 .1 .1 .0); masks = now (x .exit .1 .1 .1 .1 .1 .1 .1 .1 .0); word = now (x .exit .1 .1 .1 .1 .1 .1 .1 .1 .1 .0); certificate = now (x .exit .1 .1 .1 .1 .1 .1 .1 .1 .1 .1 .0) } } }
+roundsGave x =
+    let b = x .exit .1 .1 .1 .1 in
+    record {
+      answer = outcomeOf (x .result .outcome);
+      run = record {
+        progress = progressOf (x .result .run);
+        buffers = lent (now (b .0)) (now (b .1 .0)) (now (b .1 .1 .0)) (now (b .1 .1 .1 .0)) (now (b .1 .1 .1 .1 .0)) (now (b .1 .1 .1 .1 .1 .0)) (now (b .1 .1 .1 .1 .1 .1 .0));
+      };
+    }
 
 -- what the contracts say, by document 01's definitions
-pub start-says : (x : StartCall) → startGave x ≡ start (startsFile x) (startsCopies x) (startsOffsets x)
+pub start-says : (x : StartCall) → startGave x ≡ start (startsFile x) (startsLent x)
 start-says x = x .holds
 
 pub rounds-says : (x : RoundsCall) → roundsGave x ≡ call (roundsFile x) (roundsFrame x) (roundsWanted x) (roundsRun x)
@@ -103,47 +108,43 @@ chain-is {file} {l} (more {calls} {r} {ds} x o ef el ew er h) =
     one = ap (λ d. giveBack d r) (rounds-says o ∙ ap (λ g. call g (roundsFrame o) (roundsWanted o) (roundsRun o)) ef ∙ ap (λ g. call file g (roundsWanted o) (roundsRun o)) el
         ∙ ap₂ (λ v q. call file l v q) ew er)
 
--- the buffers with these copies and offsets
-abbrev pub startedWith : Buffers → List ℤ → List ℤ → Buffers
-startedWith b z y = record { spins = b .spins; copies = z; offsets = y; multipliers = b .multipliers; masks = b .masks; word = b .word; certificate = b .certificate }
+-- of the buffers that a start zeroes so much, of the others nothing
+abbrev pub forStart : Lengths → Lengths
+forStart n x = cond (zeroed x) (n x) 0
 
 -- a start that is lent first parts of these buffers and is not refused, and calls from what it left; `ds` is what each call comes to
 pub record CodeRun (file : List ℕ) (l : List ℤ) (calls : List Call) (b : Buffers) (ds : List Called) : Type 0 where
   pub first : StartCall
-  pub lentFirst : StartLent
+  pub lentFirst : Lengths
   pub sameFile : startsFile first ≡ file
-  pub sameCopies : startsCopies first ≡ take (lentFirst .copies) (b .copies)
-  pub sameOffsets : startsOffsets first ≡ take (lentFirst .offsets) (b .offsets)
+  pub sameLent : startsLent first ≡ partOf (forStart lentFirst) b
   pub progress : Progress
   pub begun : startGave first .answer ≡ gives progress
-  pub chain : Chain file l calls (record { progress = progress; buffers = startedWith b (over (startGave first .copies) (b .copies)) (over (startGave first .offsets) (b .offsets)) }) ds
+  pub chain : Chain file l calls (record { progress = progress; buffers = overAll (startGave first .buffers) b }) ds
   pub lent : AllLent b calls
 
-only-fresh : (z y : List ℤ) (a : Answer Table) (p : Progress) → startBy z y a .answer ≡ gives p → p ≡ fresh
-only-fresh z y (refused k) p e = absurd (refused≢gives e)
-only-fresh z y (gives t) p e = sym (gives-inj _ _ e)
+only-fresh : (b : Buffers) (a : Answer Table) (p : Progress) → startBy b a .answer ≡ gives p → p ≡ fresh
+only-fresh b (refused k) p e = absurd (refused≢gives e)
+only-fresh b (gives t) p e = sym (gives-inj _ _ e)
 
 module _ {file : List ℕ} {l : List ℤ} {calls : List Call} {b : Buffers} {ds : List Called} (h : CodeRun file l calls b ds) where
-  started-is : startGave (h .first) ≡ startOn file (h .lentFirst) b
-  started-is = start-says (h .first) ∙ ap (λ g. start g (startsCopies (h .first)) (startsOffsets (h .first))) (h .sameFile) ∙ ap₂ (start file) (h .sameCopies) (h .sameOffsets)
+  started-is : startGave (h .first) ≡ startOn file (forStart (h .lentFirst)) b
+  started-is = start-says (h .first) ∙ ap₂ start (h .sameFile) (h .sameLent)
 
   begins-fresh : h .progress ≡ fresh
   unfolding start
   begins-fresh =
-      let z = take (h .lentFirst .copies) (b .copies) in
-      let y = take (h .lentFirst .offsets) (b .offsets) in
-      only-fresh z y (then (codeFile file) (λ t. must (leb (edgesOf t) (length z) && leb (edgesOf t) (length y)) bufferShort (gives t))) (h .progress)
-      (ap (λ d. d .answer) (sym started-is) ∙ h .begun)
+      let z = partOf (forStart (h .lentFirst)) b in
+      only-fresh z (then (codeFile file) (λ t. must (fitsStart t (lengthsOf z)) bufferShort (gives t))) (h .progress) (ap (λ d. d .answer) (sym started-is) ∙ h .begun)
 
   module _ (t : Table) (isFile : codeFile file ≡ gives t) where
     fresh-start : FreshStart file t b
-    fresh-start = record { isTable = isFile; lent = h .lentFirst; started = ap (λ d. d .answer) (sym started-is) ∙ h .begun ∙ ap gives begins-fresh }
+    fresh-start = record { isTable = isFile; lent = forStart (h .lentFirst); started = ap (λ d. d .answer) (sym started-is) ∙ h .begun ∙ ap gives begins-fresh }
 
     run-is : ds ≡ listFrom file l calls b
     unfolding fresh-start
-    run-is = chain-is (h .chain)
-        ∙ ap₂ (λ p d. callList file l calls (record { progress = p; buffers = startedWith b (over (d .copies) (b .copies)) (over (d .offsets) (b .offsets)) })) begins-fresh started-is
-        ∙ ap₂ (λ z y. callList file l calls (record { progress = fresh; buffers = startedWith b z y })) (started-copies file t b fresh-start) (started-offsets file t b fresh-start)
+    run-is = chain-is (h .chain) ∙ ap₂ (λ p d. callList file l calls (record { progress = p; buffers = overAll (d .buffers) b })) begins-fresh started-is
+        ∙ ap (λ x. callList file l calls (record { progress = fresh; buffers = x })) (started-back file t b fresh-start)
 
 -- ---- demand 3: the list on the frame comes to `da`, the same list on the negated frame to `db`
 pub record CodeDemand3 (file : List ℕ) (t : Table) (l : List ℤ) (c : List Bool) (calls : List Call) (a : Buffers) (da db : List Called) : Type 0 where

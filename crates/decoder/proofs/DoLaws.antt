@@ -1,111 +1,176 @@
--- A round of a ready run: what its halves are given, and that they make it. Assumes nothing.
+-- A round of a running run on buffers of exactly the stated lengths: what its parts are given, and that they make it. Assumes nothing.
 use mathlib.Core.Path.{_≡_, refl, sym, _∙_, ap, ap₂, subst}
-use mathlib.Core.Bool.{Bool}
+use mathlib.Core.Bool.{Bool, true, false}
 use mathlib.Core.List.{List, [], _∷_}
-use mathlib.Core.Option.{Option, some, none}
-use Prim.Native.Nat.{ℕ, suc, _+_, _*_, _≤_}
+use mathlib.Core.Option.{Option}
+use Prim.Native.Nat.{ℕ, suc, _*_, _≤_, _<_}
 use native.Mathlib.Omega.{arith}
 use lib.ListN.{length}
 use lib.IntN.{ℤ}
-use Rattle.rules.specs.Table.{Table, edges}
+use Rattle.integers.specs.Linear.{Within}
+use Rattle.integers.specs.Sum.{AllWithin}
+use Rattle.rules.specs.Limits.{unit, roundLimit, offsetPerRound}
+use Rattle.rules.specs.Table.{Table, at, edges, edgesOf, checksOf, degreeOf}
+use Rattle.rules.specs.Cut.{negatives, keep}
 use Rattle.rules.specs.Step.{Entry}
-use Rattle.rules.specs.Round.{State, round}
-use Rattle.rules.specs.Buffers.{Buffers, multipliersOf}
-use Rattle.rules.specs.Run.{Progress, statusAt, written}
+use Rattle.rules.specs.Round.{State, spin, firstOf, Round, round}
+use Rattle.rules.specs.Buffers.{spins, copies, offsets, multipliers, masks, Lengths, lengthsOf, needs, multipliersOf, masksOf}
+use Rattle.rules.specs.Run.{Progress, Run, statusAt, moved, stateIn, iterate}
 use Rattle.rules.proofs.Pass.{AtMost}
-use Rattle.rules.proofs.RoundSizes.{Sized, round-sized}
-use Rattle.rules.proofs.Runs.{multipliers-limit}
+use Rattle.rules.proofs.RoundSizes.{first-length, Sized, round-sized}
+use Rattle.rules.proofs.Runs.{multipliers-limit, safe-moves}
 use Rattle.decoder.specs.Layout.{checksFrom, tableOf, Holds}
+use Rattle.decoder.specs.Spins.{SpinsFit}
+use Rattle.decoder.specs.Passed.{Passed, PassFits, passed, passedOf}
 use Rattle.decoder.specs.Closing.{AllUpTo, GapFits}
-use Rattle.decoder.specs.Ready.{Given, Ready}
-use Rattle.decoder.specs.Done.{isSome, statusBy, Moved, movedBy, MoveFits, closedBy, Closed, closing, roundOf}
-use Rattle.decoder.proofs.RoundLaws.{round-law}
+use Rattle.decoder.specs.Found.{found, closing, statusBy, recordBy}
+use Rattle.decoder.specs.Rounds.{Given, inner, looped, filled, roundsFrom, Ready}
+use Rattle.decoder.proofs.LayoutLaws.{members-below, members-fit}
+use Rattle.decoder.proofs.ExactLaws.{over-exact, state-exact}
+use Rattle.decoder.proofs.RoundLaws.{spins-are, passed-is, spins-within, foundIn, round-closed}
 
 up-to : (n : ℕ) (es : List Entry) → AtMost n es → AllUpTo n (multipliersOf es)
 up-to n [] h = tt
 up-to n (e ∷ es) h = (h .0, up-to n es (h .1))
 
-status-by : (k : ℕ) (o : Option (List Bool)) → statusBy (isSome o) k ≡ statusAt k o
-status-by k none = refl
-status-by k (some w) = refl
+status-by : (k : ℕ) (b : Bool) (w : List Bool) → statusBy b k ≡ statusAt k (keep b w)
+status-by k true w = refl
+status-by k false w = refl
 
-module _ (n : ℕ) (l : List ℤ) (ss ms ds : List ℕ) (b : Buffers) (g : Given n l ss ms ds) (h : Ready n ss ms b) where
+-- ---- wider limits
+pub wide-all : (a b : ℕ) (xs : List ℤ) → a ≤ b → AllWithin a xs → AllWithin b xs
+wide-all a b [] h w = tt
+wide-all a b (x ∷ xs) h w = (one x (w .0), wide-all a b xs h (w .1))
+  where
+    one : (x : ℤ) → Within a x → Within b x
+    one x w = record { hi = omega arith; lo = omega arith }
+
+offsets-low : (k : ℕ) → k < roundLimit → offsetPerRound * k ≤ 8380416
+offsets-low k h = omega arith
+
+module _ (l : List ℤ) (ss ms ds : List ℕ) (r : Run) (g : Given (length l) l ss ms ds) (h : Ready l ss ms r) where
   t : Table
-  t = tableOf n ss ms
+  t = tableOf (length l) ss ms
 
   st : State
-  st = record { copies = b .copies; offsets = b .offsets }
+  st = record { copies = r .buffers .copies; offsets = r .buffers .offsets }
 
-  members-long : length (edges (checksFrom ss ms)) ≡ length ms
+  d : Round
+  d = round t l st
+
+  here : stateIn (tableOf (length l) ss ms) (filled (tableOf (length l) ss ms) r .buffers) ≡ record { copies = r .buffers .copies; offsets = r .buffers .offsets }
+  here = state-exact (tableOf (length l) ss ms) (filled (tableOf (length l) ss ms) r .buffers) (h .sizes)
+
+  -- ---- what the spins and the pass are given
+  pub early : r .progress .rounds < roundLimit
+  early = h .safe .early (h .runs)
+
+  members-long : edgesOf (tableOf (length l) ss ms) ≡ length ms
   members-long = ap length (sym (g .holds .members))
 
-  spins-long : length (b .spins) ≡ n
-  spins-long = ap (λ x. x .spins) (h .sizes)
+  spins-long : length (r .buffers .spins) ≡ length l
+  spins-long = ap (λ n. n spins) (h .sizes)
 
-  pub move-fits : MoveFits (length (b .spins)) l ss ms ds (b .copies) (b .offsets) (b .multipliers) (b .masks)
-  move-fits = record {
-    given = subst (λ k. Given k l ss ms ds) (sym spins-long) g;
-    copiesLong = ap (λ x. x .copies) (h .sizes) ∙ members-long;
-    offsetsLong = ap (λ x. x .offsets) (h .sizes) ∙ members-long;
-    copies = h .copies;
-    offsets = h .offsets;
-    multipliersLong = ap (λ x. x .multipliers) (h .sizes);
-    masksLong = ap (λ x. x .masks) (h .sizes);
-  }
+  copies-long : length (r .buffers .copies) ≡ length ms
+  copies-long = ap (λ n. n copies) (h .sizes) ∙ members-long
 
-  -- after steps 1 to 3
-  module _ (x : Moved) (e : x ≡ movedBy (round (tableOf (length (b .spins)) ss ms) l (record { copies = b .copies; offsets = b .offsets }))) where
-    moved-is : x ≡ movedBy (round t l st)
-    unfolding t st
-    moved-is = e ∙ ap (λ k. movedBy (round (tableOf k ss ms) l st)) spins-long
+  offsets-long : length (r .buffers .offsets) ≡ length ms
+  offsets-long = ap (λ n. n offsets) (h .sizes) ∙ members-long
 
-    sized : Sized t (round t l st)
-    sized = round-sized t l st
+  offsets-within : AllWithin (offsetPerRound * r .progress .rounds) (r .buffers .offsets)
+  offsets-within = subst (λ s. AllWithin (offsetPerRound * r .progress .rounds) (s .offsets)) here (h .safe .offsets)
 
-    x-spins : length (x .spins) ≡ n
-    unfolding t
-    x-spins = ap (λ y. length (y .spins)) moved-is ∙ sized .spins
+  offsets-few : AllWithin 8380416 (r .buffers .offsets)
+  offsets-few = wide-all (offsetPerRound * r .progress .rounds) 8380416 (r .buffers .offsets) (offsets-low (r .progress .rounds) early) offsets-within
 
-    x-masks : length (x .masks) ≡ length (checksFrom ss ms)
-    unfolding t
-    x-masks = ap (λ y. length (y .masks)) moved-is ∙ sized .masks
+  pub spins-fit : SpinsFit (length (r .buffers .spins)) l ms ds (r .buffers .copies) (r .buffers .offsets)
+  spins-fit = subst (λ n. SpinsFit n l ms ds (r .buffers .copies) (r .buffers .offsets)) (sym spins-long) (record {
+    few = g .holds .sound .bits .1;
+    size = g .size;
+    frame = g .frame;
+    edges = members-fit (length l) ss ms (g .holds) .0;
+    below = members-below (length l) ss ms (g .holds);
+    copiesLong = copies-long;
+    offsetsLong = offsets-long;
+    copies = subst (λ s. AllWithin unit (s .copies)) here (h .safe .copies);
+    offsets = offsets-few;
+    room = g .room;
+    degrees = g .degrees;
+    standing = λ i k. subst (λ es. (1 ≤ degreeOf i es) × (degreeOf i es ≤ 32)) (sym (g .holds .members)) (g .holds .sound .standing i k);
+  })
 
-    gap-fits : GapFits (length (x .spins)) l (x .spins) ss ms (x .multipliers) (x .masks)
-    unfolding t st
-    gap-fits = record {
-      holds = subst (λ k. Holds k ss ms) (sym x-spins) (g .holds);
-      frameLong = g .size ∙ sym x-spins;
-      frame = g .frame;
-      spinsLong = refl;
-      multipliersLong = ap (λ y. length (y .multipliers)) moved-is ∙ sized .multipliers;
-      masksLong = x-masks;
-      multipliers = subst (λ y. AllUpTo 8388608 (y .multipliers)) (sym moved-is) (up-to 8388608 (round t l st .entries) (multipliers-limit t l st 1023 (omega arith) (h .offsets)));
+  -- after step 1
+  module _ (s : List ℤ) (e : s ≡ firstOf (length (r .buffers .spins)) (spin unit ms l (record { copies = r .buffers .copies; offsets = r .buffers .offsets }))) where
+    e' : s ≡ firstOf (length l) (spin unit ms l (record { copies = r .buffers .copies; offsets = r .buffers .offsets }))
+    e' = e ∙ ap (λ n. firstOf n (spin unit ms l (record { copies = r .buffers .copies; offsets = r .buffers .offsets }))) spins-long
+
+    s-long : length s ≡ length l
+    s-long = ap length e' ∙ first-length (length l) _
+
+    pub pass-fits : PassFits (length s) ss ms s (r .buffers .copies) (r .buffers .offsets) (r .buffers .multipliers) (r .buffers .masks)
+    pass-fits = record {
+      holds = subst (λ k. Holds k ss ms) (sym s-long) (g .holds);
+      size = refl;
+      spins = subst (λ x. AllWithin unit x) (sym e') (spins-within unit (length l) ms l _);
+      copiesLong = copies-long;
+      offsetsLong = offsets-long;
+      offsets = offsets-few;
+      multipliersLong = ap (λ n. n multipliers) (h .sizes);
+      masksLong = ap (λ n. n masks) (h .sizes);
     }
 
-    pub certify-fits : (GapFits (length (x .spins)) l (x .spins) ss ms (x .multipliers) (x .masks)) × (length (x .spins) ≤ length (b .word)) × (4 + 10 * length (x .masks) ≤ length (b .certificate))
-    certify-fits = (gap-fits, equal x-spins (ap (λ y. y .word) (h .sizes)), long (length (x .masks)) (length (checksFrom ss ms)) (length (b .certificate)) x-masks (ap (λ y. y .certificate) (h .sizes)))
-      where
-        equal : {a c d : ℕ} → a ≡ d → c ≡ d → a ≤ c
-        equal p q = omega arith
+    spins-is : s ≡ d .spins
+    unfolding d t st
+    spins-is = e' ∙ spins-are (length l) l ss ms (g .holds) _
 
-        long : (a c d : ℕ) → a ≡ c → d ≡ 4 + 10 * c → 4 + 10 * a ≤ d
-        long a c d p q = omega arith
+    -- after steps 2 and 3
+    module _ (p : Passed) (f : p ≡ passed (at s) (checksFrom ss ms) (r .buffers .offsets)) where
+      pass-is : p ≡ passedOf d
+      unfolding d t st
+      pass-is = passed-is (length l) l ss ms (g .holds) (record { copies = r .buffers .copies; offsets = r .buffers .offsets }) s p e' f
 
-    pub done-law : (y : Closed) (k : ℕ) (p : Progress)
-        → y ≡ closing (closedBy (length (x .spins)) l (checksFrom ss ms) (x .spins) (x .multipliers) (x .masks)) (x .multipliers) (x .masks) (b .word) (b .certificate)
-        → p ≡ record { rounds = k + 1; status = statusBy (y .ends) (k + 1) }
-        → record { progress = p; buffers = record { spins = x .spins; copies = x .copies; offsets = x .offsets; multipliers = x .multipliers; masks = x .masks; word = y .word; certificate = y .certificate } }
-        ≡ roundOf (tableOf n ss ms) l k b
-    unfolding roundOf t st
-    done-law y k p f q = ap₂ (λ a c. record { progress = a; buffers = c }) (q ∙ after) (law .0)
-      where
-        law : (record { spins = x .spins; copies = x .copies; offsets = x .offsets; multipliers = x .multipliers; masks = x .masks; word = y .word; certificate = y .certificate } ≡ written (round t l st) b)
-            × (y .ends ≡ isSome (round t l st .word))
-        law = round-law t l st b (h .sizes) x y moved-is
-            (f ∙ ap (λ m. closing (closedBy m l (checksFrom ss ms) (x .spins) (x .multipliers) (x .masks)) (x .multipliers) (x .masks) (b .word) (b .certificate)) x-spins)
+      sized : Sized t d
+      unfolding d t
+      sized = round-sized t l st
 
-        more : (k : ℕ) → k + 1 ≡ suc k
-        more k = omega arith
+      limited : AllUpTo 8388608 (p .multipliers)
+      unfolding d t st
+      limited = subst (λ x. AllUpTo 8388608 (x .multipliers)) (sym pass-is) (up-to 8388608 (d .entries) (multipliers-limit t l st (r .progress .rounds) early offsets-within))
 
-        after : _≡_ {A = Progress} (record { rounds = k + 1; status = statusBy (y .ends) (k + 1) }) (record { rounds = suc k; status = statusAt (suc k) (round t l st .word) })
-        after = ap₂ (λ m c. record { rounds = m; status = statusBy c m }) (more k) (law .1) ∙ ap (λ s. record { rounds = suc k; status = s }) (status-by (suc k) (round t l st .word))
+      pub gap-fits : GapFits (length s) l s ss ms (p .multipliers) (p .masks)
+      unfolding t
+      gap-fits = record {
+        holds = subst (λ k. Holds k ss ms) (sym s-long) (g .holds);
+        frameLong = sym s-long;
+        frame = g .frame;
+        spinsLong = refl;
+        multipliersLong = ap (λ x. length (x .multipliers)) pass-is ∙ sized .multipliers;
+        masksLong = ap (λ x. length (x .masks)) pass-is ∙ sized .masks;
+        multipliers = limited;
+      }
+
+      -- after step 4
+      module _ (o : Option ℤ) (q : Progress) (i : o ≡ found l (checksFrom ss ms) s (p .multipliers) (p .masks)) (j : q ≡ recordBy o (r .progress)) where
+        found-is : o ≡ foundIn t l d
+        unfolding t
+        found-is = i ∙ ap₂ (λ x y. found l (checksFrom ss ms) x (y .multipliers) (y .masks)) spins-is pass-is
+
+        record-is : q ≡ record { rounds = suc (r .progress .rounds); status = statusAt (suc (r .progress .rounds)) (d .word) }
+        unfolding d
+        record-is = j ∙ ap (λ x. recordBy x (r .progress)) found-is
+            ∙ ap (λ x. record { rounds = suc (r .progress .rounds); status = x })
+            (status-by (suc (r .progress .rounds)) (closing (foundIn t l (round t l st))) (negatives (round t l st .spins)) ∙ ap (statusAt (suc (r .progress .rounds))) (round-closed t l st))
+
+        -- the round is what the rules' next round is
+        pub done-law : record { progress = q; buffers = inner s (p .copies) (p .offsets) (p .multipliers) (p .masks) } ≡ roundsFrom 1 l ss ms r
+        unfolding roundsFrom iterate d t st
+        done-law = ap₂ (λ x y. record { progress = x; buffers = y }) record-is (ap₂ (λ x y. inner x (y .copies) (y .offsets) (y .multipliers) (y .masks)) spins-is pass-is ∙ sym exact)
+            ∙ ap (λ x. looped (moved (filled t r) (round t l x))) (sym here) ∙ ap looped (sym (safe-moves t l (filled t r) (h .safe) (h .runs)))
+          where
+            exact : looped (moved (filled t r) d) .buffers ≡ inner (d .spins) (d .state .copies) (d .state .offsets) (multipliersOf (d .entries)) (masksOf (d .entries))
+            exact = λ i. inner
+                (over-exact (d .spins) (r .buffers .spins) (sized .spins ∙ sym (ap (λ n. n spins) (h .sizes))) i)
+                (over-exact (d .state .copies) (r .buffers .copies) (sized .copies ∙ sym (ap (λ n. n copies) (h .sizes))) i)
+                (over-exact (d .state .offsets) (r .buffers .offsets) (sized .offsets ∙ sym (ap (λ n. n offsets) (h .sizes))) i)
+                (over-exact (multipliersOf (d .entries)) (r .buffers .multipliers) (sized .multipliers ∙ sym (ap (λ n. n multipliers) (h .sizes))) i)
+                (over-exact (masksOf (d .entries)) (r .buffers .masks) (sized .masks ∙ sym (ap (λ n. n masks) (h .sizes))) i)

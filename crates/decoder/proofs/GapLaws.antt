@@ -36,6 +36,12 @@ sum-fits p b t r = simp lin (omega arithZ)
 pub sum-within : (p b q : ℕ) (t r : ℤ) → Within p t → Within b r → p + b ≤ q → Within q (t +ℤ r)
 sum-within p b q t r = simp lin (omega arithZ)
 
+pub within-more : (p q : ℕ) (t : ℤ) → Within p t → p ≤ q → Within q t
+within-more p q t h k = record { hi = omega arith; lo = omega arith }
+
+pub diff-fits : (p b : ℕ) (t r : ℤ) → Within p t → Within b r → p + b ≤ 4611686018427387904 → SFits w64 (t -ℤ r)
+diff-fits p b t r = simp lin (omega arithZ)
+
 -- ---- a member's weight
 pub weight-fits : (x : ℤ) (b : ℕ) → natAbs x + 8388608 ≤ 268443647 → b ≤ 8388608 → SFits w32 (x +ℤ pos b) × SFits w32 (x -ℤ pos b)
 weight-fits x b h k = (simp lin (omega (arithZ, natAbs-is x)), simp lin (omega (arithZ, natAbs-is x)))

@@ -1,95 +1,87 @@
 -- The rounds of a call, one after the other: what is left of them is done from where the run stands. Assumes nothing.
-use mathlib.Core.Path.{_≡_, refl, sym, _∙_, ap, ap₂, subst}
-use mathlib.Core.List.{List, [], _∷_}
-use Prim.Native.Nat.{ℕ, suc, _-_, _*_, _≤_, _<_}
+use mathlib.Core.Path.{_≡_, refl, sym, _∙_, ap, subst, fun-ext}
+use mathlib.Core.Bool.{Bool, true, false, cond}
+use mathlib.Core.List.{List}
+use Prim.Native.Nat.{ℕ, zero, suc, _-_, _<_}
 use native.Mathlib.Omega.{arith}
+use lib.ListN.{length, length-replicate}
 use lib.IntN.{ℤ}
-use Rattle.integers.specs.Linear.{Within}
-use Rattle.integers.specs.Sum.{AllWithin}
-use Rattle.rules.specs.Limits.{unit, roundLimit, offsetPerRound}
 use Rattle.rules.specs.Table.{Table}
-use Rattle.rules.specs.Round.{round}
-use Rattle.rules.specs.Buffers.{Buffers, Lengths, lengthsOf, needs, Part}
-use Rattle.rules.specs.Run.{Status, running, certified, spent, Run, moved, stateIn, next, iterate}
-use Rattle.rules.proofs.BufferLaws.{past-lengths}
-use Rattle.rules.proofs.Runs.{Safe, safe-moves, iterate-safe, held-start, iterate-held, ended-stays, iterate-stays, running≢certified, spent≢running}
-use Rattle.decoder.specs.Ready.{offsetLimit, Ready}
-use Rattle.decoder.specs.Done.{leftBy, runAt, roundOf}
+use Rattle.rules.specs.Round.{Round}
+use Rattle.rules.specs.Buffers.{spins, copies, offsets, multipliers, masks, word, certificate, Buffer, lengthsOf, needs, Part}
+use Rattle.rules.specs.Run.{Status, running, certified, spent, Run, moved, tooLarge, nextBy, next, iterate}
+use Rattle.rules.proofs.BufferLaws.{by-name, part-refl, past-lengths}
+use Rattle.rules.proofs.Runs.{coming, Safe, iterate-safe, held-start, iterate-held, ended-stays, iterate-stays, running≢certified, spent≢running}
 use Rattle.decoder.specs.Layout.{tableOf}
-use Rattle.decoder.proofs.ExactLaws.{state-exact}
+use Rattle.decoder.specs.Rounds.{looped, filled, roundsFrom, Steady, leftBy}
 
--- The run stands at r with k rounds left, of a call for `wanted` from r₀.
+-- ---- what the rounds write does not depend on word and certificate
+module _ (t : Table) (l : List ℤ) where
+  next-looped : (r : Run) → looped (next t l r) ≡ looped (next t l (looped r))
+  unfolding next
+  next-looped r = go (r .progress .status) (coming t l r)
+    where
+      by-size : (b : Bool) (d : Round) → looped (cond b r (moved r d)) ≡ looped (cond b (looped r) (moved (looped r) d))
+      by-size true d = refl
+      by-size false d = refl
+
+      go : (s : Status) (d : Round) → looped (nextBy s r d) ≡ looped (nextBy s (looped r) d)
+      go running d = by-size (tooLarge (d .entries)) d
+      go certified d = refl
+      go spent d = refl
+
+  pub iterate-looped : (k : ℕ) (r : Run) → looped (iterate t l k r) ≡ looped (iterate t l k (looped r))
+  unfolding iterate
+  iterate-looped zero r = refl
+  iterate-looped (suc k) r = iterate-looped k (next t l r) ∙ ap (λ x. looped (iterate t l k x)) (next-looped r) ∙ sym (iterate-looped k (next t l (looped r)))
+
+-- with blank ones in their place the lengths are right
+pub filled-sizes : (t : Table) (r : Run) → lengthsOf (r .buffers) ≡ needs t → lengthsOf (filled t r .buffers) ≡ needs t
+filled-sizes t r e = fun-ext (by-name (λ x. lengthsOf (filled t r .buffers) x ≡ needs t x) (at spins) (at copies) (at offsets) (at multipliers) (at masks)
+    (length-replicate (needs t word) 0) (length-replicate (needs t certificate) 0))
+  where
+    at : (x : Buffer) → lengthsOf (r .buffers) x ≡ needs t x
+    at x = ap (λ n. n x) e
+
+-- ---- the run stands at r with k rounds left, of a call for `wanted` from r₀
 pub record Going (t : Table) (l : List ℤ) (wanted : ℕ) (r₀ : Run) (k : ℕ) (r : Run) : Type 0 where
-  pub whole : iterate t l wanted r₀ ≡ iterate t l k r
+  pub whole : looped (iterate t l wanted (filled t r₀)) ≡ looped (iterate t l k (filled t r))
   pub runs : 0 < k → r .progress .status ≡ running
-  pub safe : Safe t r
-  pub sizes : lengthsOf (r .buffers) ≡ needs t
+  pub sizes : lengthsOf (filled t r .buffers) ≡ needs t
+  pub safe : Safe t (filled t r)
 
--- ---- at first
-pub wide-all : (a b : ℕ) (xs : List ℤ) → a ≤ b → AllWithin a xs → AllWithin b xs
-wide-all a b [] h w = tt
-wide-all a b (x ∷ xs) h w = (one x (w .0), wide-all a b xs h (w .1))
-  where
-    one : (x : ℤ) → Within a x → Within b x
-    one x w = record { hi = omega arith; lo = omega arith }
+pub going-first : {t : Table} {l : List ℤ} {r : Run} (wanted : ℕ) → Steady t r → Going t l wanted r wanted r
+going-first wanted h = record { whole = refl; runs = λ p. h .runs; sizes = h .sizes; safe = h .safe }
 
-pub offsets-low : (k : ℕ) → k < roundLimit → offsetPerRound * k ≤ offsetLimit
-offsets-low k h = omega arith
+pub going-ready : {t : Table} {l : List ℤ} {wanted : ℕ} {r₀ : Run} {k : ℕ} {r : Run} → Going t l wanted r₀ k r → 0 < k → Steady t r
+going-ready g h = record { runs = g .runs h; sizes = g .sizes; safe = g .safe }
 
-pub going-first : (n : ℕ) (l : List ℤ) (ss ms : List ℕ) (wanted done : ℕ) (b : Buffers) → done < roundLimit → Ready n ss ms b → AllWithin (offsetPerRound * done) (b .offsets)
-    → Going (tableOf n ss ms) l wanted (runAt done b) wanted (runAt done b)
-going-first n l ss ms wanted done b h r o = record {
-  whole = refl;
-  runs = λ p. refl;
-  safe = record {
-    copies = subst (λ s. AllWithin unit (s .copies)) (sym (state-exact (tableOf n ss ms) b (r .sizes))) (r .copies);
-    offsets = subst (λ s. AllWithin (offsetPerRound * done) (s .offsets)) (sym (state-exact (tableOf n ss ms) b (r .sizes))) o;
-    early = λ e. h;
-  };
-  sizes = r .sizes;
-}
+-- ---- after a round
+module _ (l : List ℤ) (ss ms : List ℕ) (wanted : ℕ) (r₀ : Run) (k : ℕ) (r q : Run) (g : Going (tableOf (length l) ss ms) l wanted r₀ k r) (h : 0 < k) (e : q ≡ roundsFrom 1 l ss ms r) where
+  t : Table
+  t = tableOf (length l) ss ms
 
--- as long as needed
-pub same-part : (n : Lengths) → Part n n
-same-part n = record { spins = omega arith; copies = omega arith; offsets = omega arith; multipliers = omega arith; masks = omega arith; word = omega arith; certificate = omega arith }
+  was : Run
+  was = next t l (filled t r)
 
--- ---- before a round
-pub going-early : (t : Table) (l : List ℤ) (wanted : ℕ) (r₀ : Run) (k : ℕ) (r : Run) → Going t l wanted r₀ k r → 0 < k → r .progress .rounds < roundLimit
-going-early t l wanted r₀ k r g h = g .safe .early (g .runs h)
-
-pub going-ready : (n : ℕ) (l : List ℤ) (ss ms : List ℕ) (wanted : ℕ) (r₀ : Run) (k : ℕ) (r : Run) → Going (tableOf n ss ms) l wanted r₀ k r → 0 < k → Ready n ss ms (r .buffers)
-going-ready n l ss ms wanted r₀ k r g h = record {
-  sizes = g .sizes;
-  copies = subst (λ s. AllWithin unit (s .copies)) here (g .safe .copies);
-  offsets = wide-all (offsetPerRound * r .progress .rounds) offsetLimit (r .buffers .offsets) (offsets-low (r .progress .rounds) (going-early (tableOf n ss ms) l wanted r₀ k r g h))
-      (subst (λ s. AllWithin (offsetPerRound * r .progress .rounds) (s .offsets)) here (g .safe .offsets));
-}
-  where
-    here : stateIn (tableOf n ss ms) (r .buffers) ≡ record { copies = r .buffers .copies; offsets = r .buffers .offsets }
-    here = state-exact (tableOf n ss ms) (r .buffers) (g .sizes)
-
--- ---- after it
-module _ (t : Table) (l : List ℤ) (wanted : ℕ) (r₀ : Run) (k : ℕ) (r q : Run) (g : Going t l wanted r₀ k r) (h : 0 < k) (e : q ≡ roundOf t l (r .progress .rounds) (r .buffers)) where
-  is-run : runAt (r .progress .rounds) (r .buffers) ≡ r
-  is-run = ap (λ s. record { progress = record { rounds = r .progress .rounds; status = s }; buffers = r .buffers }) (sym (g .runs h))
-
-  q-next : q ≡ next t l r
-  unfolding roundOf
-  q-next = e ∙ ap₂ moved is-run (ap (round t l) (sym (state-exact t (r .buffers) (g .sizes)))) ∙ sym (safe-moves t l r (g .safe) (g .runs h))
+  q-is : q ≡ looped was
+  unfolding roundsFrom iterate was t
+  q-is = e
 
   one-less : (k : ℕ) → 0 < k → k ≡ suc (k - 1)
   one-less k h = omega arith
 
-  whole-next : iterate t l wanted r₀ ≡ iterate t l (k - 1) q
-  unfolding iterate
-  whole-next = g .whole ∙ ap (λ n. iterate t l n r) (one-less k h) ∙ ap (iterate t l (k - 1)) (sym q-next)
+  whole-next : looped (iterate t l wanted (filled t r₀)) ≡ looped (iterate t l (k - 1) (filled t q))
+  unfolding iterate was t
+  whole-next = g .whole ∙ ap (λ n. looped (iterate t l n (filled t r))) (one-less k h) ∙ iterate-looped t l (k - 1) was
+      ∙ ap (λ x. looped (iterate t l (k - 1) (looped x))) (sym q-is) ∙ sym (iterate-looped t l (k - 1) (filled t q))
 
   -- an ended run does no more rounds
-  ended-none : (s : Status) → (s ≡ running → ⊥) → q .progress .status ≡ s → iterate t l (k - 1) q ≡ iterate t l 0 q
+  ended-none : (s : Status) → (s ≡ running → ⊥) → q .progress .status ≡ s → iterate t l (k - 1) (filled t q) ≡ iterate t l 0 (filled t q)
   unfolding iterate
-  ended-none s f p = iterate-stays t l (k - 1) q (ended-stays t l q (λ w. f (sym p ∙ w)))
+  ended-none s f p = iterate-stays t l (k - 1) (filled t q) (ended-stays t l (filled t q) (λ w. f (sym p ∙ w)))
 
-  whole-left : (s : Status) → q .progress .status ≡ s → iterate t l (k - 1) q ≡ iterate t l (leftBy s k) q
+  whole-left : (s : Status) → q .progress .status ≡ s → iterate t l (k - 1) (filled t q) ≡ iterate t l (leftBy s k) (filled t q)
   whole-left running p = refl
   whole-left certified p = ended-none certified (λ w. running≢certified (sym w)) p
   whole-left spent p = ended-none spent spent≢running p
@@ -99,23 +91,25 @@ module _ (t : Table) (l : List ℤ) (wanted : ℕ) (r₀ : Run) (k : ℕ) (r q :
   runs-left certified p w = absurd (omega arith)
   runs-left spent p w = absurd (omega arith)
 
-  q-safe : Safe t q
-  unfolding iterate
-  q-safe = subst (Safe t) (sym q-next) (iterate-safe t l 1 r (g .safe))
+  q-safe : Safe t (filled t q)
+  unfolding iterate was t
+  q-safe = let s = iterate-safe t l 1 (filled t r) (g .safe) in subst (λ x. Safe t (filled t x)) (sym q-is) (record { copies = s .copies; offsets = s .offsets; early = s .early })
 
-  q-sizes : lengthsOf (q .buffers) ≡ needs t
-  unfolding iterate
-  q-sizes = ap (λ z. lengthsOf (z .buffers)) q-next ∙ past-lengths (needs t) (next t l r .buffers) (r .buffers) (iterate-held t l 1 (r .buffers) r (held-start t r fits) .past) ∙ g .sizes
+  q-sizes : lengthsOf (filled t q .buffers) ≡ needs t
+  unfolding iterate was t
+  q-sizes = ap (λ x. lengthsOf (filled t x .buffers)) q-is ∙ filled-sizes t was
+      (past-lengths (needs t) (was .buffers) (filled t r .buffers) (iterate-held t l 1 (filled t r .buffers) (filled t r) (held-start t (filled t r) fits) .past) ∙ g .sizes)
     where
-      fits : Part (needs t) (lengthsOf (r .buffers))
-      fits = subst (Part (needs t)) (sym (g .sizes)) (same-part (needs t))
+      fits : Part (needs t) (lengthsOf (filled t r .buffers))
+      fits = subst (Part (needs t)) (sym (g .sizes)) (part-refl (needs t))
 
-  pub going-next : (j : ℕ) → j ≡ leftBy (q .progress .status) k → Going t l wanted r₀ j q
+  pub going-next : (j : ℕ) → j ≡ leftBy (q .progress .status) k → Going (tableOf (length l) ss ms) l wanted r₀ j q
+  unfolding t
   going-next j p = subst (λ n. Going t l wanted r₀ n q) (sym p) (record {
-    whole = whole-next ∙ whole-left (q .progress .status) refl;
+    whole = whole-next ∙ ap looped (whole-left (q .progress .status) refl);
     runs = runs-left (q .progress .status) refl;
-    safe = q-safe;
     sizes = q-sizes;
+    safe = q-safe;
   })
 
 pub left-less : (s : Status) (k j : ℕ) → 0 < k → j ≡ leftBy s k → j < k
@@ -124,6 +118,6 @@ left-less certified k j h e = omega arith
 left-less spent k j h e = omega arith
 
 -- ---- at last
-pub going-last : (t : Table) (l : List ℤ) (wanted : ℕ) (r₀ : Run) (k : ℕ) (r : Run) → k ≡ 0 → Going t l wanted r₀ k r → r ≡ iterate t l wanted r₀
-unfolding iterate
-going-last t l wanted r₀ k r e g = sym (g .whole ∙ ap (λ n. iterate t l n r) e)
+pub going-last : (l : List ℤ) (ss ms : List ℕ) (wanted : ℕ) (r₀ : Run) (k : ℕ) (r : Run) → k ≡ 0 → Going (tableOf (length l) ss ms) l wanted r₀ k r → looped r ≡ roundsFrom wanted l ss ms r₀
+unfolding iterate roundsFrom
+going-last l ss ms wanted r₀ k r e g = sym (g .whole ∙ ap (λ n. looped (iterate (tableOf (length l) ss ms) l n (filled (tableOf (length l) ss ms) r))) e)

@@ -26,8 +26,6 @@ pub mod GapLaws
 pub mod BoundLaws
 pub mod ClosingLaws
 pub mod RoundLaws
-pub mod HalvesLaws
 pub mod DoLaws
-pub mod PartsLaws
-pub mod Demand3
 pub mod ViewLaws
+pub mod Demand3

@@ -1,65 +1,230 @@
--- An admitted call: what its rounds are given, and its answer. Assumes nothing.
+-- An admitted call: what its rounds are given, and that the rounds on the first parts and the end make it. Assumes nothing.
 use mathlib.Core.Path.{_≡_, refl, sym, _∙_, ap, ap₂, subst}
-use mathlib.Core.Bool.{cond}
-use mathlib.Core.List.{List, [], _∷_, _++_}
+use mathlib.Core.Bool.{Bool, true, false}
+use mathlib.Core.List.{List, _++_}
+use mathlib.Core.Option.{some, none}
 use Prim.Native.Nat.{ℕ, _+_, _*_, _≤_, _<_}
 use native.Mathlib.Omega.{arith}
-use borrow.Author.Tests.{eq-eqb}
-use lib.ListN.{length, getD}
+use lib.ListN.{length, take, drop, getD, take-append-drop}
+use lib.Seq.{length-take-le}
 use lib.IntN.{ℤ}
 use Rattle.integers.specs.Sum.{AllWithin}
-use Rattle.rules.specs.Limits.{frameLimit, roundLimit, offsetPerRound, maxBits, maxEdges}
-use Rattle.rules.specs.Refusal.{Answer, refused, gives, multiplierLarge}
-use Rattle.rules.specs.Table.{Table, edges, degreeOf}
-use Rattle.rules.specs.Buffers.{Buffers}
-use Rattle.rules.specs.Run.{Status, running, certified, spent, Run, iterate, answerAt, ranOn}
-use Rattle.rules.proofs.Duality.{Below}
-use Rattle.rules.proofs.Optimal.{AllBelow}
-use Rattle.rules.proofs.Runs.{Safe}
-use Rattle.rules.proofs.Counted.{all-counted}
+use Rattle.rules.specs.Limits.{unit, frameLimit, maxBits, maxChecks, offsetPerRound, certificateLength}
+use Rattle.rules.specs.Table.{Table, edgesOf, degreeOf}
+use Rattle.rules.specs.Cut.{negatives, keep}
+use Rattle.rules.specs.Round.{Round}
+use Rattle.rules.specs.Buffers.{spins, copies, offsets, multipliers, masks, word, certificate, Buffer, Elem, the, lent, lengthsOf, needsBy, needs, Part, partOf, over, overBy, wordLeft, certificateLeft, multipliersOf, masksOf, bytesOf}
+use Rattle.rules.specs.Run.{Status, running, certified, spent, Run, moved, stateIn, iterate}
+use Rattle.rules.specs.Calls.{lend}
+use Rattle.rules.specs.Certificate.{certificateOf}
+use Rattle.rules.proofs.Basics.{none≢some, some-inj}
+use Rattle.rules.proofs.BufferLaws.{part-refl, lengths-part, take-over, AllPast, past-lengths}
+use Rattle.rules.proofs.CallPasses.{round-proper}
+use Rattle.rules.proofs.RoundSizes.{Sized, round-sized, state-part}
+use Rattle.rules.proofs.Runs.{coming, Safe, Kept, iterate-kept, held-start, iterate-held, running≢certified, spent≢certified}
+use Rattle.rules.proofs.Lends.{iterate-lend}
+use Rattle.writing.specs.Written.{certificateFrom}
 use Rattle.decoder.specs.Layout.{checksFrom, tableOf, Holds}
-use Rattle.decoder.specs.Ready.{Given, Ready}
-use Rattle.decoder.specs.Done.{runAt}
-use Rattle.decoder.proofs.PlaceLaws.{below-more}
-use Rattle.decoder.proofs.IterateLaws.{going-first}
+use Rattle.decoder.specs.Found.{closing}
+use Rattle.decoder.specs.Rounds.{Given, looped, filled, roundsFrom, Steady, Ready}
+use Rattle.decoder.specs.Finished.{Ending, finished, FinishFits, PartsFit}
+use Rattle.decoder.proofs.ClosingLaws.{certificate-from}
+use Rattle.decoder.proofs.RoundLaws.{foundIn, round-closed}
+use Rattle.decoder.proofs.IterateLaws.{iterate-looped, filled-sizes}
 
--- ---- a table's members
-below-++ : (n : ℕ) (ms es : List ℕ) → Below n ms → Below n es → Below n (ms ++ es)
-below-++ n [] es h k = k
-below-++ n (m ∷ ms) es h k = (h .0, below-++ n ms es (h .1) k)
+-- ---- what the rounds are given
+pub given-all : (n : ℕ) (l : List ℤ) (ss ms ds : List ℕ) → Holds n ss ms → length l ≡ n → AllWithin frameLimit l → length ds ≡ maxBits
+    → ((i : ℕ) → i < maxBits → getD ds i 0 ≡ degreeOf i ms) → Given (length l) l ss ms ds
+given-all n l ss ms ds h e w d f = subst (λ k. Given k l ss ms ds) (sym e) (record {
+  holds = h;
+  size = e;
+  frame = w;
+  room = omega (arith, h .sound .bits .1);
+  degrees = λ i k. f i (omega (arith, h .sound .bits .1));
+})
 
-below-edges : (n : ℕ) (cs : List (List ℕ)) → AllBelow n cs → Below n (edges cs)
-below-edges n [] h = tt
-below-edges n (ms ∷ cs) h = below-++ n ms (edges cs) (h .0) (below-edges n cs (h .1))
+pub room-after : {a b n : ℕ} → a ≡ b → n ≤ b → n ≤ a
+room-after e h = omega (arith, e, h)
 
-module _ (n : ℕ) (ss ms : List ℕ) (h : Holds n ss ms) where
-  pub members-below : Below n ms
-  members-below = subst (Below n) (sym (h .members)) (below-edges n (checksFrom ss ms) (h .sound .below))
+-- ---- the end of a call, by how the run stands
+module _ (v : Status) (s : List ℤ) (bs ks w c : List ℕ) where
+  pub finish-running : v ≡ running → record { word = w; certificate = c } ≡ finished v s bs ks (record { word = w; certificate = c })
+  finish-running e = ap (λ x. finished x s bs ks (record { word = w; certificate = c })) (sym e)
 
-  pub members-fit : (length ms ≤ maxEdges) × Below maxBits ms
-  members-fit = (subst (λ es. length es ≤ maxEdges) (sym (h .members)) (h .sound .few), below-more n maxBits ms (h .sound .bits .1) members-below)
+  pub finish-spent : v ≡ spent → record { word = w; certificate = c } ≡ finished v s bs ks (record { word = w; certificate = c })
+  finish-spent e = ap (λ x. finished x s bs ks (record { word = w; certificate = c })) (sym e)
 
-  pub given-all : (l : List ℤ) (ds : List ℕ) → length l ≡ n → AllWithin frameLimit l → length ds ≡ maxBits → ((i : ℕ) → i < maxBits → getD ds i 0 ≡ degreeOf i ms) → Given n l ss ms ds
-  given-all l ds e w d f = record {
-    holds = h;
-    size = e;
-    frame = w;
-    room = omega (arith, h .sound .bits .1);
-    degrees = λ i k. f i (omega (arith, h .sound .bits .1));
+  pub finish-certified : (w' c' : List ℕ) → v ≡ certified → w' ≡ over (bytesOf (negatives s)) w → c' ≡ over (certificateFrom bs ks) c
+      → record { word = w'; certificate = c' } ≡ finished v s bs ks (record { word = w; certificate = c })
+  finish-certified w' c' e f g = ap₂ (λ x y. record { word = x; certificate = y }) f g ∙ ap (λ x. finished x s bs ks (record { word = w; certificate = c })) (sym e)
+
+-- ---- the call
+module _ (n m e : ℕ) (l : List ℤ) (ss ms : List ℕ) (r : Run) (h : PartsFit n m e l ss ms r) where
+  abbrev t : Table
+  t = tableOf n (take (m + 1) ss) (take e ms)
+
+  edges-long : edgesOf t ≡ e
+  edges-long = ap length (sym (h .holds .members)) ∙ length-take-le e ms (h .membersRoom)
+
+  -- what n, m and e need is what the table needs
+  needs-are : needsBy n m e ≡ needs t
+  needs-are = ap₂ (needsBy n) (h .checks) (sym edges-long)
+
+  long : Part (needs t) (lengthsOf (r .buffers))
+  long = subst (λ x. Part x (lengthsOf (r .buffers))) needs-are (h .room)
+
+  part-sizes : lengthsOf (partOf (needsBy n m e) (r .buffers)) ≡ needs t
+  part-sizes = lengths-part (needsBy n m e) (r .buffers) (h .room) ∙ needs-are
+
+  part-needs : Part (needs t) (needsBy n m e)
+  part-needs = subst (Part (needs t)) (sym needs-are) (part-refl (needs t))
+
+  part-safe : Safe t (lend (needsBy n m e) r)
+  part-safe = record {
+    copies = subst (λ s. AllWithin unit (s .copies)) (sym here) (h .safe .copies);
+    offsets = subst (λ s. AllWithin (offsetPerRound * r .progress .rounds) (s .offsets)) (sym here) (h .safe .offsets);
+    early = h .safe .early;
   }
+    where
+      here : stateIn t (partOf (needsBy n m e) (r .buffers)) ≡ stateIn t (r .buffers)
+      here = state-part t (needsBy n m e) (r .buffers) part-needs
 
--- ---- the answer: a run that has not ended has done every round that was due
-pub answers : (s : Status) (a b : ℕ) → (s ≡ running → a ≡ b) → answerAt s a b ≡ gives s
-answers running a b h = ap (λ t. cond t (gives running) (refused multiplierLarge)) (eq-eqb a b (h refl))
-answers certified a b h = refl
-answers spent a b h = refl
+  -- the run on the parts that are needed
+  pub parts-ready : Ready l (take (m + 1) ss) (take e ms) (looped (lend (needsBy n m e) r))
+  parts-ready = subst (λ k. Steady (tableOf k (take (m + 1) ss) (take e ms)) (looped (lend (needsBy n m e) r))) (sym (h .size)) (record {
+    runs = h .runs;
+    sizes = filled-sizes t (lend (needsBy n m e) r) part-sizes;
+    safe = record { copies = part-safe .copies; offsets = part-safe .offsets; early = part-safe .early };
+  })
 
-ran-answers : (t : Table) (l : List ℤ) (k : ℕ) (r : Run) → Safe t r → ranOn (r .progress .rounds + k) (iterate t l k r) ≡ record { answer = gives (iterate t l k r .progress .status); run = iterate t l k r }
-ran-answers t l k r h = ap (λ a. record { answer = a; run = iterate t l k r })
-    (answers (iterate t l k r .progress .status) (iterate t l k r .progress .rounds) (r .progress .rounds + k) (all-counted t l k r h))
+  module _ (wanted : ℕ) (x : Run) (f : x ≡ roundsFrom wanted l (take (m + 1) ss) (take e ms) (looped (lend (needsBy n m e) r))) where
+    -- the whole run after the rounds
+    abbrev end : Run
+    end = iterate t l wanted r
 
-pub performed : (n : ℕ) (l : List ℤ) (ss ms : List ℕ) (done wanted : ℕ) (b : Buffers) → done < roundLimit → Ready n ss ms b → AllWithin (offsetPerRound * done) (b .offsets)
-    → (a : Answer Status) (r : Run) → r ≡ iterate (tableOf n ss ms) l wanted (runAt done b) → a ≡ gives (r .progress .status)
-    → record { answer = a; run = r } ≡ ranOn (done + wanted) (iterate (tableOf n ss ms) l wanted (runAt done b))
-performed n l ss ms done wanted b h ready o a r e f = ap₂ (λ x q. record { answer = x; run = q }) (f ∙ ap (λ q. gives (q .progress .status)) e) e
-    ∙ sym (ran-answers (tableOf n ss ms) l wanted (runAt done b) (going-first n l ss ms wanted done b h ready o .safe))
+    rounds-are : x ≡ looped (lend (needsBy n m e) end)
+    unfolding roundsFrom
+    rounds-are = f ∙ ap (λ k. looped (iterate (tableOf k (take (m + 1) ss) (take e ms)) l wanted (filled (tableOf k (take (m + 1) ss) (take e ms)) (looped (lend (needsBy n m e) r))))) (h .size)
+        ∙ iterate-looped t l wanted (filled t (lend (needsBy n m e) r)) ∙ sym (iterate-looped t l wanted (lend (needsBy n m e) r)) ∙ ap looped (iterate-lend t l (needsBy n m e) part-needs wanted r)
+
+    past : AllPast (needs t) (end .buffers) (r .buffers)
+    past = iterate-held t l wanted (r .buffers) r (held-start t r long) .past
+
+    end-sizes : lengthsOf (end .buffers) ≡ lengthsOf (r .buffers)
+    end-sizes = past-lengths (needs t) (end .buffers) (r .buffers) past
+
+    -- a part of what the rounds left, in front of what was there
+    back : (b : Buffer) (new : List (Elem b)) → new ≡ take (needsBy n m e b) (the b (end .buffers)) → new ++ drop (needsBy n m e b) (the b (r .buffers)) ≡ the b (end .buffers)
+    back b new p = ap₂ _++_ p (ap (λ k. drop (k b) (the b (r .buffers))) needs-are ∙ sym (past b .rest) ∙ ap (λ k. drop (k b) (the b (end .buffers))) (sym needs-are))
+        ∙ take-append-drop (needsBy n m e b) (the b (end .buffers))
+
+    pub spins-back : x .buffers .spins ++ drop n (r .buffers .spins) ≡ end .buffers .spins
+    spins-back = back spins (x .buffers .spins) (ap (λ q. q .buffers .spins) rounds-are)
+
+    pub copies-back : x .buffers .copies ++ drop e (r .buffers .copies) ≡ end .buffers .copies
+    copies-back = back copies (x .buffers .copies) (ap (λ q. q .buffers .copies) rounds-are)
+
+    pub offsets-back : x .buffers .offsets ++ drop e (r .buffers .offsets) ≡ end .buffers .offsets
+    offsets-back = back offsets (x .buffers .offsets) (ap (λ q. q .buffers .offsets) rounds-are)
+
+    pub multipliers-back : x .buffers .multipliers ++ drop m (r .buffers .multipliers) ≡ end .buffers .multipliers
+    multipliers-back = back multipliers (x .buffers .multipliers) (ap (λ q. q .buffers .multipliers) rounds-are)
+
+    pub masks-back : x .buffers .masks ++ drop m (r .buffers .masks) ≡ end .buffers .masks
+    masks-back = back masks (x .buffers .masks) (ap (λ q. q .buffers .masks) rounds-are)
+
+    -- ---- the end
+    front : {A : Type 0} (k : ℕ) (s s' : List A) → s ≡ s' → k ≤ length s' → length (take k s) ≡ k
+    front k s s' p q = ap (λ x. length (take k x)) p ∙ length-take-le k s' q
+
+    room : (b : Buffer) → needsBy n m e b ≤ length (the b (end .buffers))
+    room b = subst (λ k. needsBy n m e b ≤ k) (sym (ap (λ k. k b) end-sizes)) (h .room b)
+
+    pub finish-fits : (s : List ℤ) (bs ks : List ℕ) → s ≡ end .buffers .spins → bs ≡ end .buffers .multipliers → ks ≡ end .buffers .masks
+        → FinishFits (take n s) (take m bs) (take m ks) (r .buffers .word) (r .buffers .certificate)
+    finish-fits s bs ks p q i = record {
+      few = subst (λ k. k ≤ maxChecks) (sym masks-long) (h .few);
+      alike = front m bs (end .buffers .multipliers) q (room multipliers) ∙ sym masks-long;
+      word = subst (λ k. k ≤ length (r .buffers .word)) (sym (front n s (end .buffers .spins) p (room spins))) (h .room word);
+      certificate = subst (λ k. certificateLength k ≤ length (r .buffers .certificate)) (sym masks-long) (h .room certificate);
+    }
+      where
+        masks-long : length (take m ks) ≡ m
+        masks-long = front m ks (end .buffers .masks) i (room masks)
+
+    -- what the last round wrote is what the end writes
+    module _ (s : List ℤ) (bs ks : List ℕ) (p : s ≡ end .buffers .spins) (q : bs ≡ end .buffers .multipliers) (i : ks ≡ end .buffers .masks) where
+      kept : Kept t l (r .buffers) end
+      kept = iterate-kept t l wanted r (h .runs)
+
+      old : Ending
+      old = record { word = r .buffers .word; certificate = r .buffers .certificate }
+
+      untouched : (end .progress .status ≡ certified → ⊥) → old ≡ record { word = end .buffers .word; certificate = end .buffers .certificate }
+      unfolding old
+      untouched f = let u = kept .stays f in ap₂ (λ w c. record { word = w; certificate = c }) (sym (u .word)) (sym (u .certificate))
+
+      module _ (c : end .progress .status ≡ certified) where
+        last : Run
+        last = kept .ends c .last
+
+        d : Round
+        d = coming t l last
+
+        sized : Sized t d
+        unfolding d
+        sized = round-sized t l (stateIn t (last .buffers))
+
+        is : end ≡ moved last d
+        unfolding d last
+        is = kept .ends c .same
+
+        by : d .word ≡ some (kept .ends c .word)
+        unfolding d last
+        by = kept .ends c .by
+
+        last-spins : take n s ≡ d .spins
+        last-spins = ap (take n) (p ∙ ap (λ x. x .buffers .spins) is) ∙ take-over n (d .spins) (last .buffers .spins) (sized .spins)
+
+        last-multipliers : take m bs ≡ multipliersOf (d .entries)
+        last-multipliers = ap (take m) (q ∙ ap (λ x. x .buffers .multipliers) is) ∙ take-over m (multipliersOf (d .entries)) (last .buffers .multipliers) (sized .multipliers ∙ sym (h .checks))
+
+        last-masks : take m ks ≡ masksOf (d .entries)
+        last-masks = ap (take m) (i ∙ ap (λ x. x .buffers .masks) is) ∙ take-over m (masksOf (d .entries)) (last .buffers .masks) (sized .masks ∙ sym (h .checks))
+
+        keep-some : {A : Type 0} (b : Bool) (a c : A) → keep b a ≡ some c → a ≡ c
+        keep-some true a c e = some-inj a c e
+        keep-some false a c e = absurd (none≢some e)
+
+        last-word : negatives (take n s) ≡ kept .ends c .word
+        unfolding d last
+        last-word = ap negatives last-spins ∙ keep-some (closing (foundIn t l d)) (negatives (d .spins)) (kept .ends c .word) (round-closed t l (stateIn t (last .buffers)) ∙ by)
+
+        last-certificate : certificateFrom (take m bs) (take m ks) ≡ certificateOf (d .entries)
+        unfolding d last
+        last-certificate = ap₂ certificateFrom last-multipliers last-masks ∙ certificate-from (t .checks) (d .entries) (round-proper t l (stateIn t (last .buffers)))
+
+        wrote : finished certified (take n s) (take m bs) (take m ks) old ≡ record { word = end .buffers .word; certificate = end .buffers .certificate }
+        unfolding old last
+        wrote = ap₂ (λ w c. record { word = w; certificate = c })
+            (ap₂ (λ w o. over (bytesOf w) o) last-word (sym (kept .before c .word)) ∙ ap (λ o. overBy (wordLeft o) (last .buffers .word)) (sym by) ∙ ap (λ x. x .buffers .word) (sym is))
+            (ap₂ over last-certificate (sym (kept .before c .certificate)) ∙ ap (λ o. overBy (certificateLeft o (d .entries)) (last .buffers .certificate)) (sym by) ∙ ap (λ x. x .buffers .certificate) (sym is))
+
+      pub finish-law : (g : Ending) → g ≡ finished (x .progress .status) (take n s) (take m bs) (take m ks) (record { word = r .buffers .word; certificate = r .buffers .certificate })
+          → g ≡ record { word = end .buffers .word; certificate = end .buffers .certificate }
+      unfolding old
+      finish-law g j = j ∙ ap (λ y. finished (y .progress .status) (take n s) (take m bs) (take m ks) old) rounds-are ∙ go (end .progress .status) refl
+        where
+          go : (v : Status) → end .progress .status ≡ v → finished v (take n s) (take m bs) (take m ks) old ≡ record { word = end .buffers .word; certificate = end .buffers .certificate }
+          go running e = untouched (λ c. running≢certified (sym e ∙ c))
+          go certified e = wrote e
+          go spent e = untouched (λ c. spent≢certified (sym e ∙ c))
+
+    pub performed : (g : Ending) → g ≡ record { word = end .buffers .word; certificate = end .buffers .certificate }
+        → record { progress = x .progress; buffers = lent (x .buffers .spins ++ drop n (r .buffers .spins)) (x .buffers .copies ++ drop e (r .buffers .copies)) (x .buffers .offsets ++ drop e (r .buffers .offsets))
+        (x .buffers .multipliers ++ drop m (r .buffers .multipliers)) (x .buffers .masks ++ drop m (r .buffers .masks)) (g .word) (g .certificate) }
+        ≡ iterate (tableOf n (take (m + 1) ss) (take e ms)) l wanted r
+    performed g j = λ i. record {
+      progress = rounds-are i .progress;
+      buffers = lent (spins-back i) (copies-back i) (offsets-back i) (multipliers-back i) (masks-back i) (j i .word) (j i .certificate);
+    }

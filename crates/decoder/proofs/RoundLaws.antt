@@ -1,9 +1,10 @@
--- The two halves of a round make the round. Assumes nothing.
+-- A round as the code does it: its spins and its pass are the round's, and what step 4 finds decides the round's word. Assumes nothing.
 use mathlib.Core.Path.{_≡_, refl, sym, _∙_, ap, ap₂}
-use mathlib.Core.Bool.{Bool, true, _&&_}
+use mathlib.Core.Bool.{Bool, true, false, _&&_}
 use mathlib.Core.List.{List, [], _∷_}
 use mathlib.Core.Option.{Option, some, none}
 use Prim.Native.Nat.{ℕ, zero, suc}
+use lib.ListN.{length}
 use lib.IntN.{ℤ}
 use Rattle.integers.specs.Linear.{Within}
 use Rattle.integers.specs.Sum.{AllWithin}
@@ -11,29 +12,23 @@ use Rattle.rules.specs.Limits.{unit}
 use Rattle.rules.specs.Table.{Table, edges, at}
 use Rattle.rules.specs.Parity.{meets}
 use Rattle.rules.specs.Cut.{negatives, keep}
-use Rattle.rules.specs.Step.{Entry, Step}
+use Rattle.rules.specs.Step.{Entry}
 use Rattle.rules.specs.Bound.{rowsOf, gap}
-use Rattle.rules.specs.Round.{State, spin, pass, entriesIn, candidate, isZero, certify, firstOf, round}
-use Rattle.rules.specs.Buffers.{Buffers, lengthsOf, needs, over, multipliersOf, masksOf}
-use Rattle.rules.specs.Run.{overWord, overCertificate, written}
-use Rattle.rules.proofs.Pass.{AllLaid, pass-laid}
+use Rattle.rules.specs.Round.{State, spin, pass, entriesIn, candidate, isZero, certify, firstOf, Round, round}
+use Rattle.rules.specs.Buffers.{multipliersOf, masksOf}
 use Rattle.rules.proofs.WrittenPasses.{AllProper}
-use Rattle.rules.proofs.RoundSizes.{first-length, round-sized}
+use Rattle.rules.proofs.CallPasses.{round-proper}
+use Rattle.rules.proofs.RoundSizes.{first-length}
 use Rattle.rules.proofs.Runs.{spin-within}
 use Rattle.decoder.specs.Layout.{checksFrom, tableOf, Holds}
-use Rattle.decoder.specs.Passed.{Passed, passedBy, passed}
-use Rattle.decoder.specs.Closing.{metBy}
-use Rattle.decoder.specs.Done.{isSome, Moved, movedBy, closedBy, Closed, closing}
+use Rattle.decoder.specs.Passed.{Passed, passedBy, passedOf, passed}
+use Rattle.decoder.specs.Closing.{metBy, rowsFrom}
+use Rattle.decoder.specs.Found.{found, closing}
 use Rattle.decoder.proofs.PlaceLaws.{first-at}
 use Rattle.decoder.proofs.SpinLaws.{pass-same, candidate-same}
-use Rattle.decoder.proofs.ExactLaws.{written-exact}
-use Rattle.decoder.proofs.ClosingLaws.{rows-from, certificate-from, candidate-negatives}
+use Rattle.decoder.proofs.ClosingLaws.{rows-from, candidate-negatives}
 
 -- ---- steps 1 to 3
-moved-eq : {a a' b b' c c' : List ℤ} {d d' e e' : List ℕ} → a ≡ a' → b ≡ b' → c ≡ c' → d ≡ d' → e ≡ e'
-    → _≡_ {A = Moved} (record { spins = a; copies = b; offsets = c; multipliers = d; masks = e }) (record { spins = a'; copies = b'; offsets = c'; multipliers = d'; masks = e' })
-moved-eq p q r s t = λ i. record { spins = p i; copies = q i; offsets = r i; multipliers = s i; masks = t i }
-
 module _ (n : ℕ) (l : List ℤ) (ss ms : List ℕ) (h : Holds n ss ms) (st : State) where
   -- the spins, and the pass over the checks with them
   f : ℕ → ℤ
@@ -46,13 +41,9 @@ module _ (n : ℕ) (l : List ℤ) (ss ms : List ℕ) (h : Holds n ss ms) (st : S
   steps-are : pass unit (at (firstOf n f)) (checksFrom ss ms) (st .offsets) ≡ pass unit f (checksFrom ss ms) (st .offsets)
   steps-are = pass-same n f (at (firstOf n f)) (first-at n f) unit (checksFrom ss ms) (st .offsets) (h .sound .below)
 
-  pub move-law : (s : List ℤ) (p : Passed) → s ≡ firstOf n (spin unit ms l st) → p ≡ passed (at s) (checksFrom ss ms) (st .offsets)
-      → record { spins = s; copies = p .copies; offsets = p .offsets; multipliers = p .multipliers; masks = p .masks } ≡ movedBy (round (tableOf n ss ms) l st)
+  pub passed-is : (s : List ℤ) (p : Passed) → s ≡ firstOf n (spin unit ms l st) → p ≡ passed (at s) (checksFrom ss ms) (st .offsets) → p ≡ passedOf (round (tableOf n ss ms) l st)
   unfolding round passed f
-  move-law s p e g = moved-eq (e ∙ spins-are) (ap (λ x. x .copies) is) (ap (λ x. x .offsets) is) (ap (λ x. x .multipliers) is) (ap (λ x. x .masks) is)
-    where
-      is : p ≡ passedBy (pass unit f (checksFrom ss ms) (st .offsets))
-      is = g ∙ ap (λ x. passedBy (pass unit (at x) (checksFrom ss ms) (st .offsets))) (e ∙ spins-are) ∙ ap passedBy steps-are
+  passed-is s p e g = g ∙ ap (λ x. passedBy (pass unit (at x) (checksFrom ss ms) (st .offsets))) (e ∙ spins-are) ∙ ap passedBy steps-are
 
 first-within : (u n : ℕ) (g : ℕ → ℤ) → ((i : ℕ) → Within u (g i)) → AllWithin u (firstOf n g)
 first-within u zero g w = tt
@@ -63,20 +54,26 @@ pub spins-within : (u n : ℕ) (es : List ℕ) (l : List ℤ) (s : State) → Al
 spins-within u n es l s = first-within u n (spin u es l s) (spin-within u es l s)
 
 -- ---- step 4
-laid-proper : (u : ℕ) (cs : List (List ℕ)) (ss : List Step) → AllLaid u cs ss → AllProper cs (entriesIn ss)
-laid-proper u [] [] h = tt
-laid-proper u [] (s ∷ ss) h = absurd h
-laid-proper u (ms ∷ cs) [] h = absurd h
-laid-proper u (ms ∷ cs) (s ∷ ss) h = (h .0 .proper, laid-proper u cs ss (h .1))
+module _ (l : List ℤ) (cs : List (List ℕ)) (s : List ℤ) (bs ks : List ℕ) where
+  pub none-found : metBy (candidate (length s) (at s)) cs ≡ false → none ≡ found l cs s bs ks
+  unfolding found
+  none-found e = ap (λ m. keep m (gap (length s) 1 l (rowsFrom cs bs ks) (negatives s))) (sym e)
 
-pub round-proper : (t : Table) (l : List ℤ) (st : State) → AllProper (t .checks) (round t l st .entries)
-unfolding round
-round-proper t l st = laid-proper unit (t .checks) (pass unit (spin unit (edges (t .checks)) l st) (t .checks) (st .offsets)) (pass-laid unit (spin unit (edges (t .checks)) l st) (t .checks) (st .offsets))
+  pub word-found : (g : ℤ) → metBy (candidate (length s) (at s)) cs ≡ true → g ≡ gap (length s) 1 l (rowsFrom cs bs ks) (negatives s) → some g ≡ found l cs s bs ks
+  unfolding found
+  word-found g e f = ap some f ∙ ap (λ m. keep m (gap (length s) 1 l (rowsFrom cs bs ks) (negatives s))) (sym e)
+
+closing-keep : (m : Bool) (g : ℤ) → closing (keep m g) ≡ m && isZero g
+closing-keep true g = refl
+closing-keep false g = refl
 
 closed-law : (t : Table) (l : List ℤ) (g : ℕ → ℤ) (es : List Entry) → AllProper (t .checks) es
-    → closedBy (t .bits) l (t .checks) (firstOf (t .bits) g) (multipliersOf es) (masksOf es) ≡ certify t l (rowsOf (t .checks) es) (candidate (t .bits) g)
-unfolding closedBy
-closed-law t l g es p = ap₂ (λ o rs. keep (metBy o (t .checks) && isZero (gap (t .bits) 1 l rs (negatives s))) (negatives s)) same (rows-from (t .checks) es p) ∙ go (candidate (t .bits) g) refl
+    → keep (closing (found l (t .checks) (firstOf (t .bits) g) (multipliersOf es) (masksOf es))) (negatives (firstOf (t .bits) g)) ≡ certify t l (rowsOf (t .checks) es) (candidate (t .bits) g)
+unfolding found
+closed-law t l g es p =
+    ap (λ x. keep x (negatives s)) (closing-keep (metBy (candidate (length s) (at s)) (t .checks)) (gap (length s) 1 l (rowsFrom (t .checks) (multipliersOf es) (masksOf es)) (negatives s)))
+    ∙ ap (λ n. keep (metBy (candidate n (at s)) (t .checks) && isZero (gap n 1 l (rowsFrom (t .checks) (multipliersOf es) (masksOf es)) (negatives s))) (negatives s)) (first-length (t .bits) g)
+    ∙ ap₂ (λ o rs. keep (metBy o (t .checks) && isZero (gap (t .bits) 1 l rs (negatives s))) (negatives s)) same (rows-from (t .checks) es p) ∙ go (candidate (t .bits) g) refl
   where
     s : List ℤ
     s = firstOf (t .bits) g
@@ -92,28 +89,10 @@ closed-law t l g es p = ap₂ (λ o rs. keep (metBy o (t .checks) && isZero (gap
         word : w ≡ negatives s
         word = candidate-negatives s w (ap (λ m. candidate m (at s)) (first-length (t .bits) g) ∙ same ∙ e)
 
-pub round-closed : (t : Table) (l : List ℤ) (st : State)
-    → closedBy (t .bits) l (t .checks) (round t l st .spins) (multipliersOf (round t l st .entries)) (masksOf (round t l st .entries)) ≡ round t l st .word
+-- what the round finds, of its own spins, multipliers and masks
+abbrev pub foundIn : Table → List ℤ → Round → Option ℤ
+foundIn t l d = found l (t .checks) (d .spins) (multipliersOf (d .entries)) (masksOf (d .entries))
+
+pub round-closed : (t : Table) (l : List ℤ) (st : State) → keep (closing (foundIn t l (round t l st))) (negatives (round t l st .spins)) ≡ round t l st .word
 unfolding round
 round-closed t l st = closed-law t l (spin unit (edges (t .checks)) l st) (entriesIn (pass unit (spin unit (edges (t .checks)) l st) (t .checks) (st .offsets))) (round-proper t l st)
-
--- ---- the whole round
-module _ (t : Table) (l : List ℤ) (st : State) (b : Buffers) (exact : lengthsOf b ≡ needs t) where
-  closing-is : (o : Option (List Bool)) → closing o (multipliersOf (round t l st .entries)) (masksOf (round t l st .entries)) (b .word) (b .certificate)
-      ≡ record { ends = isSome o; word = overWord o (b .word); certificate = overCertificate o (round t l st .entries) (b .certificate) }
-  closing-is none = refl
-  closing-is (some w) = ap (λ c. record { ends = true; word = overWord (some w) (b .word); certificate = over c (b .certificate) }) (certificate-from (t .checks) (round t l st .entries) (round-proper t l st))
-
-  pub round-law : (x : Moved) (y : Closed) → x ≡ movedBy (round t l st)
-      → y ≡ closing (closedBy (t .bits) l (t .checks) (x .spins) (x .multipliers) (x .masks)) (x .multipliers) (x .masks) (b .word) (b .certificate)
-      → (record { spins = x .spins; copies = x .copies; offsets = x .offsets; multipliers = x .multipliers; masks = x .masks; word = y .word; certificate = y .certificate } ≡ written (round t l st) b)
-      × (y .ends ≡ isSome (round t l st .word))
-  round-law x y e g = (
-    ap₂ (λ x y. record { spins = x .spins; copies = x .copies; offsets = x .offsets; multipliers = x .multipliers; masks = x .masks; word = y .word; certificate = y .certificate }) e is
-        ∙ sym (written-exact t (round t l st) b exact (round-sized t l st)),
-    ap (λ c. c .ends) is,
-  )
-    where
-      is : y ≡ record { ends = isSome (round t l st .word); word = overWord (round t l st .word) (b .word); certificate = overCertificate (round t l st .word) (round t l st .entries) (b .certificate) }
-      is = g ∙ ap (λ x. closing (closedBy (t .bits) l (t .checks) (x .spins) (x .multipliers) (x .masks)) (x .multipliers) (x .masks) (b .word) (b .certificate)) e
-          ∙ ap (λ o. closing o (multipliersOf (round t l st .entries)) (masksOf (round t l st .entries)) (b .word) (b .certificate)) (round-closed t l st) ∙ closing-is (round t l st .word)

@@ -7,7 +7,7 @@ use lib.IntN.{ℤ}
 use Rattle.integers.specs.Sum.{AllWithin}
 use Rattle.rules.specs.Limits.{unit}
 use Rattle.rules.specs.Step.{Step}
-use Rattle.rules.specs.Round.{pass, copiesIn, offsetsIn, entriesIn}
+use Rattle.rules.specs.Round.{Round, pass, copiesIn, offsetsIn, entriesIn}
 use Rattle.rules.specs.Buffers.{multipliersOf, masksOf}
 use Rattle.decoder.specs.Layout.{checksFrom, Holds}
 
@@ -24,6 +24,10 @@ passedBy ss = record {
   multipliers = multipliersOf (entriesIn ss);
   masks = masksOf (entriesIn ss);
 }
+
+-- what a round's pass leaves
+abbrev pub passedOf : Round → Passed
+passedOf d = record { copies = d .state .copies; offsets = d .state .offsets; multipliers = multipliersOf (d .entries); masks = masksOf (d .entries) }
 
 -- f the spins, cs the checks, ys the offsets
 unfoldable pub passed : (ℕ → ℤ) → List (List ℕ) → List ℤ → Passed

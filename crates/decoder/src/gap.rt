@@ -15,7 +15,6 @@ ghost use Rattle.rules.specs.Parity.{turn, side, agreement};
 ghost use Rattle.rules.specs.Mask.{setOf};
 ghost use Rattle.rules.specs.Cut.{isNeg, negatives};
 ghost use Rattle.rules.specs.Bound.{weights, price, bound, gap};
-ghost use Rattle.rules.specs.Round.{isZero};
 ghost use Rattle.rules.proofs.Duality.{Below};
 ghost use Rattle.decoder.specs.Layout.{checksFrom};
 ghost use Rattle.decoder.specs.Closing.{withRow, rowsFrom, GapFits};
@@ -158,7 +157,7 @@ fn turned(x: i16, spin: i32) -> i64
 // The agreement of the word with ones at negative spins.
 fn agreed(frame: &[i16], spins: &[i32]) -> i64
     requires { ⌜ (length (now frame) ≡ length (now spins)) × (length (now spins) ≤ 2048) ⌝ }
-    ensures { λ r. ⌜ r ≡ agreement (length (now (spins .entry))) (now (frame .entry)) (negatives (now (spins .entry))) ⌝ }
+    ensures { λ r. ⌜ (r ≡ agreement (length (now (spins .entry))) (now (frame .entry)) (negatives (now (spins .entry)))) × Within 67108864 r ⌝ }
 {
     let mut sum: i64 = 0;
     let mut i: usize = 0;
@@ -179,24 +178,24 @@ fn bound_of(
     numbers: &mut [i32],
 ) -> i64
     requires { ⌜ RowsFit (now starts) (now members) (now multipliers) (now masks) (now frame) × (length (now numbers) ≡ length (now frame)) ⌝ }
-    ensures { λ r. ⌜ r ≡ bound (length (now (frame .entry))) 1 (now (frame .entry)) (rowsFrom (checksFrom (now (starts .entry)) (now (members .entry))) (now (multipliers .entry)) (now (masks .entry))) ⌝ }
+    ensures { λ r. ⌜ (r ≡ bound (length (now (frame .entry))) 1 (now (frame .entry)) (rowsFrom (checksFrom (now (starts .entry)) (now (members .entry))) (now (multipliers .entry)) (now (masks .entry)))) × Within 5497558138880 r ⌝ }
 {
     load(frame, numbers);
     let prices = add_rows(starts, members, multipliers, masks, numbers);
     sum_sizes(numbers) + prices
 }
 
-// Whether the word with ones at the negative spins has gap 0.
-pub(crate) fn closes(
+// The gap of the word with ones at the negative spins.
+pub(crate) fn gap_of(
     frame: &[i16],
     starts: &[u16],
     members: &[u16],
     spins: &[i32],
     multipliers: &[u32],
     masks: &[u32],
-) -> bool
+) -> i64
     requires { ⌜ GapFits (length (now spins)) (now frame) (now spins) (now starts) (now members) (now multipliers) (now masks) ⌝ }
-    ensures { λ r. ⌜ r ≡ isZero (gap (length (now (spins .entry))) 1 (now (frame .entry)) (rowsFrom (checksFrom (now (starts .entry)) (now (members .entry))) (now (multipliers .entry)) (now (masks .entry))) (negatives (now (spins .entry)))) ⌝ }
+    ensures { λ r. ⌜ r ≡ gap (length (now (spins .entry))) 1 (now (frame .entry)) (rowsFrom (checksFrom (now (starts .entry)) (now (members .entry))) (now (multipliers .entry)) (now (masks .entry))) (negatives (now (spins .entry))) ⌝ }
 {
     let mut numbers = [0i32; MAX_BITS];
     let n = frame.len();
@@ -208,8 +207,5 @@ pub(crate) fn closes(
         masks,
         &mut numbers[..n],
     );
-    if least == agreed(frame, spins) {
-        return true;
-    }
-    false
+    least - agreed(frame, spins)
 }

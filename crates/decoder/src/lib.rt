@@ -13,13 +13,15 @@ mod round;
 mod spins;
 mod step;
 
-use perform::perform_sized;
+use perform::outcome_of;
+use perform::perform;
 use run::Admitted;
 use run::Lent;
 use run::Record;
 use table::limits::MAX_CHECKS;
 use table::limits::MAX_EDGES;
 ghost use mathlib.Core.Path.{_≡_};
+ghost use Rattle.rules.specs.Buffers.{lent};
 ghost use Rattle.rules.specs.Run as rule;
 ghost use Rattle.run.specs.Reply.{progressOf};
 ghost use Rattle.decoder.specs.Reply.{outcomeOf};
@@ -52,8 +54,10 @@ pub fn rounds(
     word: &mut [u8],
     certificate: &mut [u8],
 ) -> Called
-    ensures { λ r. ⌜ (record { answer = outcomeOf (r .outcome); run = record { progress = progressOf (r .run); buffers = record { spins = now (spins .exit); copies = now (copies .exit); offsets = now (offsets .exit); multipliers = now (multipliers .exit); masks = now (masks .exit); word = now (word .exit); certificate = now (certificate .exit) } } })
-        ≡ rule.call (now (code .entry)) (now (frame .entry)) wanted (record { progress = progressOf run; buffers = record { spins = now (spins .entry); copies = now (copies .entry); offsets = now (offsets .entry); multipliers = now (multipliers .entry); masks = now (masks .entry); word = now (word .entry); certificate = now (certificate .entry) } }) ⌝ }
+    ensures { λ r. ⌜ (record { answer = outcomeOf (r .outcome); run = record { progress = progressOf (r .run);
+        buffers = lent (now (spins .exit)) (now (copies .exit)) (now (offsets .exit)) (now (multipliers .exit)) (now (masks .exit)) (now (word .exit)) (now (certificate .exit)) } })
+        ≡ rule.call (now (code .entry)) (now (frame .entry)) wanted (record { progress = progressOf run;
+        buffers = lent (now (spins .entry)) (now (copies .entry)) (now (offsets .entry)) (now (multipliers .entry)) (now (masks .entry)) (now (word .entry)) (now (certificate .entry)) }) ⌝ }
 {
     let mut starts = [0u16; MAX_CHECKS + 1];
     let mut members = [0u16; MAX_EDGES];
@@ -85,15 +89,14 @@ pub fn rounds(
             checks,
             edges,
         } => {
-            let done = run.rounds;
-            perform_sized(
+            let after = perform(
                 frame,
                 &starts,
                 &members,
                 bits,
                 checks,
                 edges,
-                done,
+                run,
                 wanted,
                 spins,
                 copies,
@@ -102,7 +105,12 @@ pub fn rounds(
                 masks,
                 word,
                 certificate,
-            )
+            );
+            let status = after.status;
+            Called {
+                outcome: outcome_of(status),
+                run: after,
+            }
         }
     }
 }

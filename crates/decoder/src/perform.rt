@@ -1,21 +1,20 @@
-// An admitted call: its rounds, and its answer.
-use super::Called;
+// An admitted call: its rounds, and what it writes once they have certified a word.
 use super::Outcome;
 use super::degrees::count_degrees;
 use super::iterate::run_rounds;
+use run::Record;
 use run::Status;
+use writing::write_certificate;
+use writing::write_word;
 ghost use mathlib.Core.Path.{_≡_};
-ghost use Prim.Native.Nat.{_+_, _*_, _<_};
-ghost use lib.ListN.{length};
-ghost use Rattle.integers.specs.Sum.{AllWithin};
-ghost use Rattle.rules.specs.Limits.{frameLimit};
+ghost use Prim.Native.Nat.{_+_};
+ghost use lib.ListN.{length, take};
 ghost use Rattle.rules.specs.Refusal.{gives};
-ghost use Rattle.rules.specs.Run.{iterate, ranOn};
+ghost use Rattle.rules.specs.Buffers.{lent};
+ghost use Rattle.rules.specs.Run.{iterate};
 ghost use Rattle.run.specs.Reply.{statusOf, progressOf};
-ghost use Rattle.decoder.specs.Layout.{tableOf, Holds};
-ghost use Rattle.decoder.specs.Ready.{Ready};
-ghost use Rattle.decoder.specs.Done.{runAt};
-ghost use Rattle.decoder.specs.OnParts.{PartsFit, onParts};
+ghost use Rattle.decoder.specs.Layout.{tableOf};
+ghost use Rattle.decoder.specs.Finished.{FinishFits, finished, PartsFit};
 ghost use Rattle.decoder.specs.Reply.{outcomeOf};
 
 pub(crate) fn outcome_of(status: Status) -> Outcome
@@ -28,62 +27,41 @@ pub(crate) fn outcome_of(status: Status) -> Outcome
     }
 }
 
-// At most `wanted` rounds of a running run of which `done` are done, on buffers of exactly the stated
-// lengths. The degrees of the bits are worked out once for all rounds.
-pub(crate) fn perform(
-    frame: &[i16],
-    starts: &[u16],
-    members: &[u16],
-    done: u32,
-    wanted: u32,
-    spins: &mut [i32],
-    copies: &mut [i32],
-    offsets: &mut [i32],
-    multipliers: &mut [u32],
-    masks: &mut [u32],
+// "Certified writes word and certificate; other endings don't touch them": from the spins,
+// multipliers and masks of the round that ended the run.
+pub(crate) fn finish(
+    status: Status,
+    spins: &[i32],
+    multipliers: &[u32],
+    masks: &[u32],
     word: &mut [u8],
     certificate: &mut [u8],
-) -> Called
-    requires { ⌜ (done < 1024) × (Holds (length (now frame)) (now starts) (now members)) × AllWithin frameLimit (now frame) ⌝ }
-    requires { ⌜ (Ready (length (now frame)) (now starts) (now members) (record { spins = now spins; copies = now copies; offsets = now offsets; multipliers = now multipliers; masks = now masks; word = now word; certificate = now certificate }))
-        × AllWithin (8192 * done) (now offsets) ⌝ }
-    ensures { λ r. ⌜ (record { answer = outcomeOf (r .outcome); run = record { progress = progressOf (r .run); buffers = record { spins = now (spins .exit); copies = now (copies .exit); offsets = now (offsets .exit); multipliers = now (multipliers .exit); masks = now (masks .exit); word = now (word .exit); certificate = now (certificate .exit) } } })
-        ≡ ranOn (done + wanted) (iterate (tableOf (length (now (frame .entry))) (now (starts .entry)) (now (members .entry))) (now (frame .entry)) wanted
-        (runAt done (record { spins = now (spins .entry); copies = now (copies .entry); offsets = now (offsets .entry); multipliers = now (multipliers .entry); masks = now (masks .entry); word = now (word .entry); certificate = now (certificate .entry) }))) ⌝ }
+)
+    requires { ⌜ FinishFits (now spins) (now multipliers) (now masks) (now word) (now certificate) ⌝ }
+    ensures { λ _. ⌜ (record { word = now (word .exit); certificate = now (certificate .exit) })
+        ≡ finished (statusOf status) (now (spins .entry)) (now (multipliers .entry)) (now (masks .entry)) (record { word = now (word .entry); certificate = now (certificate .entry) }) ⌝ }
 {
-    let degrees = count_degrees(members);
-    let run = run_rounds(
-        frame,
-        starts,
-        members,
-        &degrees,
-        done,
-        wanted,
-        spins,
-        copies,
-        offsets,
-        multipliers,
-        masks,
-        word,
-        certificate,
-    );
-    let status = run.status;
-    Called {
-        outcome: outcome_of(status),
-        run,
+    match status {
+        Status::Running => {}
+        Status::Certified => {
+            write_word(spins, word);
+            write_certificate(multipliers, masks, certificate);
+        }
+        Status::Spent => {}
     }
 }
 
-// The same on the first parts of buffers that are long enough, with a table of n bits, m checks and e
-// edges in front of starts and members.
-pub(crate) fn perform_sized(
+// At most `wanted` rounds of a running run on buffers that are long enough, with a table of n bits, m
+// checks and e edges in front of starts and members. The degrees of the bits are worked out once for
+// all rounds.
+pub(crate) fn perform(
     frame: &[i16],
     starts: &[u16],
     members: &[u16],
     n: usize,
     m: usize,
     e: usize,
-    done: u32,
+    run: Record,
     wanted: u32,
     spins: &mut [i32],
     copies: &mut [i32],
@@ -92,26 +70,36 @@ pub(crate) fn perform_sized(
     masks: &mut [u32],
     word: &mut [u8],
     certificate: &mut [u8],
-) -> Called
-    requires { ⌜ PartsFit n m e (now frame) (now starts) (now members) done (record { spins = now spins; copies = now copies; offsets = now offsets; multipliers = now multipliers; masks = now masks; word = now word; certificate = now certificate }) ⌝ }
-    ensures { λ r. ⌜ (record { answer = outcomeOf (r .outcome); run = record { progress = progressOf (r .run); buffers = record { spins = now (spins .exit); copies = now (copies .exit); offsets = now (offsets .exit); multipliers = now (multipliers .exit); masks = now (masks .exit); word = now (word .exit); certificate = now (certificate .exit) } } })
-        ≡ onParts n m e (now (frame .entry)) (now (starts .entry)) (now (members .entry)) done wanted
-        (record { spins = now (spins .entry); copies = now (copies .entry); offsets = now (offsets .entry); multipliers = now (multipliers .entry); masks = now (masks .entry); word = now (word .entry); certificate = now (certificate .entry) }) ⌝ }
+) -> Record
+    requires { ⌜ PartsFit n m e (now frame) (now starts) (now members)
+        (record { progress = progressOf run; buffers = lent (now spins) (now copies) (now offsets) (now multipliers) (now masks) (now word) (now certificate) }) ⌝ }
+    ensures { λ r. ⌜ (record { progress = progressOf r; buffers = lent (now (spins .exit)) (now (copies .exit)) (now (offsets .exit)) (now (multipliers .exit)) (now (masks .exit)) (now (word .exit)) (now (certificate .exit)) })
+        ≡ iterate (tableOf n (take (m + 1) (now (starts .entry))) (take e (now (members .entry)))) (now (frame .entry)) wanted
+        (record { progress = progressOf run; buffers = lent (now (spins .entry)) (now (copies .entry)) (now (offsets .entry)) (now (multipliers .entry)) (now (masks .entry)) (now (word .entry)) (now (certificate .entry)) }) ⌝ }
 {
     let end = m + 1;
-    let tail = 4 + 10 * m;
-    perform(
+    let degrees = count_degrees(&members[..e]);
+    let after = run_rounds(
         frame,
         &starts[..end],
         &members[..e],
-        done,
+        &degrees,
+        run,
         wanted,
         &mut spins[..n],
         &mut copies[..e],
         &mut offsets[..e],
         &mut multipliers[..m],
         &mut masks[..m],
-        &mut word[..n],
-        &mut certificate[..tail],
-    )
+    );
+    let status = after.status;
+    finish(
+        status,
+        &spins[..n],
+        &multipliers[..m],
+        &masks[..m],
+        word,
+        certificate,
+    );
+    after
 }

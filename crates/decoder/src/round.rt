@@ -1,133 +1,107 @@
 // One round of a run (document 01, "One round").
 use super::candidate::meets_checks;
-use super::gap::closes;
+use super::gap::gap_of;
 use super::pass::pass;
 use super::spins::find_spins;
 use run::Record;
 use run::Status;
-use writing::write_certificate;
-use writing::write_word;
 ghost use mathlib.Core.Path.{_≡_};
-ghost use Prim.Native.Nat.{_+_, _*_, _≤_, _<_};
+ghost use Prim.Native.Nat.{_+_, _<_};
 ghost use lib.ListN.{length};
-ghost use Rattle.rules.specs.Round.{round};
-ghost use Rattle.run.specs.Reply.{progressOf};
-ghost use Rattle.decoder.specs.Layout.{checksFrom, tableOf};
+ghost use Rattle.rules.specs.Round.{isZero};
+ghost use Rattle.run.specs.Reply.{statusOf, progressOf};
+ghost use Rattle.decoder.specs.Layout.{checksFrom};
 ghost use Rattle.decoder.specs.Closing.{GapFits};
-ghost use Rattle.decoder.specs.Ready.{Given, Ready};
-ghost use Rattle.decoder.specs.Done.{statusBy, movedBy, MoveFits, closedBy, closing, roundOf};
+ghost use Rattle.decoder.specs.Found.{foundOf, found, closing, statusBy, recordBy};
+ghost use Rattle.decoder.specs.Rounds.{Given, Ready, inner, roundsFrom};
 
-// Steps 1 to 3.
-pub(crate) fn move_on(
-    frame: &[i16],
-    starts: &[u16],
-    members: &[u16],
-    degrees: &[u16],
-    spins: &mut [i32],
-    copies: &mut [i32],
-    offsets: &mut [i32],
-    multipliers: &mut [u32],
-    masks: &mut [u32],
-)
-    requires { ⌜ MoveFits (length (now spins)) (now frame) (now starts) (now members) (now degrees) (now copies) (now offsets) (now multipliers) (now masks) ⌝ }
-    ensures { λ _. ⌜ (record { spins = now (spins .exit); copies = now (copies .exit); offsets = now (offsets .exit); multipliers = now (multipliers .exit); masks = now (masks .exit) })
-        ≡ movedBy (round (tableOf (length (now (spins .entry))) (now (starts .entry)) (now (members .entry))) (now (frame .entry)) (record { copies = now (copies .entry); offsets = now (offsets .entry) })) ⌝ }
-{
-    find_spins(frame, members, degrees, copies, offsets, spins);
-    pass(starts, members, spins, copies, offsets, multipliers, masks);
+// What step 4 finds: no candidate that meets all checks, or one, with its gap.
+pub enum Found {
+    Nothing,
+    Codeword(i64),
 }
 
-// Step 4: whether the round certifies a word, which is then written with its certificate.
-pub(crate) fn certify(
+// Step 4: the candidate of the spins, held to the checks and to this round's multipliers.
+pub(crate) fn find_word(
     frame: &[i16],
     starts: &[u16],
     members: &[u16],
     spins: &[i32],
     multipliers: &[u32],
     masks: &[u32],
-    word: &mut [u8],
-    certificate: &mut [u8],
-) -> bool
-    requires { ⌜ (GapFits (length (now spins)) (now frame) (now spins) (now starts) (now members) (now multipliers) (now masks))
-        × (length (now spins) ≤ length (now word)) × (4 + 10 * length (now masks) ≤ length (now certificate)) ⌝ }
-    ensures { λ r. ⌜ (record { ends = r; word = now (word .exit); certificate = now (certificate .exit) })
-        ≡ closing (closedBy (length (now (spins .entry))) (now (frame .entry)) (checksFrom (now (starts .entry)) (now (members .entry))) (now (spins .entry)) (now (multipliers .entry)) (now (masks .entry)))
-        (now (multipliers .entry)) (now (masks .entry)) (now (word .entry)) (now (certificate .entry)) ⌝ }
+) -> Found
+    requires { ⌜ GapFits (length (now spins)) (now frame) (now spins) (now starts) (now members) (now multipliers) (now masks) ⌝ }
+    ensures { λ r. ⌜ foundOf r ≡ found (now (frame .entry)) (checksFrom (now (starts .entry)) (now (members .entry))) (now (spins .entry)) (now (multipliers .entry)) (now (masks .entry)) ⌝ }
 {
     if !meets_checks(starts, members, spins) {
-        return false;
+        return Found::Nothing;
     }
-    if !closes(frame, starts, members, spins, multipliers, masks) {
-        return false;
-    }
-    write_word(spins, word);
-    write_certificate(multipliers, masks, certificate);
-    true
+    Found::Codeword(gap_of(frame, starts, members, spins, multipliers, masks))
 }
 
-// The run's record after n rounds, of which the last has certified a word or not.
-pub(crate) fn record_after(n: u32, certified: bool) -> Record
-    ensures { λ r. ⌜ progressOf r ≡ record { rounds = n; status = statusBy certified n } ⌝ }
+fn is_zero(gap: i64) -> bool
+    ensures { λ r. ⌜ r ≡ isZero gap ⌝ }
 {
-    if certified {
-        return Record {
-            rounds: n,
-            status: Status::Certified,
-        };
+    if gap == 0 {
+        return true;
     }
-    if Record::ROUND_LIMIT <= n {
-        return Record {
-            rounds: n,
-            status: Status::Spent,
-        };
-    }
-    Record {
-        rounds: n,
-        status: Status::Running,
+    false
+}
+
+// "Gap 0 ends the run as certified."
+pub(crate) fn closes(what: Found) -> bool
+    ensures { λ r. ⌜ r ≡ closing (foundOf what) ⌝ }
+{
+    match what {
+        Found::Nothing => false,
+        Found::Codeword(gap) => is_zero(gap),
     }
 }
 
-// The next round of a running run of which `done` are done, on buffers of exactly the stated lengths.
+// How the run stands after so many rounds, the last of which has found this.
+pub(crate) fn status_after(rounds: u32, what: Found) -> Status
+    ensures { λ r. ⌜ statusOf r ≡ statusBy (closing (foundOf what)) rounds ⌝ }
+{
+    if closes(what) {
+        return Status::Certified;
+    }
+    if Record::ROUND_LIMIT <= rounds {
+        return Status::Spent;
+    }
+    Status::Running
+}
+
+// The run's record after one round more.
+pub(crate) fn record_after(run: Record, what: Found) -> Record
+    requires { ⌜ run .rounds < 1024 ⌝ }
+    ensures { λ r. ⌜ progressOf r ≡ recordBy (foundOf what) (progressOf run) ⌝ }
+{
+    let rounds = run.rounds + 1;
+    let status = status_after(rounds, what);
+    Record { rounds, status }
+}
+
+// The next round of a running run, on buffers of exactly the stated lengths.
 pub(crate) fn do_round(
     frame: &[i16],
     starts: &[u16],
     members: &[u16],
     degrees: &[u16],
-    done: u32,
+    run: Record,
     spins: &mut [i32],
     copies: &mut [i32],
     offsets: &mut [i32],
     multipliers: &mut [u32],
     masks: &mut [u32],
-    word: &mut [u8],
-    certificate: &mut [u8],
 ) -> Record
-    requires { ⌜ (done < 1024) × Given (length (now frame)) (now frame) (now starts) (now members) (now degrees) ⌝ }
-    requires { ⌜ Ready (length (now frame)) (now starts) (now members) (record { spins = now spins; copies = now copies; offsets = now offsets; multipliers = now multipliers; masks = now masks; word = now word; certificate = now certificate }) ⌝ }
-    ensures { λ r. ⌜ (record { progress = progressOf r; buffers = record { spins = now (spins .exit); copies = now (copies .exit); offsets = now (offsets .exit); multipliers = now (multipliers .exit); masks = now (masks .exit); word = now (word .exit); certificate = now (certificate .exit) } })
-        ≡ roundOf (tableOf (length (now (frame .entry))) (now (starts .entry)) (now (members .entry))) (now (frame .entry)) done
-        (record { spins = now (spins .entry); copies = now (copies .entry); offsets = now (offsets .entry); multipliers = now (multipliers .entry); masks = now (masks .entry); word = now (word .entry); certificate = now (certificate .entry) }) ⌝ }
+    requires { ⌜ Given (length (now frame)) (now frame) (now starts) (now members) (now degrees) ⌝ }
+    requires { ⌜ Ready (now frame) (now starts) (now members) (record { progress = progressOf run; buffers = inner (now spins) (now copies) (now offsets) (now multipliers) (now masks) }) ⌝ }
+    ensures { λ r. ⌜ (record { progress = progressOf r; buffers = inner (now (spins .exit)) (now (copies .exit)) (now (offsets .exit)) (now (multipliers .exit)) (now (masks .exit)) })
+        ≡ roundsFrom 1 (now (frame .entry)) (now (starts .entry)) (now (members .entry))
+        (record { progress = progressOf run; buffers = inner (now (spins .entry)) (now (copies .entry)) (now (offsets .entry)) (now (multipliers .entry)) (now (masks .entry)) }) ⌝ }
 {
-    move_on(
-        frame,
-        starts,
-        members,
-        degrees,
-        spins,
-        copies,
-        offsets,
-        multipliers,
-        masks,
-    );
-    let certified = certify(
-        frame,
-        starts,
-        members,
-        spins,
-        multipliers,
-        masks,
-        word,
-        certificate,
-    );
-    record_after(done + 1, certified)
+    find_spins(frame, members, degrees, copies, offsets, spins);
+    pass(starts, members, spins, copies, offsets, multipliers, masks);
+    let what = find_word(frame, starts, members, spins, multipliers, masks);
+    record_after(run, what)
 }

@@ -17,7 +17,7 @@ use Rattle.rules.specs.Refusal.{gives, must, then, bufferShort}
 use Rattle.rules.specs.Table.{Table, edgesOf}
 use Rattle.rules.specs.Parity.{turns}
 use Rattle.rules.specs.CodeFile.{codeFile}
-use Rattle.rules.specs.Buffers.{Buffer, nought, Buffers, the, Lengths, lengthsOf, needs, partOf, over, overAll, write, zeroed, fitsStart, zeroing}
+use Rattle.rules.specs.Buffers.{Buffer, nought, Buffers, the, Lengths, lengthsOf, needs, partOf, over, overAll, write, zeroed, zeros, fitsStart, zeroing}
 use Rattle.rules.specs.Run.{stateIn, startBy, start, fresh}
 use Rattle.rules.specs.Calls.{Call, startOn, startedRun}
 use Rattle.rules.specs.Demand3.{FreshStart, AllLent}
@@ -31,9 +31,6 @@ use Rattle.rules.proofs.Lends.{AllPart}
 use Rattle.rules.proofs.Twins.{Twin}
 
 -- ---- what a start leaves
-abbrev pub zeros : ℕ → List ℤ
-zeros e = replicate e (pos 0)
-
 -- what a start writes fits where its own 41 has looked
 module _ (t : Table) (n : Lengths) (h : fitsStart t n ≡ true) where
   room : (x : Buffer) → zeroed x ≡ true → needs t x ≤ n x

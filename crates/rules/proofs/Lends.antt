@@ -44,7 +44,7 @@ module _ (t : Table) (l : List ℤ) (n : Lengths) (h : Part (needs t) n) where
       go certified = refl
       go spent = refl
 
-  iterate-lend : (k : ℕ) (r : Run) → iterate t l k (lend n r) ≡ lend n (iterate t l k r)
+  pub iterate-lend : (k : ℕ) (r : Run) → iterate t l k (lend n r) ≡ lend n (iterate t l k r)
   unfolding iterate
   iterate-lend zero r = refl
   iterate-lend (suc k) r = ap (iterate t l k) (next-lend r) ∙ iterate-lend k (next t l r)

@@ -20,7 +20,7 @@ use Rattle.rules.specs.Table.{Table, edges}
 use Rattle.rules.specs.Input.{eachWithin}
 use Rattle.rules.specs.Step.{Entry}
 use Rattle.rules.specs.Round.{State, spin, offsetsIn, entriesIn, Round, round}
-use Rattle.rules.specs.Buffers.{Buffers, lengthsOf, needs, multiplierOf, Part}
+use Rattle.rules.specs.Buffers.{Buffers, lengthsOf, needs, multiplierOf, Part, overBy, wordLeft, certificateLeft}
 use Rattle.rules.specs.Run.{Status, running, certified, spent, Run, statusAt, moved, tooLarge, nextBy, stateIn, next, iterate, sound, written}
 use Rattle.rules.proofs.Pass.{spinsIn, stepsIn, steps-laid, copies-within, offsets-within, AtMost, multipliers-within}
 use Rattle.rules.proofs.RoundSizes.{round-sized, state-written, written-past}
@@ -133,15 +133,48 @@ pub record Ends (t : Table) (l : List ℤ) (q : Run) : Type 0 where
   pub word : List Bool
   pub by : coming t l last .word ≡ some word
 
-moved-ends : (t : Table) (l : List ℤ) (r : Run) → Moves t l r → moved r (coming t l r) .progress .status ≡ certified → Ends t l (moved r (coming t l r))
-moved-ends t l r m e = go (coming t l r .word) refl e
+-- and until then its word and certificate stayed as they were in b
+pub record Untouched (b : Buffers) (r : Run) : Type 0 where
+  pub word : r .buffers .word ≡ b .word
+  pub certificate : r .buffers .certificate ≡ b .certificate
+
+pub record Kept (t : Table) (l : List ℤ) (b : Buffers) (q : Run) : Type 0 where
+  pub stays : (q .progress .status ≡ certified → ⊥) → Untouched b q
+  pub ends : q .progress .status ≡ certified → Ends t l q
+  pub before : (e : q .progress .status ≡ certified) → Untouched b (ends e .last)
+
+kept-moved : (t : Table) (l : List ℤ) (b : Buffers) (r : Run) → Moves t l r → Kept t l b r → Kept t l b (moved r (coming t l r))
+kept-moved t l b r m h = go (coming t l r .word) refl
   where
-    go : (o : Option (List Bool)) → coming t l r .word ≡ o → statusAt (suc (r .progress .rounds)) o ≡ certified → Ends t l (moved r (coming t l r))
-    go none p q = absurd (uncertified (suc (r .progress .rounds)) q)
-    go (some w) p q = record { last = r; moves = m; same = refl; word = w; by = p }
+    here : Untouched b r
+    here = h .stays (λ e. running≢certified (sym (m .isRunning) ∙ e))
+
+    go : (o : Option (List Bool)) → coming t l r .word ≡ o → Kept t l b (moved r (coming t l r))
+    go none p =
+        let not : moved r (coming t l r) .progress .status ≡ certified → ⊥ = λ q. uncertified (suc (r .progress .rounds)) (ap (statusAt (suc (r .progress .rounds))) (sym p) ∙ q) in
+        record {
+          stays = λ f. record {
+            word = ap (λ o. overBy (wordLeft o) (r .buffers .word)) p ∙ here .word;
+            certificate = ap (λ o. overBy (certificateLeft o (coming t l r .entries)) (r .buffers .certificate)) p ∙ here .certificate;
+          };
+          ends = λ q. absurd (not q);
+          before = λ q. absurd (not q);
+        }
+    go (some w) p = record {
+      stays = λ f. absurd (f (ap (statusAt (suc (r .progress .rounds))) p));
+      ends = λ q. record { last = r; moves = m; same = refl; word = w; by = p };
+      before = λ q. here;
+    }
+
+pub iterate-kept : (t : Table) (l : List ℤ) (k : ℕ) (r : Run) → r .progress .status ≡ running → Kept t l (r .buffers) (iterate t l k r)
+iterate-kept t l k r e = iterate-keeps t l (Kept t l (r .buffers)) (kept-moved t l (r .buffers)) k r (record {
+  stays = λ f. record { word = refl; certificate = refl };
+  ends = λ p. absurd (running≢certified (sym e ∙ p));
+  before = λ p. absurd (running≢certified (sym e ∙ p));
+})
 
 pub iterate-ends : (t : Table) (l : List ℤ) (k : ℕ) (r : Run) → r .progress .status ≡ running → iterate t l k r .progress .status ≡ certified → Ends t l (iterate t l k r)
-iterate-ends t l k r e = iterate-keeps t l (λ q. q .progress .status ≡ certified → Ends t l q) (λ q m p. moved-ends t l q m) k r (λ p. absurd (running≢certified (sym e ∙ p)))
+iterate-ends t l k r e = iterate-kept t l k r e .ends
 
 status-early : (k : ℕ) (o : Option (List Bool)) → statusAt k o ≡ running → k < roundLimit
 status-early k none e = go (leb roundLimit k) refl e

@@ -143,6 +143,9 @@ zeroed masks = false
 zeroed word = false
 zeroed certificate = false
 
+abbrev pub zeros : ℕ → List ℤ
+zeros e = replicate e (pos 0)
+
 -- the buffers that a start is lent, in the order of its parameters
 abbrev pub startLent : List ℤ → List ℤ → Buffers
 startLent z y = lent [] z y [] [] [] []

@@ -4,11 +4,11 @@ use Prim.Native.Nat.{ℕ}
 use lib.Dec.{leb}
 use lib.ListN.{length, take}
 use lib.IntN.{ℤ}
-use Rattle.rules.specs.Limits.{roundLimit, certificateLength}
+use Rattle.rules.specs.Limits.{roundLimit}
 use Rattle.rules.specs.Refusal.{Answer, refused, gives, must, then, askedTooMuch, bufferShort, runEnded, runDamaged}
 use Rattle.rules.specs.Table.{Table, edges, edgesOf, checksOf}
 use Rattle.rules.specs.Round.{State}
-use Rattle.rules.specs.Buffers.{Lengths, fits, over}
+use Rattle.rules.specs.Buffers.{spins, copies, offsets, multipliers, masks, word, certificate, Lengths, needsBy, fits, over}
 use Rattle.rules.specs.Run.{Progress, isRunning, sound}
 use Rattle.rules.specs.CodeFile.{codeFile}
 use Rattle.table.specs.Starts.{startsOf}
@@ -18,21 +18,15 @@ use Rattle.run.specs.declared.Lent.{Lent}
 use Rattle.run.specs.declared.Admitted.{Admitted}
 use Rattle.run.specs.declared.Admitted.the-variants.{Refused, Sized}
 
--- what n bits, m checks and e edges need
-abbrev pub needsBy : ℕ → ℕ → ℕ → Lengths
-needsBy n m e = record { spins = n; copies = e; offsets = e; multipliers = m; masks = m; word = n; certificate = certificateLength m }
-
 -- what is lent: of copies z and offsets y the length is read, of the others it is told
 abbrev pub lentOf : Lent → List ℤ → List ℤ → Lengths
-lentOf b z y = record {
-  spins = b .spins;
-  copies = length z;
-  offsets = length y;
-  multipliers = b .multipliers;
-  masks = b .masks;
-  word = b .word;
-  certificate = b .certificate;
-}
+lentOf b z y spins = b .spins
+lentOf b z y copies = length z
+lentOf b z y offsets = length y
+lentOf b z y multipliers = b .multipliers
+lentOf b z y masks = b .masks
+lentOf b z y word = b .word
+lentOf b z y certificate = b .certificate
 
 -- n, m and E
 pub record Sizes : Type 0 where

@@ -2,8 +2,7 @@
 ghost use mathlib.Core.Path.{_≡_};
 ghost use Prim.Native.Nat.{_≤_};
 ghost use lib.ListN.{length};
-ghost use Rattle.rules.specs.Buffers.{over};
-ghost use Rattle.rules.specs.Run.{zeros};
+ghost use Rattle.rules.specs.Buffers.{over, zeros};
 
 // The first e numbers become zero.
 pub(crate) fn clear_first(xs: &mut [i32], e: usize)

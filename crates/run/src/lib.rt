@@ -9,6 +9,7 @@ use refusals::admit_sized;
 use table::Checked;
 use table::limits::BUFFER_SHORT;
 ghost use mathlib.Core.Path.{_≡_};
+ghost use Rattle.rules.specs.Buffers.{startLent};
 ghost use Rattle.rules.specs.Run as rule;
 ghost use Rattle.run.specs.Reply.{progressOf, startedOf};
 ghost use Rattle.run.specs.Admitted.{lentOf, admittedOf, admission};
@@ -53,8 +54,8 @@ pub enum Started {
 // Starts a run on any code file and lent buffers: "Starting a run zeroes the first E copies and
 // offsets".
 pub fn start(code: &[u8], copies: &mut [i32], offsets: &mut [i32]) -> Started
-    ensures { λ r. ⌜ (record { answer = startedOf r; copies = now (copies .exit); offsets = now (offsets .exit) })
-        ≡ rule.start (now (code .entry)) (now (copies .entry)) (now (offsets .entry)) ⌝ }
+    ensures { λ r. ⌜ (record { answer = startedOf r; buffers = startLent (now (copies .exit)) (now (offsets .exit)) })
+        ≡ rule.start (now (code .entry)) (startLent (now (copies .entry)) (now (offsets .entry))) ⌝ }
 {
     let answer = table::check(code);
     match answer {

@@ -8,10 +8,10 @@ use cut::limits::ASKED_TOO_MUCH;
 use table::limits::BUFFER_SHORT;
 ghost use mathlib.Core.Path.{_≡_};
 ghost use Prim.Native.Nat.{_≤_};
-ghost use Rattle.rules.specs.Buffers.{fits};
+ghost use Rattle.rules.specs.Buffers.{needsBy, fits};
 ghost use Rattle.rules.specs.Run.{isRunning};
 ghost use Rattle.run.specs.Reply.{statusOf, progressOf};
-ghost use Rattle.run.specs.Admitted.{needsBy, lentOf, admittedOf, admitsBy, firstState};
+ghost use Rattle.run.specs.Admitted.{lentOf, admittedOf, admitsBy, firstState};
 
 const RUN_ENDED: u8 = 42;
 
@@ -47,7 +47,10 @@ pub(crate) fn long_enough(
     if lent.word < bits {
         return false;
     }
-    4 + 10 * checks <= lent.certificate
+    if lent.certificate < 4 + 10 * checks {
+        return false;
+    }
+    true
 }
 
 pub(crate) fn is_running(status: Status) -> bool

@@ -14,7 +14,7 @@ use Rattle.integers.specs.Sum.{sumTo}
 use Rattle.rules.specs.Table.{at, bit}
 use Rattle.rules.specs.Parity.{turn, agreement}
 use Rattle.rules.specs.Cut.{isNeg, negatives}
-use Rattle.decoder.proofs.GapLaws.{sum-next, sum-fits, sum-within}
+use Rattle.decoder.proofs.GapLaws.{sum-next, sum-fits, sum-within, within-more}
 use Rattle.decoder.proofs.SignLaws.{negatives-at}
 use Rattle.decoder.proofs.gap.agreed.Statement.{statement}
 use Rattle.decoder.proofs.gap.agreed.Tie as tie
@@ -77,7 +77,7 @@ returns c =
     let args = c .before .before .args in
     let loop = c .before .loop in
     let e : loop .i ≡ length (args .spins .now) = omega arith in
-    loop .inv .1 ∙ ap (λ n. sumTo n (λ k. turn (bit (negatives (args .spins .now)) k) (at (args .frame .now) k))) e
+    (loop .inv .1 ∙ ap (λ n. sumTo n (λ k. turn (bit (negatives (args .spins .now)) k) (at (args .frame .now) k))) e, within-more (32768 * loop .i) 67108864 (toZ w64 (loop .sum)) (loop .inv .2) (omega arith))
 
 pub agreed-spec : {M : Type 1} → statement M
 agreed-spec =

@@ -5,12 +5,13 @@ use lib.IntN.{_+ℤ_}
 use mir.Syntax.{w64}
 use mir.Facts.{toZ-ofZ}
 use borrow.Author.Needs.{needs}
+use Rattle.integers.specs.Linear.{Within}
 use Rattle.integers.specs.Machine.{fit, reads, op-fits}
 use Rattle.decoder.specs.Layout.{checksFrom}
 use Rattle.decoder.specs.Closing.{rowsFrom}
 use Rattle.rules.specs.Scatter.{scatterRows}
 use Rattle.decoder.specs.Room.{RowsFit}
-use Rattle.decoder.proofs.GapLaws.{sum-fits}
+use Rattle.decoder.proofs.GapLaws.{sum-fits, sum-within}
 use Rattle.decoder.proofs.BoundLaws.{bound-is}
 use Rattle.decoder.proofs.gap.bound_of.Statement.{statement}
 use Rattle.decoder.proofs.gap.bound_of.Tie as tie
@@ -44,8 +45,9 @@ returns c =
     let prices = c .before .before .before .add-rows in
     let sizes = c .sum-sizes in
     let rows = rowsFrom (checksFrom (a .starts .now) (a .members .now)) (a .multipliers .now) (a .masks .now) in
-    reads (add-result c) (ap₂ _+ℤ_ (toZ-ofZ (fit w64 (sizes .result) (sizes .ok))) (toZ-ofZ (fit w64 (prices .result) (prices .ok))))
-    ∙ bound-is rows (a .frame .now) (prices .last .1 .1 .1 .1 .0) (sizes .result) (prices .result) (prices .ensures .0 ∙ ap (scatterRows rows) (loaded .ensures)) (sizes .ensures .0) (prices .ensures .1)
+    let is = reads (add-result c) (ap₂ _+ℤ_ (toZ-ofZ (fit w64 (sizes .result) (sizes .ok))) (toZ-ofZ (fit w64 (prices .result) (prices .ok)))) in
+    (is ∙ bound-is rows (a .frame .now) (prices .last .1 .1 .1 .1 .0) (sizes .result) (prices .result) (prices .ensures .0 ∙ ap (scatterRows rows) (loaded .ensures)) (sizes .ensures .0) (prices .ensures .1),
+    subst (Within 5497558138880) (sym is) (sum-within 4398046511104 1099511627776 5497558138880 (sizes .result) (prices .result) (sizes .ensures .1) (prices .ensures .2) (omega arith)))
 
 pub bound-of-spec : {M : Type 1} → statement M
 bound-of-spec =

@@ -1,6 +1,6 @@
 -- `left` meets its contract. Assumes nothing.
 use mathlib.Core.Path.{sym, ap}
-use Rattle.decoder.specs.Done.{leftBy}
+use Rattle.decoder.specs.Rounds.{leftBy}
 use Rattle.run.specs.Reply.{statusOf}
 use borrow.Author.Needs.{needs}
 use Rattle.decoder.proofs.iterate.left.Statement.{statement}

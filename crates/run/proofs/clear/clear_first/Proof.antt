@@ -5,8 +5,7 @@ use native.Mathlib.Omega.{arith}
 use borrow.Author.Needs.{needs}
 use lib.ListN.{length, set, length-set}
 use lib.IntN.{pos}
-use Rattle.rules.specs.Buffers.{over}
-use Rattle.rules.specs.Run.{zeros}
+use Rattle.rules.specs.Buffers.{over, zeros}
 use Rattle.run.proofs.ClearLaws.{over-more}
 use Rattle.run.proofs.clear.clear_first.Statement.{statement}
 use Rattle.run.proofs.clear.clear_first.Tie as tie

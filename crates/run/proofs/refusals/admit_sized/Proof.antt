@@ -3,6 +3,7 @@ use mathlib.Core.Path.{sym, _∙_}
 use native.Mathlib.Omega.{arith}
 use lib.ListN.{length-take}
 use borrow.Author.Tests.{le-leb, lt-leb, not-true, not-false}
+use Rattle.rules.specs.Buffers.{copies, offsets}
 use Rattle.rules.proofs.BufferLaws.{fits-part}
 use Rattle.run.specs.Admitted.{admitsBy}
 use Rattle.run.proofs.AdmitLaws.{turned-down, answers-asked, answers-short, answers-ended, answers-damaged, answers-admitted}
@@ -44,12 +45,12 @@ returns-4 c =
 slice-aggregate-is-sound : tie.Need-slice-aggregate-is-sound
 slice-aggregate-is-sound c =
     let room = fits-part _ _ (sym (c .before .before .before .before .long-enough .ensures) ∙ not-false _ (c .before .before .before .if3 .left)) in
-    simp length-take (omega (arith, room .copies))
+    simp length-take (omega (arith, room copies))
 
 slice-aggregate-is-sound-2 : tie.Need-slice-aggregate-is-sound-2
 slice-aggregate-is-sound-2 c =
     let room = fits-part _ _ (sym (c .before .before .before .before .before .long-enough .ensures) ∙ not-false _ (c .before .before .before .before .if3 .left)) in
-    simp length-take (omega (arith, room .offsets))
+    simp length-take (omega (arith, room offsets))
 
 is-sound-requires : tie.Need-is-sound-requires
 is-sound-requires c κs = tt
