@@ -84,7 +84,7 @@ running-is certified e = absurd (false≢true e)
 running-is spent e = absurd (false≢true e)
 
 -- a run that has not ended has done every round that was due
-answers : (s : Status) (a b : ℕ) → (s ≡ running → a ≡ b) → gives s ≡ answerAt s a b
+pub answers : (s : Status) (a b : ℕ) → (s ≡ running → a ≡ b) → gives s ≡ answerAt s a b
 answers running a b h = ap (λ t. cond t (gives running) (refused multiplierLarge)) (sym (eq-eqb a b (h refl)))
 answers certified a b h = refl
 answers spent a b h = refl

@@ -221,8 +221,11 @@ module _ (n m e : ℕ) (l : List ℤ) (ss ms : List ℕ) (r : Run) (h : PartsFit
           go spent e = untouched (λ c. spent≢certified (sym e ∙ c))
 
     pub performed : (g : Ending) → g ≡ record { word = end .buffers .word; certificate = end .buffers .certificate }
-        → record { progress = x .progress; buffers = lent (x .buffers .spins ++ drop n (r .buffers .spins)) (x .buffers .copies ++ drop e (r .buffers .copies)) (x .buffers .offsets ++ drop e (r .buffers .offsets))
-        (x .buffers .multipliers ++ drop m (r .buffers .multipliers)) (x .buffers .masks ++ drop m (r .buffers .masks)) (g .word) (g .certificate) }
+        → record {
+          progress = x .progress;
+          buffers = lent (x .buffers .spins ++ drop n (r .buffers .spins)) (x .buffers .copies ++ drop e (r .buffers .copies)) (x .buffers .offsets ++ drop e (r .buffers .offsets))
+              (x .buffers .multipliers ++ drop m (r .buffers .multipliers)) (x .buffers .masks ++ drop m (r .buffers .masks)) (g .word) (g .certificate);
+        }
         ≡ iterate (tableOf n (take (m + 1) ss) (take e ms)) l wanted r
     performed g j = λ i. record {
       progress = rounds-are i .progress;

@@ -54,10 +54,17 @@ pub fn rounds(
     word: &mut [u8],
     certificate: &mut [u8],
 ) -> Called
-    ensures { λ r. ⌜ (record { answer = outcomeOf (r .outcome); run = record { progress = progressOf (r .run);
-        buffers = lent (now (spins .exit)) (now (copies .exit)) (now (offsets .exit)) (now (multipliers .exit)) (now (masks .exit)) (now (word .exit)) (now (certificate .exit)) } })
-        ≡ rule.call (now (code .entry)) (now (frame .entry)) wanted (record { progress = progressOf run;
-        buffers = lent (now (spins .entry)) (now (copies .entry)) (now (offsets .entry)) (now (multipliers .entry)) (now (masks .entry)) (now (word .entry)) (now (certificate .entry)) }) ⌝ }
+    ensures { λ r. ⌜ (record {
+      answer = outcomeOf (r .outcome);
+      run = record {
+        progress = progressOf (r .run);
+        buffers = lent (now (spins .exit)) (now (copies .exit)) (now (offsets .exit)) (now (multipliers .exit)) (now (masks .exit)) (now (word .exit)) (now (certificate .exit));
+      };
+    })
+        ≡ rule.call (now (code .entry)) (now (frame .entry)) wanted (record {
+          progress = progressOf run;
+          buffers = lent (now (spins .entry)) (now (copies .entry)) (now (offsets .entry)) (now (multipliers .entry)) (now (masks .entry)) (now (word .entry)) (now (certificate .entry));
+        }) ⌝ }
 {
     let mut starts = [0u16; MAX_CHECKS + 1];
     let mut members = [0u16; MAX_EDGES];

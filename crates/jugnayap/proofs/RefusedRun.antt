@@ -17,7 +17,7 @@ use Rattle.rules.proofs.AnswerLaws.{refused≢gives, must-gives}
 use Rattle.rules.proofs.Runs.{Safe}
 use Rattle.rules.proofs.Counted.{all-counted}
 use Rattle.run.proofs.AdmitLaws.{sound-safe}
-use Rattle.decoder.proofs.PerformLaws.{answers}
+use Rattle.decoder.proofs.CallLaws.{answers}
 use Rattle.jugnayap.specs.declared.JugnayapRun.{JugnayapRun}
 use Rattle.jugnayap.specs.Numbers.{statusAt, progressBy, progressAt, runAfter, callLeft}
 
@@ -38,7 +38,7 @@ module _ (l : List ℤ) (wanted : ℕ) (r : Run) where
   performed-keeps : (t : Table) (lent : Lengths) (a : Answer (Unit {0})) (k : ℕ) → admits t l wanted lent r ≡ a → perform t l wanted r a .answer ≡ refused k → perform t l wanted r a .run ≡ r
   performed-keeps t lent (refused j) k q h = refl
   performed-keeps t lent (gives u) k q h = absurd (refused≢gives (sym h
-      ∙ answers (iterate t l wanted r .progress .status) (iterate t l wanted r .progress .rounds) (r .progress .rounds + wanted) (all-counted t l wanted r (admitted-safe t lent u q))))
+      ∙ sym (answers (iterate t l wanted r .progress .status) (iterate t l wanted r .progress .rounds) (r .progress .rounds + wanted) (all-counted t l wanted r (admitted-safe t lent u q)))))
 
   called-keeps : (a : Answer Table) (k : ℕ) → callBy l wanted r a .answer ≡ refused k → callBy l wanted r a .run ≡ r
   unfolding callOn

@@ -44,14 +44,13 @@ agreementFrom r = record { number = r .number; agreement = signed r 0 }
 abbrev pub startedFrom : Reply → JugnayapCalled
 startedFrom r = record { number = r .number; run = record { rounds = unsigned r 0; status = unsigned r 1 } }
 
--- ---- what a start returns and leaves
-pub record StartLeft : Type 0 where
+-- ---- what a start or a call for rounds returns and leaves
+pub record Left : Type 0 where
   pub called : JugnayapCalled
-  pub copies : List ℤ
-  pub offsets : List ℤ
+  pub buffers : Buffers
 
-abbrev pub startLeft : Started → StartLeft
-startLeft d = record { called = startedFrom (replyOf progressValues (d .answer)); copies = d .copies; offsets = d .offsets }
+abbrev pub startLeft : Started → Left
+startLeft d = record { called = startedFrom (replyOf progressValues (d .answer)); buffers = d .buffers }
 
 -- ---- the record: the rounds done, and 0 running, 1 certified, 2 spent
 abbrev pub runNumbers : Progress → JugnayapRun
@@ -71,7 +70,7 @@ progressBy k (some s) = record { rounds = k; status = s }
 abbrev pub progressAt : JugnayapRun → Progress
 progressAt h = progressBy (h .rounds) (statusAt (h .status))
 
--- ---- what a call for rounds returns and leaves; a record of unknown status comes back as handed in
+-- ---- a call for rounds: a record of unknown status comes back as handed in
 abbrev pub runAfter : Option Status → JugnayapRun → Progress → JugnayapRun
 runAfter none h p = h
 runAfter (some s) h p = runNumbers p
@@ -79,9 +78,5 @@ runAfter (some s) h p = runNumbers p
 abbrev pub calledFrom : JugnayapRun → Answer Status → Progress → JugnayapCalled
 calledFrom h a p = record { number = replyOf statusValues a .number; run = runAfter (statusAt (h .status)) h p }
 
-pub record CallLeft : Type 0 where
-  pub called : JugnayapCalled
-  pub buffers : Buffers
-
-abbrev pub callLeft : JugnayapRun → Called → CallLeft
+abbrev pub callLeft : JugnayapRun → Called → Left
 callLeft h d = record { called = calledFrom h (d .answer) (d .run .progress); buffers = d .run .buffers }

@@ -14,8 +14,9 @@ ghost use Rattle.rules.specs.Refusal.{replyOf};
 ghost use Rattle.rules.specs.CodeFile.{codeFileReply};
 ghost use Rattle.rules.specs.Cut.{cutReply};
 ghost use Rattle.rules.specs.Judge.{judgeReply, agreementOf, agreementValues};
+ghost use Rattle.rules.specs.Buffers.{lent, startLent};
 ghost use Rattle.rules.specs.Run as rule;
-ghost use Rattle.jugnayap.specs.Numbers.{tableFrom, cutFrom, verdictFrom, agreementFrom, progressAt, StartLeft, startLeft, CallLeft, callLeft};
+ghost use Rattle.jugnayap.specs.Numbers.{tableFrom, cutFrom, verdictFrom, agreementFrom, progressAt, Left, startLeft, callLeft};
 
 // `number` is 0 or the refusal's number; a refused call has zeros in the other fields.
 #[repr(C)]
@@ -157,8 +158,8 @@ pub extern "C" fn jugnayap_start(
     copies: &mut [i32],
     offsets: &mut [i32],
 ) -> JugnayapCalled
-    ensures { λ r. ⌜ _≡_ {A = StartLeft} (record { called = r; copies = now (copies .exit); offsets = now (offsets .exit) })
-        (startLeft (rule.start (now (code .entry)) (now (copies .entry)) (now (offsets .entry)))) ⌝ }
+    ensures { λ r. ⌜ _≡_ {A = Left} (record { called = r; buffers = startLent (now (copies .exit)) (now (offsets .exit)) })
+        (startLeft (rule.start (now (code .entry)) (startLent (now (copies .entry)) (now (offsets .entry))))) ⌝ }
 {
     started_numbers(run::start(code, copies, offsets))
 }
@@ -177,8 +178,14 @@ pub extern "C" fn jugnayap_rounds(
     word: &mut [u8],
     certificate: &mut [u8],
 ) -> JugnayapCalled
-    ensures { λ r. ⌜ _≡_ {A = CallLeft} (record { called = r; buffers = record { spins = now (spins .exit); copies = now (copies .exit); offsets = now (offsets .exit); multipliers = now (multipliers .exit); masks = now (masks .exit); word = now (word .exit); certificate = now (certificate .exit) } })
-        (callLeft run (rule.call (now (code .entry)) (now (frame .entry)) wanted (record { progress = progressAt run; buffers = record { spins = now (spins .entry); copies = now (copies .entry); offsets = now (offsets .entry); multipliers = now (multipliers .entry); masks = now (masks .entry); word = now (word .entry); certificate = now (certificate .entry) } }))) ⌝ }
+    ensures { λ r. ⌜ _≡_ {A = Left} (record {
+      called = r;
+      buffers = lent (now (spins .exit)) (now (copies .exit)) (now (offsets .exit)) (now (multipliers .exit)) (now (masks .exit)) (now (word .exit)) (now (certificate .exit));
+    })
+        (callLeft run (rule.call (now (code .entry)) (now (frame .entry)) wanted (record {
+          progress = progressAt run;
+          buffers = lent (now (spins .entry)) (now (copies .entry)) (now (offsets .entry)) (now (multipliers .entry)) (now (masks .entry)) (now (word .entry)) (now (certificate .entry));
+        }))) ⌝ }
 {
     let handed = record_of(run);
     let called = decoder::rounds(

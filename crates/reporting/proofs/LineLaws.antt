@@ -1,27 +1,26 @@
 -- A frame's run on blank buffers that are long enough for every table, and its line. Assumes nothing.
 use mathlib.Core.Path.{_≡_, refl, sym, _∙_, ap, ap₂}
-use mathlib.Core.Bool.{_&&_}
 use mathlib.Core.List.{List}
 use Prim.Native.Nat.{ℕ, _≤_}
 use native.Mathlib.Omega.{arith}
 use native.Mathlib.Nat.{le-trans}
-use lib.Dec.{leb}
 use lib.ListN.{length, take, replicate}
 use lib.IntN.{ℤ}
 use Rattle.rules.specs.Limits.{maxBits, maxEdges, roundLimit}
 use Rattle.rules.specs.Refusal.{Answer, refused, gives, must, then, bufferShort}
 use Rattle.rules.specs.Bytes.{u16At}
-use Rattle.rules.specs.Table.{Table, edgesOf}
+use Rattle.rules.specs.Table.{Table}
 use Rattle.rules.specs.CodeFile.{codeFile}
 use Rattle.rules.specs.Judge.{passes, agreementOf}
-use Rattle.rules.specs.Buffers.{Buffers, needs, Part}
-use Rattle.rules.specs.Run.{Status, running, certified, spent, Progress, fresh, Run, Called, callBy, call, startBy, start}
+use Rattle.rules.specs.Buffers.{word, certificate, Buffers, lent, lengthsOf, needs, Part, blank, write, startLent, fitsStart, zeroing}
+use Rattle.rules.specs.Run.{Status, running, certified, spent, Progress, fresh, Called, callBy, call, startBy, start}
 use Rattle.rules.specs.Calls.{startedRun}
-use Rattle.rules.specs.Report.{refusedLine, certifiedLine, lineAt, blank, frameLine}
+use Rattle.rules.specs.Report.{refusedLine, certifiedLine, lineAt, frameLine}
 use Rattle.rules.proofs.AnswerLaws.{refused≢gives, gives-inj}
 use Rattle.rules.proofs.Tables.{Sound, file-sound}
+use Rattle.rules.proofs.BufferLaws.{by-name}
 use Rattle.rules.proofs.CallPasses.{call-passes}
-use Rattle.rules.proofs.Fresh.{started-on}
+use Rattle.rules.proofs.Fresh.{zero-room, started-on}
 use Rattle.rules.proofs.ReportLaws.{blank-line, refused-line, Asked, judged-asked}
 use Rattle.run.specs.declared.Record.{Record}
 use Rattle.run.specs.declared.Started.{Started}
@@ -44,19 +43,23 @@ went (gives t) = gives fresh
 refused-inj : {A : Type 0} (j k : ℕ) → _≡_ {A = Answer A} (refused j) (refused k) → j ≡ k
 refused-inj j k e = cc
 
-module _ (file : List ℕ) (z y : List ℤ) (h : maxEdges ≤ length z) (k : maxEdges ≤ length y) where
-  start-answer : start file z y .answer ≡ went (codeFile file)
-  unfolding went start then
+module _ (file : List ℕ) (b : Buffers) (h : maxEdges ≤ length (b .copies)) (k : maxEdges ≤ length (b .offsets)) where
+  began : (t : Table) → codeFile file ≡ gives t → start file b ≡ record { answer = gives fresh; buffers = write (zeroing t) b }
+  began t e = started-on file t b e (zero-room t b (le-trans (file-sound file t e .few) h) (le-trans (file-sound file t e .few) k))
+
+  stayed : (j : ℕ) → codeFile file ≡ refused j → start file b ≡ record { answer = refused j; buffers = b }
+  unfolding start then
+  stayed j e = ap (λ a. startBy b (then a (λ t. must (fitsStart t (lengthsOf b)) bufferShort (gives t)))) e
+
+  start-answer : start file b .answer ≡ went (codeFile file)
+  unfolding went
   start-answer = go (codeFile file) refl
     where
-      room : Table → Answer Table
-      room t = must (leb (edgesOf t) (length z) && leb (edgesOf t) (length y)) bufferShort (gives t)
+      go : (a : Answer Table) → codeFile file ≡ a → start file b .answer ≡ went a
+      go (refused j) e = ap (λ s. s .answer) (stayed j e)
+      go (gives t) e = ap (λ s. s .answer) (began t e)
 
-      go : (a : Answer Table) → codeFile file ≡ a → start file z y .answer ≡ went a
-      go (refused j) e = ap (λ a. startBy z y (then a room) .answer) e
-      go (gives t) e = ap (λ s. s .answer) (started-on file t e z y (le-trans (file-sound file t e .few) h) (le-trans (file-sound file t e .few) k))
-
-  start-refused : (j : ℕ) → start file z y .answer ≡ refused j → codeFile file ≡ refused j
+  start-refused : (j : ℕ) → start file b .answer ≡ refused j → codeFile file ≡ refused j
   unfolding went
   start-refused j e = go (codeFile file) (sym start-answer ∙ e)
     where
@@ -64,7 +67,7 @@ module _ (file : List ℕ) (z y : List ℤ) (h : maxEdges ≤ length z) (k : max
       go (refused i) q = ap refused (refused-inj i j q)
       go (gives t) q = absurd (refused≢gives (sym q))
 
-  start-fresh : (p : Progress) → start file z y .answer ≡ gives p → p ≡ fresh
+  start-fresh : (p : Progress) → start file b .answer ≡ gives p → p ≡ fresh
   unfolding went
   start-fresh p e = go (codeFile file) (sym start-answer ∙ e)
     where
@@ -72,45 +75,49 @@ module _ (file : List ℕ) (z y : List ℤ) (h : maxEdges ≤ length z) (k : max
       go (refused i) q = absurd (refused≢gives q)
       go (gives t) q = sym (gives-inj fresh p q)
 
--- these buffers, with other copies and offsets
-abbrev pub runOn : Buffers → Progress → List ℤ → List ℤ → Run
-runOn b p z y = record {
-  progress = p;
-  buffers = record { spins = b .spins; copies = z; offsets = y; multipliers = b .multipliers; masks = b .masks; word = b .word; certificate = b .certificate };
-}
+-- these buffers, with what a start has left of those that it was lent
+abbrev pub withStarted : Buffers → Buffers → Buffers
+withStarted b s = lent (b .spins) (s .copies) (s .offsets) (b .multipliers) (b .masks) (b .word) (b .certificate)
 
--- ---- the code's run: s is what a start answered, z and y the copies and offsets that it left
+-- ---- the code's run: s is what a start answered, d what it left of the copies and offsets
 module _ (file : List ℕ) (l : List ℤ) (b : Buffers) (h : maxEdges ≤ length (b .copies)) (k : maxEdges ≤ length (b .offsets))
-    (s : Started) (z y : List ℤ) (e : record { answer = startedOf s; copies = z; offsets = y } ≡ start file (b .copies) (b .offsets)) where
-  answered : (a : Answer Progress) → startedOf s ≡ a → start file (b .copies) (b .offsets) .answer ≡ a
+    (s : Started) (d : Buffers) (e : record { answer = startedOf s; buffers = d } ≡ start file (startLent (b .copies) (b .offsets))) where
+  lends : Buffers
+  lends = startLent (b .copies) (b .offsets)
+
+  answered : (a : Answer Progress) → startedOf s ≡ a → start file lends .answer ≡ a
+  unfolding lends
   answered a p = ap (λ x. x .answer) (sym e) ∙ p
+
+  -- a start that is lent copies and offsets alone does the same to them
+  same-start : withStarted b (start file (startLent (b .copies) (b .offsets)) .buffers) ≡ start file b .buffers
+  unfolding lends
+  same-start = go (codeFile file) refl
+    where
+      go : (a : Answer Table) → codeFile file ≡ a → withStarted b (start file lends .buffers) ≡ start file b .buffers
+      go (refused j) p = ap (λ x. withStarted b (x .buffers)) (stayed file lends h k j p) ∙ ap (λ x. x .buffers) (sym (stayed file b h k j p))
+      go (gives t) p = ap (λ x. withStarted b (x .buffers)) (began file lends h k t p) ∙ ap (λ x. x .buffers) (sym (began file b h k t p))
 
   pub ran-refused : (j : ℕ) (r : Record) → s ≡ Refused j → progressOf r ≡ fresh
       → record { answer = refused j; rounds = r .rounds; word = b .word; certificate = b .certificate } ≡ freshRan file l b
-  unfolding freshRan call
+  unfolding freshRan call lends
   ran-refused j r p q =
+      let bad = start-refused file lends h k j (answered (refused j) (ap startedOf p)) in
       ap (λ n. record { answer = refused j; rounds = n .rounds; word = b .word; certificate = b .certificate }) q
-      ∙ ap (λ a. ranOf (callBy l roundLimit (startedRun file b) a)) (sym (start-refused file (b .copies) (b .offsets) h k j (answered (refused j) (ap startedOf p))))
+      ∙ ap (λ x. record { answer = refused j; rounds = 0; word = x .buffers .word; certificate = x .buffers .certificate }) (sym (stayed file b h k j bad))
+      ∙ ap (λ a. ranOf (callBy l roundLimit (startedRun file b) a)) (sym bad)
 
-  pub ran-started : (r : Record) (d : Called) → s ≡ Fresh r → d ≡ call file l roundLimit (runOn b (progressOf r) z y) → ranOf d ≡ freshRan file l b
-  unfolding freshRan
-  ran-started r d p q =
+  pub ran-started : (r : Record) (c : Called) → s ≡ Fresh r → c ≡ call file l roundLimit (record { progress = progressOf r; buffers = withStarted b d }) → ranOf c ≡ freshRan file l b
+  unfolding freshRan lends
+  ran-started r c p q =
       ap ranOf q
-      ∙ ap (λ x. ranOf (call file l roundLimit (runOn b (progressOf r) (x .copies) (x .offsets)))) e
-      ∙ ap (λ x. ranOf (call file l roundLimit (runOn b x (start file (b .copies) (b .offsets) .copies) (start file (b .copies) (b .offsets) .offsets))))
-      (start-fresh file (b .copies) (b .offsets) h k (progressOf r) (answered (gives (progressOf r)) (ap startedOf p)))
+      ∙ ap₂ (λ x y. ranOf (call file l roundLimit (record { progress = x; buffers = y })))
+      (start-fresh file lends h k (progressOf r) (answered (gives (progressOf r)) (ap startedOf p)))
+      (ap (λ x. withStarted b (x .buffers)) e ∙ same-start)
 
 -- ---- and the line
 enough : (t : Table) → Sound t → Part (needs t) greatest
-enough t s = record {
-  spins = s .bits .1;
-  copies = s .few;
-  offsets = s .few;
-  multipliers = s .checks .1;
-  masks = s .checks .1;
-  word = s .bits .1;
-  certificate = omega (arith, s .checks .1);
-}
+enough t s = by-name (λ x. needs t x ≤ greatest x) (s .bits .1) (s .few) (s .few) (s .checks .1) (s .checks .1) (s .bits .1) (omega (arith, s .checks .1))
 
 module _ (file : List ℕ) (l : List ℤ) where
   run : Called
@@ -147,7 +154,7 @@ module _ (file : List ℕ) (l : List ℤ) where
 
 -- ---- of what the code's run comes to: outcome o, rounds n, word w and certificate c
 module _ (file : List ℕ) (l : List ℤ) (o : Outcome) (n : ℕ) (w c : List ℕ)
-    (e : record { answer = outcomeOf o; rounds = n; word = w; certificate = c } ≡ freshRan file l (lentWith (replicate (greatest .word) 0) (replicate (greatest .certificate) 0))) where
+    (e : record { answer = outcomeOf o; rounds = n; word = w; certificate = c } ≡ freshRan file l (lentWith (replicate (greatest word) 0) (replicate (greatest certificate) 0))) where
   pub line-of : (p : Outcome) → o ≡ p → lineFrom file l (outcomeOf p) n w c ≡ frameLine file l
   unfolding freshRan lentWith run
   line-of p q = ap (λ x. lineFrom file l (outcomeOf x) n w c) (sym q) ∙ ap (λ r. lineFrom file l (r .answer) (r .rounds) (r .word) (r .certificate)) e ∙ line-run file l

@@ -3,38 +3,22 @@ use mathlib.Core.List.{List}
 use Prim.Native.Nat.{ℕ}
 use lib.ListN.{length, take, replicate}
 use lib.IntN.{ℤ}
-use Rattle.rules.specs.Limits.{maxBits, maxChecks, maxEdges, certificateLength, roundLimit}
+use Rattle.rules.specs.Limits.{maxBits, maxChecks, maxEdges, roundLimit}
 use Rattle.rules.specs.Refusal.{Answer, refused, gives}
 use Rattle.rules.specs.Bytes.{u16At}
 use Rattle.rules.specs.Judge.{agreementOf}
-use Rattle.rules.specs.Buffers.{Buffers, Lengths}
-use Rattle.rules.specs.Run.{Status, running, certified, spent, Called, call, zeros}
+use Rattle.rules.specs.Buffers.{Buffers, lent, Lengths, needsBy, zeros}
+use Rattle.rules.specs.Run.{Status, running, certified, spent, Called, call}
 use Rattle.rules.specs.Calls.{startedRun}
 use Rattle.rules.specs.Report.{Line, refusedLine, certifiedLine, spentLine, runningLine}
 
 -- no table needs longer buffers
 abbrev pub greatest : Lengths
-greatest = record {
-  spins = maxBits;
-  copies = maxEdges;
-  offsets = maxEdges;
-  multipliers = maxChecks;
-  masks = maxChecks;
-  word = maxBits;
-  certificate = certificateLength maxChecks;
-}
+greatest = needsBy maxBits maxChecks maxEdges
 
 -- the buffers of a frame's run: blank, but for word and certificate, which the caller lends
 unfoldable pub lentWith : List ℕ → List ℕ → Buffers
-lentWith word certificate = record {
-  spins = zeros (greatest .spins);
-  copies = zeros (greatest .copies);
-  offsets = zeros (greatest .offsets);
-  multipliers = replicate (greatest .multipliers) 0;
-  masks = replicate (greatest .masks) 0;
-  word = word;
-  certificate = certificate;
-}
+lentWith w c = lent (zeros maxBits) (zeros maxEdges) (zeros maxEdges) (replicate maxChecks 0) (replicate maxChecks 0) w c
 
 pub record Ran : Type 0 where
   pub answer : Answer Status

@@ -1,6 +1,6 @@
 -- A run from a fresh start: its state is zero, its limits hold, and its twin is alike. Assumes nothing.
 use mathlib.Core.Path.{_≡_, refl, sym, _∙_, ap, ap₂, subst}
-use mathlib.Core.Bool.{Bool, true, false, false≢true, cond, not, _||_}
+use mathlib.Core.Bool.{Bool, true, false, false≢true, cond, not, _&&_, _||_}
 use mathlib.Core.Option.{some, none}
 use mathlib.Core.List.{List, [], _∷_}
 use Prim.Native.Nat.{ℕ, zero, suc, _*_, _≤_}
@@ -56,6 +56,11 @@ fits-start t m n h e = true-every (λ x. not (zeroed x) || leb (needs t x) (n x)
     go : (x : Buffer) (z : Bool) → zeroed x ≡ z → not z || leb (needs t x) (n x) ≡ true
     go x true p = le-leb (needs t x) (n x) (le-trans (room t m e x p) (h x))
     go x false p = refl
+
+-- room for the copies and the offsets is room enough
+pub zero-room : (t : Table) (b : Buffers) → edgesOf t ≤ length (b .copies) → edgesOf t ≤ length (b .offsets) → fitsStart t (lengthsOf b) ≡ true
+unfolding fitsStart
+zero-room t b h k = ap₂ (λ x y. x && (y && true)) (le-leb (edgesOf t) (length (b .copies)) h) (le-leb (edgesOf t) (length (b .offsets)) k)
 
 -- a start with room enough
 pub started-on : (file : List ℕ) (t : Table) (b : Buffers) → codeFile file ≡ gives t → fitsStart t (lengthsOf b) ≡ true

@@ -45,9 +45,10 @@ returns c =
     let prices = c .before .before .before .add-rows in
     let sizes = c .sum-sizes in
     let rows = rowsFrom (checksFrom (a .starts .now) (a .members .now)) (a .multipliers .now) (a .masks .now) in
-    let is = reads (add-result c) (ap₂ _+ℤ_ (toZ-ofZ (fit w64 (sizes .result) (sizes .ok))) (toZ-ofZ (fit w64 (prices .result) (prices .ok)))) in
-    (is ∙ bound-is rows (a .frame .now) (prices .last .1 .1 .1 .1 .0) (sizes .result) (prices .result) (prices .ensures .0 ∙ ap (scatterRows rows) (loaded .ensures)) (sizes .ensures .0) (prices .ensures .1),
-    subst (Within 5497558138880) (sym is) (sum-within 4398046511104 1099511627776 5497558138880 (sizes .result) (prices .result) (sizes .ensures .1) (prices .ensures .2) (omega arith)))
+    let is = reads (add-result c) (ap₂ _+ℤ_ (toZ-ofZ (fit w64 (sizes .result) (sizes .ok))) (toZ-ofZ (fit w64 (prices .result) (prices .ok)))) in (
+      is ∙ bound-is rows (a .frame .now) (prices .last .1 .1 .1 .1 .0) (sizes .result) (prices .result) (prices .ensures .0 ∙ ap (scatterRows rows) (loaded .ensures)) (sizes .ensures .0) (prices .ensures .1),
+      subst (Within 5497558138880) (sym is) (sum-within 4398046511104 1099511627776 5497558138880 (sizes .result) (prices .result) (sizes .ensures .1) (prices .ensures .2) (omega arith)),
+    )
 
 pub bound-of-spec : {M : Type 1} → statement M
 bound-of-spec =
