@@ -13,12 +13,12 @@ mod round;
 mod spins;
 mod step;
 
+use limits::MAX_CHECKS;
+use limits::MAX_EDGES;
 use perform::perform_sized;
 use run::Admitted;
 use run::Lent;
 use run::Record;
-use table::limits::MAX_CHECKS;
-use table::limits::MAX_EDGES;
 ghost use mathlib.Core.Path.{_≡_};
 ghost use Rattle.rules.specs.Run as rule;
 ghost use Rattle.run.specs.Reply.{progressOf};

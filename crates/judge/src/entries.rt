@@ -1,15 +1,15 @@
 // A certificate's entries, and refusals 10 to 14.
-use super::limits::CERTIFICATE_WRONG;
-use super::limits::ENTRY_ORDER;
-use super::limits::ENTRY_RANGE;
-use super::limits::MASK_WRONG;
-use super::limits::MAX_ENTRIES;
-use super::limits::MAX_MULTIPLIER;
-use super::limits::MAX_SCALE;
-use super::limits::SCALE_RANGE;
 use super::numbers::u16_at;
 use super::numbers::u32_at;
 use super::starts::degree;
+use limits::MAX_ENTRIES;
+use limits::MAX_MULTIPLIER;
+use limits::MAX_SCALE;
+use limits::refusals::CERTIFICATE_WRONG;
+use limits::refusals::ENTRY_ORDER;
+use limits::refusals::ENTRY_RANGE;
+use limits::refusals::MASK_WRONG;
+use limits::refusals::SCALE_RANGE;
 use table::numbers::in_range;
 ghost use mathlib.Core.Path.{_≡_};
 ghost use Prim.Native.Nat.{_≤_, _<_};

@@ -1,7 +1,7 @@
 // The code file on standard input: "as long as its contents say".
 use libc::STDIN_FILENO;
-use table::limits::MAX_CHECKS;
-use table::limits::MAX_EDGES;
+use limits::MAX_CHECKS;
+use limits::MAX_EDGES;
 use table::numbers::u16_of;
 ghost use mathlib.Core.Path.{_≡_};
 ghost use Prim.Native.Nat.{_+_, _≤_, _<_};

@@ -2,6 +2,7 @@
 // written: the readers' contracts say how much they answer and what they leave alone.
 use libc::STDIN_FILENO;
 use libc::STDOUT_FILENO;
+use limits::MAX_BITS;
 use table::numbers::u16_of;
 ghost use mathlib.Core.Path.{_≡_};
 ghost use Prim.Native.Nat.{_*_, _≤_, _<_};
@@ -11,11 +12,15 @@ ghost use lib.Signed.{_≤ℤ_};
 ghost use mir.Syntax.{w16, w32};
 ghost use mir.Val.{toZ};
 ghost use Rattle.rules.specs.Buffers.{over};
-ghost use Rattle.stream.specs.Numbers.{numbersOf, bytesFor, notWhole, Read, ReadNumbers, ReadFront, PartRead};
+ghost use Rattle.stream.specs.Numbers.{numbersOf, numbersAtOnce, bytesFor, notWhole, Read, ReadNumbers, ReadFront, PartRead};
 
-const NUMBERS_AT_ONCE: usize = 4096;
+// How many numbers are read at once: more than a frame or a point has.
+pub const NUMBERS_AT_ONCE: usize = 2 * MAX_BITS;
 
 const BYTES_AT_ONCE: usize = 2 * NUMBERS_AT_ONCE;
+
+// The longest code file in a record: longer than any that is accepted.
+pub const CODE_LIMIT: usize = 30000;
 
 // What no 32-bit number is: a part of a record is longer than it may be, or cut short.
 pub const NOT_WHOLE: usize = 0x1_0000_0000;
@@ -52,7 +57,7 @@ pub fn read_i16(numbers: &mut [i16]) -> usize
 }
 
 fn read_by(bytes: &mut [u8], numbers: &mut [i16]) -> usize
-    requires { ⌜ 8192 ≤ length (now bytes) ⌝ }
+    requires { ⌜ 2 * numbersAtOnce ≤ length (now bytes) ⌝ }
     ensures { λ r. ⌜ ReadNumbers r (now (bytes .exit)) (now (numbers .exit)) (now (numbers .entry)) ⌝ }
 {
     let size = bytes_for(numbers.len());

@@ -1,9 +1,9 @@
 // The contents: m entries of start and count.
-use super::limits::MAX_DEGREE;
-use super::limits::MAX_EDGES;
-use super::limits::MIN_DEGREE;
 use super::numbers::in_range;
 use super::numbers::u16_at;
+use limits::MAX_DEGREE;
+use limits::MAX_EDGES;
+use limits::MIN_DEGREE;
 ghost use mathlib.Core.Path.{_≡_};
 ghost use mathlib.Core.Bool.{_&&_};
 ghost use Prim.Native.Nat.{_+_, _*_, _≤_, _<_};
