@@ -14,6 +14,7 @@ use table::numbers::in_range;
 ghost use mathlib.Core.Path.{_≡_};
 ghost use Prim.Native.Nat.{_≤_, _<_};
 ghost use Rattle.rules.specs.Limits.{maxDegree};
+ghost use Rattle.rules.specs.Bytes.{u16Limit};
 ghost use Rattle.rules.specs.Mask.{maskRight};
 ghost use Rattle.rules.specs.Certificate.{itemAt, itemsAt, follows};
 ghost use Rattle.table.specs.Held.{Ordered, degreeAt};
@@ -22,7 +23,7 @@ ghost use Rattle.judge.specs.Refusals.{Long, Listed, beforeAt, itemRefus
 // Entry k's check number.
 pub(crate) fn check_at(bytes: &[u8], q: usize, k: usize) -> usize
     requires { ⌜ Listed (now bytes) q k ⌝ }
-    ensures { λ r. ⌜ (r ≡ itemAt (now (bytes .entry)) q k .check) × (r < 65536) ⌝ }
+    ensures { λ r. ⌜ (r ≡ itemAt (now (bytes .entry)) q k .check) × (r < u16Limit) ⌝ }
 {
     u16_at(bytes, 4 + 6 * k)
 }

@@ -1,4 +1,5 @@
 pub mod Basics
+pub mod ByteLaws
 pub mod Signs
 pub mod CutMethod
 pub mod CutRule

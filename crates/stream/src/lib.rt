@@ -1,9 +1,10 @@
 // Numbers on standard input and output, for the programs. No contract can say what is read or
 // written: the readers' contracts say how much they answer and what they leave alone.
+use file_numbers::u16_of;
+use file_numbers::u32_of;
 use libc::STDIN_FILENO;
 use libc::STDOUT_FILENO;
 use limits::MAX_BITS;
-use table::numbers::u16_of;
 ghost use mathlib.Core.Path.{_≡_};
 ghost use Prim.Native.Nat.{_*_, _≤_, _<_};
 ghost use lib.IntN.{pos, natAbs};
@@ -11,6 +12,7 @@ ghost use lib.ListN.{length};
 ghost use lib.Signed.{_≤ℤ_};
 ghost use mir.Syntax.{w16, w32};
 ghost use mir.Val.{toZ};
+ghost use Rattle.rules.specs.Bytes.{u16Limit};
 ghost use Rattle.rules.specs.Buffers.{over};
 ghost use Rattle.stream.specs.Numbers.{numbersOf, numbersAtOnce, bytesFor, notWhole, Read, ReadNumbers, ReadFront, PartRead};
 
@@ -96,7 +98,7 @@ fn decode(bytes: &[u8], numbers: &mut [i16], count: usize)
 
 // The number as a signed one: its upper half is negative.
 fn signed(n: usize) -> i16
-    requires { ⌜ n < 65536 ⌝ }
+    requires { ⌜ n < u16Limit ⌝ }
     ensures { λ r. ⌜ r ≡ toZ w16 n ⌝ }
 {
     if n < 32768 {
@@ -113,7 +115,7 @@ pub fn read_u32() -> usize
     if io::read_full(STDIN_FILENO, &mut bytes) < 4 {
         return NOT_WHOLE;
     }
-    u16_of(bytes[0], bytes[1]) + 65536 * u16_of(bytes[2], bytes[3])
+    u32_of(bytes[0], bytes[1], bytes[2], bytes[3]) as usize
 }
 
 // The number as a signed one: its upper half is negative.
