@@ -14,6 +14,7 @@ pub mod Optimal
 pub mod AnswerLaws
 pub mod FileLaws
 pub mod Tables
+pub mod FileBytesLaws
 pub mod Masks
 pub mod Judged
 pub mod Written
