@@ -22,7 +22,7 @@ use Rattle.rules.proofs.Optimal.{AllBelow}
 use Rattle.rules.proofs.Tables.{Ascending, AllAscending, Degrees, Sound}
 
 -- ---- how long it is
-twice : (n : ℕ) → suc (suc (2 * n)) ≡ 2 * suc n
+pub twice : (n : ℕ) → suc (suc (2 * n)) ≡ 2 * suc n
 twice n = omega arith
 
 pub bytes-length : (xs : List ℕ) → length (bytes16 xs) ≡ 2 * length xs

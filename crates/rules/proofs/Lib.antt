@@ -15,6 +15,7 @@ pub mod AnswerLaws
 pub mod FileLaws
 pub mod Tables
 pub mod FileBytesLaws
+pub mod FileUnique
 pub mod Masks
 pub mod Judged
 pub mod Written
