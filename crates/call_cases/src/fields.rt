@@ -1,7 +1,7 @@
 // A record's operation and its fields, little-endian.
+use file_numbers::u32_of;
 use libc::STDIN_FILENO;
 use stream::i32_of;
-use table::numbers::u16_of;
 ghost use Prim.Native.Nat.{_+_, _≤_};
 ghost use lib.ListN.{length};
 
@@ -36,9 +36,7 @@ pub(crate) fn read_head(head: &mut [u8]) -> bool
 pub(crate) fn u32_at(head: &[u8], at: usize) -> u32
     requires { ⌜ at + 4 ≤ length (now head) ⌝ }
 {
-    let low = u16_of(head[at], head[at + 1]);
-    let high = u16_of(head[at + 2], head[at + 3]);
-    (low + 65536 * high) as u32
+    u32_of(head[at], head[at + 1], head[at + 2], head[at + 3])
 }
 
 pub(crate) fn i32_at(head: &[u8], at: usize) -> i32

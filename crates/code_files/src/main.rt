@@ -2,11 +2,10 @@
 // 30,000, and L bytes, a code file. Each gets a line, `bits N checks M edges E` or `refused K`. The
 // end of the input, a longer record or one that is cut short ends the program.
 use libc::STDOUT_FILENO;
+use stream::CODE_LIMIT;
 use stream::print_number;
 use stream::read_part;
 use table::Checked;
-
-const RECORD_LIMIT: usize = 30000;
 
 fn print_answer(answer: Checked) {
     match answer {
@@ -46,6 +45,6 @@ fn all_records(file: &mut [u8]) {
 }
 
 fn main() {
-    let mut file = [0u8; RECORD_LIMIT];
+    let mut file = [0u8; CODE_LIMIT];
     all_records(&mut file);
 }

@@ -1,6 +1,6 @@
 // One check of a loaded table: the spins at its members, and their cut.
 use super::see;
-use table::limits::MAX_DEGREE;
+use limits::MAX_DEGREE;
 ghost use mathlib.Core.Path.{_≡_};
 ghost use mathlib.Core.List.{_++_};
 ghost use Prim.Native.Nat.{_≤_};

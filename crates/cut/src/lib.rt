@@ -1,20 +1,19 @@
 // The cut search of document 01: the violated odd set of a check's values as a mask.
 mod check;
-pub mod limits;
 mod scan;
 
 use check::check_cut;
-use inputs::limits::UNIT;
-use limits::ASKED_TOO_MUCH;
+use limits::MAX_CHECKS;
+use limits::MAX_DEGREE;
+use limits::MAX_EDGES;
+use limits::UNIT;
+use limits::refusals::ASKED_TOO_MUCH;
+use limits::refusals::BUFFER_SHORT;
+use limits::refusals::COUNT_RANGE;
 use scan::Scan;
 use scan::bit;
 use scan::scan_values;
 use table::Checked;
-use table::limits::BUFFER_SHORT;
-use table::limits::COUNT_RANGE;
-use table::limits::MAX_CHECKS;
-use table::limits::MAX_DEGREE;
-use table::limits::MAX_EDGES;
 ghost use mathlib.Core.Path.{_≡_};
 ghost use mathlib.Core.Bool.{cond};
 ghost use Prim.Native.Nat.{_*_, _<_};

@@ -1,6 +1,6 @@
 // One pass over a check's values: their signs and their heights, U less each size.
 use super::above;
-use inputs::limits::UNIT;
+use limits::UNIT;
 ghost use mathlib.Core.Path.{_≡_};
 ghost use mathlib.Core.List.{[]};
 ghost use Prim.Native.Nat.{_+_, _*_, _^_, _≤_, _<_};

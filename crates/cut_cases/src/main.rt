@@ -4,15 +4,13 @@
 // longer record or one that is cut short ends the program.
 use cut::Found;
 use libc::STDOUT_FILENO;
+use stream::CODE_LIMIT;
 use stream::NOT_WHOLE;
+use stream::NUMBERS_AT_ONCE;
 use stream::i32_of;
 use stream::print_number;
 use stream::read_part;
 use stream::read_u32;
-
-const CODE_LIMIT: usize = 30000;
-
-const SPIN_LIMIT: usize = 4096;
 
 // The count of the spins that are read.
 fn read_spins(spins: &mut [i32]) -> usize {
@@ -74,6 +72,6 @@ fn all_records(code: &mut [u8], spins: &mut [i32]) {
 
 fn main() {
     let mut code = [0u8; CODE_LIMIT];
-    let mut spins = [0i32; SPIN_LIMIT];
+    let mut spins = [0i32; NUMBERS_AT_ONCE];
     all_records(&mut code, &mut spins);
 }

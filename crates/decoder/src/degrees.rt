@@ -1,5 +1,5 @@
 // In how many edges each bit stands.
-use table::limits::MAX_BITS;
+use limits::MAX_BITS;
 ghost use mathlib.Core.Path.{_≡_};
 ghost use Prim.Native.Nat.{ℕ, _≤_, _<_};
 ghost use lib.ListN.{length, getD};

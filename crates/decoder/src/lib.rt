@@ -13,13 +13,13 @@ mod round;
 mod spins;
 mod step;
 
+use limits::MAX_CHECKS;
+use limits::MAX_EDGES;
 use perform::outcome_of;
 use perform::perform;
 use run::Admitted;
 use run::Lent;
 use run::Record;
-use table::limits::MAX_CHECKS;
-use table::limits::MAX_EDGES;
 ghost use mathlib.Core.Path.{_≡_};
 ghost use Rattle.rules.specs.Buffers.{lent};
 ghost use Rattle.rules.specs.Run as rule;

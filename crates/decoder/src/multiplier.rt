@@ -1,7 +1,7 @@
 // The least multiplier of a cut, found from above on the heights that the cut search leaves. With F the
 // sum of the lifted heights above 0 and k their number, b falls by (F - 2U) / k until that is 0.
 use cut::above;
-use inputs::limits::UNIT;
+use limits::UNIT;
 ghost use mathlib.Core.Path.{_≡_};
 ghost use Prim.Native.Nat.{_-_, _*_, _/_, _≤_, min};
 ghost use lib.ListN.{length};

@@ -1,8 +1,8 @@
 // The spins of a round (document 01, "One round", step 1).
 use super::numbers::clip_to;
 use super::numbers::divided;
-use inputs::limits::UNIT;
-use table::limits::MAX_BITS;
+use limits::MAX_BITS;
+use limits::UNIT;
 ghost use mathlib.Core.Path.{_≡_};
 ghost use Prim.Native.Nat.{_≤_};
 ghost use lib.ListN.{length};

@@ -1,12 +1,11 @@
 // What is handed in beside the code file: frame, word and point. Each test answers the refusal's
 // number of document 01, or 0.
-pub mod limits;
 mod ranges;
 
-use limits::FRAME_LENGTH;
-use limits::FRAME_RANGE;
-use limits::POINT_WRONG;
-use limits::WORD_WRONG;
+use limits::refusals::FRAME_LENGTH;
+use limits::refusals::FRAME_RANGE;
+use limits::refusals::POINT_WRONG;
+use limits::refusals::WORD_WRONG;
 use ranges::bytes_right;
 use ranges::numbers_right;
 use ranges::spins_right;

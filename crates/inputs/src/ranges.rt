@@ -1,6 +1,6 @@
 // The range of a frame's numbers, of spins and of a word's bytes.
-use super::limits::FRAME_LIMIT;
-use super::limits::UNIT;
+use limits::FRAME_LIMIT;
+use limits::UNIT;
 ghost use mathlib.Core.Path.{_≡_};
 ghost use lib.Dec.{leb};
 ghost use lib.IntN.{natAbs};

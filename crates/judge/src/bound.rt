@@ -7,7 +7,7 @@ use super::numbers::u16_at;
 use super::starts::start_at;
 use super::sums::agreement_sum;
 use super::sums::wide;
-use table::limits::MAX_BITS;
+use limits::MAX_BITS;
 ghost use mathlib.Core.Path.{_≡_};
 ghost use Prim.Native.Nat.{ℕ, _%_, _*_, _≤_, _<_};
 ghost use lib.Dec.{eqb};

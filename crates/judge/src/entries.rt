@@ -1,19 +1,20 @@
 // A certificate's entries, and refusals 10 to 14.
-use super::limits::CERTIFICATE_WRONG;
-use super::limits::ENTRY_ORDER;
-use super::limits::ENTRY_RANGE;
-use super::limits::MASK_WRONG;
-use super::limits::MAX_ENTRIES;
-use super::limits::MAX_MULTIPLIER;
-use super::limits::MAX_SCALE;
-use super::limits::SCALE_RANGE;
 use super::numbers::u16_at;
 use super::numbers::u32_at;
 use super::starts::degree;
+use limits::MAX_ENTRIES;
+use limits::MAX_MULTIPLIER;
+use limits::MAX_SCALE;
+use limits::refusals::CERTIFICATE_WRONG;
+use limits::refusals::ENTRY_ORDER;
+use limits::refusals::ENTRY_RANGE;
+use limits::refusals::MASK_WRONG;
+use limits::refusals::SCALE_RANGE;
 use table::numbers::in_range;
 ghost use mathlib.Core.Path.{_≡_};
 ghost use Prim.Native.Nat.{_≤_, _<_};
 ghost use Rattle.rules.specs.Limits.{maxDegree};
+ghost use Rattle.rules.specs.Bytes.{u16Limit};
 ghost use Rattle.rules.specs.Mask.{maskRight};
 ghost use Rattle.rules.specs.Certificate.{itemAt, itemsAt, follows};
 ghost use Rattle.table.specs.Held.{Ordered, degreeAt};
@@ -22,7 +23,7 @@ ghost use Rattle.judge.specs.Refusals.{Long, Listed, beforeAt, itemRefus
 // Entry k's check number.
 pub(crate) fn check_at(bytes: &[u8], q: usize, k: usize) -> usize
     requires { ⌜ Listed (now bytes) q k ⌝ }
-    ensures { λ r. ⌜ (r ≡ itemAt (now (bytes .entry)) q k .check) × (r < 65536) ⌝ }
+    ensures { λ r. ⌜ (r ≡ itemAt (now (bytes .entry)) q k .check) × (r < u16Limit) ⌝ }
 {
     u16_at(bytes, 4 + 6 * k)
 }

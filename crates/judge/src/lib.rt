@@ -3,18 +3,17 @@
 mod bound;
 mod checks;
 mod entries;
-pub mod limits;
 mod numbers;
 mod stages;
 mod starts;
 mod sums;
 
+use limits::MAX_CHECKS;
+use limits::MAX_EDGES;
 use stages::agreement_table;
 use stages::judge_table;
 use stages::syndrome_table;
 use table::Checked;
-use table::limits::MAX_CHECKS;
-use table::limits::MAX_EDGES;
 ghost use mathlib.Core.Path.{_≡_};
 ghost use Rattle.rules.specs.Judge as rule;
 ghost use Rattle.judge.specs.Reply.{verdictOf, parityOf, agreedOf};

@@ -1,14 +1,15 @@
 // The 16-bit and 32-bit numbers of a certificate.
-use table::numbers::u16_of;
+use file_numbers::u16_of;
+use file_numbers::u32_of;
 ghost use mathlib.Core.Path.{_≡_};
 ghost use Prim.Native.Nat.{_+_, _<_};
 ghost use lib.ListN.{length};
-ghost use Rattle.rules.specs.Bytes.{u16At, u32At};
+ghost use Rattle.rules.specs.Bytes.{u16Limit, u16At, u32At};
 
-// The number at byte `at`: "file numbers are little-endian".
+// The number at byte `at`.
 pub(crate) fn u16_at(bytes: &[u8], at: usize) -> usize
     requires { ⌜ at + 1 < length (now bytes) ⌝ }
-    ensures { λ r. ⌜ (r ≡ u16At (now (bytes .entry)) at) × (r < 65536) ⌝ }
+    ensures { λ r. ⌜ (r ≡ u16At (now (bytes .entry)) at) × (r < u16Limit) ⌝ }
 {
     u16_of(bytes[at], bytes[at + 1])
 }
@@ -17,7 +18,5 @@ pub(crate) fn u32_at(bytes: &[u8], at: usize) -> u32
     requires { ⌜ at + 3 < length (now bytes) ⌝ }
     ensures { λ r. ⌜ r ≡ u32At (now (bytes .entry)) at ⌝ }
 {
-    let low = u16_at(bytes, at);
-    let high = u16_at(bytes, at + 2);
-    (low + 65536 * high) as u32
+    u32_of(bytes[at], bytes[at + 1], bytes[at + 2], bytes[at + 3])
 }

@@ -2,11 +2,12 @@
 ghost use mathlib.Core.Path.{_≡_};
 ghost use Prim.Native.Nat.{_+_, _≤_, _<_};
 ghost use lib.ListN.{length, getD};
+ghost use Rattle.rules.specs.Bytes.{u16Limit};
 ghost use Rattle.table.specs.Held.{degreeAt};
 
 pub(crate) fn start_at(starts: &[u16], j: usize) -> usize
     requires { ⌜ j < length (now starts) ⌝ }
-    ensures { λ r. ⌜ (r ≡ getD (now (starts .entry)) j 0) × (r < 65536) ⌝ }
+    ensures { λ r. ⌜ (r ≡ getD (now (starts .entry)) j 0) × (r < u16Limit) ⌝ }
 {
     starts[j] as usize
 }

@@ -8,16 +8,15 @@ use judge::Agreed;
 use judge::Parity;
 use judge::Verdict;
 use libc::STDOUT_FILENO;
+use limits::MAX_BITS;
+use stream::CODE_LIMIT;
+use stream::NUMBERS_AT_ONCE;
 use stream::print_number;
 use stream::print_signed;
 use stream::read_i16_part;
 use stream::read_part;
 
-const CODE_LIMIT: usize = 30000;
-
-const FRAME_LIMIT: usize = 4096;
-
-const WORD_LIMIT: usize = 4096;
+const WORD_LIMIT: usize = 2 * MAX_BITS;
 
 const CERTIFICATE_LIMIT: usize = 50000;
 
@@ -82,9 +81,9 @@ fn with_frame(code: &[u8], frame: &[i16]) -> bool {
 }
 
 fn with_code(code: &[u8]) -> bool {
-    let mut frame = [0i16; FRAME_LIMIT];
+    let mut frame = [0i16; NUMBERS_AT_ONCE];
     let count = read_i16_part(&mut frame);
-    if FRAME_LIMIT < count {
+    if NUMBERS_AT_ONCE < count {
         return false;
     }
     with_frame(code, &frame[..count])

@@ -5,19 +5,19 @@ mod print;
 
 use code::FILE_LIMIT;
 use code::read_code;
-use code::u16_at;
 use decoder::Called;
 use decoder::Outcome;
+use file_numbers::u16_of;
 use judge::Agreed;
+use limits::MAX_BITS;
+use limits::MAX_CHECKS;
+use limits::MAX_EDGES;
 use print::print_code;
 use print::print_frame;
 use print::print_refused;
 use run::Record;
 use run::Started;
 use table::Checked;
-use table::limits::MAX_BITS;
-use table::limits::MAX_CHECKS;
-use table::limits::MAX_EDGES;
 ghost use mathlib.Core.Path.{_≡_};
 ghost use Prim.Native.Nat.{_≤_};
 ghost use lib.ListN.{length};
@@ -88,7 +88,7 @@ fn certified_line(code: &[u8], frame: &[i16], rounds: u32, word: &[u8], certific
         Agreed::Is(a) => Line::Certified {
             rounds,
             agreement: a,
-            cuts: u16_at(certificate, 0),
+            cuts: u16_of(certificate[0], certificate[1]),
         },
     }
 }

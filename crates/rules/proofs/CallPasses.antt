@@ -16,7 +16,7 @@ use Rattle.rules.specs.CodeFile.{codeFile}
 use Rattle.rules.specs.Input.{eachWithin, onFrame}
 use Rattle.rules.specs.Step.{Entry, Step}
 use Rattle.rules.specs.Round.{State, entriesIn, round}
-use Rattle.rules.specs.Bytes.{u16At}
+use Rattle.rules.specs.Bytes.{u16Limit, u16At}
 use Rattle.rules.specs.Certificate.{cutsIn, certificateOf, entriesOf}
 use Rattle.rules.specs.Judge.{passes, judge}
 use Rattle.rules.specs.Buffers.{Lengths, lengthsOf, needs, fits, over, overBy, bytesOf, wordLeft, certificateLeft}
@@ -74,7 +74,7 @@ module _ (t : Table) (l : List ℤ) (q : Run) (e : Ends t l q) where
   count h = ap entriesOf left-bytes ∙ entries-front (coming t l (e .last) .entries) (e .last .buffers .certificate)
       ∙ entries-written (coming t l (e .last) .entries) (few _ _ _ (cuts-few (coming t l (e .last) .entries)) (round-entries t l (stateIn t (e .last .buffers))) h)
     where
-      few : (q n m : ℕ) → q ≤ n → n ≡ m → m ≤ maxChecks → q < 65536
+      few : (q n m : ℕ) → q ≤ n → n ≡ m → m ≤ maxChecks → q < u16Limit
       few q n m h e k = omega arith
 
   ended-certificate : checksOf t ≤ maxChecks → take (certificateLength (entriesOf (q .buffers .certificate))) (q .buffers .certificate) ≡ certificateOf es

@@ -19,7 +19,7 @@ unfolding numbersAt
 numbers-length file a zero = refl
 numbers-length file a (suc k) = ap suc (numbers-length file (a + 2) k)
 
-numbers-append : (file : List ℕ) (a d k : ℕ) → numbersAt file a (d + k) ≡ numbersAt file a d ++ numbersAt file (a + 2 * d) k
+pub numbers-append : (file : List ℕ) (a d k : ℕ) → numbersAt file a (d + k) ≡ numbersAt file a d ++ numbersAt file (a + 2 * d) k
 unfolding numbersAt
 numbers-append file a zero k = ap₂ (numbersAt file) (none a) (zero-add k)
   where

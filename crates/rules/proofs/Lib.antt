@@ -1,4 +1,5 @@
 pub mod Basics
+pub mod ByteLaws
 pub mod Signs
 pub mod CutMethod
 pub mod CutRule
@@ -13,6 +14,8 @@ pub mod Optimal
 pub mod AnswerLaws
 pub mod FileLaws
 pub mod Tables
+pub mod FileBytesLaws
+pub mod FileUnique
 pub mod Masks
 pub mod Judged
 pub mod Written

@@ -15,7 +15,7 @@ use Rattle.integers.specs.Linear.{Within}
 use Rattle.integers.specs.Product.{natAbs-≤}
 use Rattle.integers.specs.Clip.{clip-within}
 use Rattle.integers.specs.Sum.{AllWithin}
-use Rattle.rules.specs.Limits.{unit, roundLimit, offsetPerRound, maxMultiplier}
+use Rattle.rules.specs.Limits.{unit, roundLimit, offsetPerRound, stepLimit, maxMultiplier}
 use Rattle.rules.specs.Table.{Table, edges}
 use Rattle.rules.specs.Input.{eachWithin}
 use Rattle.rules.specs.Step.{Entry}
@@ -209,17 +209,17 @@ safe-moved t l r h = record {
 pub iterate-safe : (t : Table) (l : List ℤ) (k : ℕ) (r : Run) → Safe t r → Safe t (iterate t l k r)
 iterate-safe t l k r h = iterate-keeps t l (Safe t) (λ q m. safe-moved t l q) k r h
 
--- ---- a multiplier never exceeds 2 · 4,096 + 8,192 · 1,023 = 8,388,608, in a resumed run too
+-- ---- a multiplier never exceeds 2U and the greatest offset, 8,388,608, in a resumed run too
 at-most : (a b : ℕ) (es : List Entry) → a ≤ b → AtMost a es → AtMost b es
 at-most a b [] h k = tt
 at-most a b (e ∷ es) h k = (le-trans (k .0) h, at-most a b es h (k .1))
 
-pub multipliers-limit : (t : Table) (l : List ℤ) (s : State) (k : ℕ) → k < roundLimit → AllWithin (offsetPerRound * k) (s .offsets) → AtMost 8388608 (round t l s .entries)
+pub multipliers-limit : (t : Table) (l : List ℤ) (s : State) (k : ℕ) → k < roundLimit → AllWithin (offsetPerRound * k) (s .offsets) → AtMost stepLimit (round t l s .entries)
 unfolding round
-multipliers-limit t l s k e h = at-most (unit + (unit + offsetPerRound * k)) 8388608 (entriesIn (stepsIn t l s)) (low k e)
+multipliers-limit t l s k e h = at-most (unit + (unit + offsetPerRound * k)) stepLimit (entriesIn (stepsIn t l s)) (low k e)
     (multipliers-within unit (offsetPerRound * k) (spinsIn t l s) (spin-within unit (edges (t .checks)) l s) (t .checks) (s .offsets) h (below k e))
   where
-    low : (k : ℕ) → k < roundLimit → unit + (unit + offsetPerRound * k) ≤ 8388608
+    low : (k : ℕ) → k < roundLimit → unit + (unit + offsetPerRound * k) ≤ stepLimit
     low k h = omega arith
 
     below : (k : ℕ) → k < roundLimit → unit + (unit + offsetPerRound * k) ≤ 2 ^ 24
@@ -231,7 +231,7 @@ not-large (e ∷ es) h = ap₂ _||_ (le-ltb maxMultiplier (multiplierOf e) (h .0
 
 -- so 44 never meets it
 pub never-44 : (t : Table) (l : List ℤ) (r : Run) → Safe t r → r .progress .status ≡ running → tooLarge (coming t l r .entries) ≡ false
-never-44 t l r h e = not-large (coming t l r .entries) (at-most 8388608 maxMultiplier (coming t l r .entries) (omega arith)
+never-44 t l r h e = not-large (coming t l r .entries) (at-most stepLimit maxMultiplier (coming t l r .entries) (omega arith)
     (multipliers-limit t l (stateIn t (r .buffers)) (r .progress .rounds) (h .early e) (h .offsets)))
 
 pub safe-moves : (t : Table) (l : List ℤ) (r : Run) → Safe t r → r .progress .status ≡ running → next t l r ≡ moved r (coming t l r)

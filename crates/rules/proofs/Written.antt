@@ -1,18 +1,19 @@
 -- A certificate's bytes read back: what a round writes is, item by item, what the round has. Assumes nothing.
 use mathlib.Core.Path.{_≡_, refl, sym, _∙_, ap, ap₂}
 use mathlib.Core.List.{List, [], _∷_, _++_, append-nil}
-use Prim.Native.Nat.{ℕ, zero, suc, _+_, _*_, _/_, _%_, _≤_, _<_}
+use Prim.Native.Nat.{ℕ, zero, suc, _+_, _*_, _≤_, _<_}
 use native.Mathlib.Omega.{arith}
-use native.Mathlib.Nat.{add-zero, le-step, suc-le-suc-iff}
-use lib.ListN.{length, getD, drop, length-append}
-use lib.Seq.{getD-drop, drop-drop, drop-append-seam}
+use native.Mathlib.Nat.{le-step, suc-le-suc-iff}
+use lib.ListN.{length, drop, length-append}
+use lib.Seq.{drop-drop, drop-append-seam}
 use Rattle.integers.specs.Count.{first-in}
-use Rattle.rules.specs.Bytes.{u16At, u32At, le16}
+use Rattle.rules.specs.Bytes.{u16Limit, u32Limit, u16At, le16}
 use Rattle.rules.specs.Limits.{certificateLength}
 use Rattle.rules.specs.Mask.{maskOf}
 use Rattle.rules.specs.Step.{Entry, inactive, active}
 use Rattle.rules.specs.Certificate.{cutsIn, contentBytes, bodyBytes, certificateOf, Item, itemsAt, entriesOf, scaleOf, itemsOf}
 use Rattle.rules.specs.Buffers.{multiplierOf, maskIn}
+use Rattle.rules.proofs.ByteLaws.{back16, back32, front32, reads16, reads32}
 
 -- ---- how long it is
 pub cuts-few : (es : List Entry) → cutsIn es ≤ length es
@@ -44,13 +45,7 @@ certificate-length es = ap (λ n. suc (suc (suc (suc n)))) (length-append (conte
     ten n = omega arith
 
 -- ---- its first two numbers
-back16 : (n : ℕ) → n < 65536 → n % 256 + 256 * (n / 256 % 256) ≡ n
-back16 n h = omega arith
-
-back32 : (n : ℕ) → n < 4294967296 → (n % 256 + 256 * (n / 256 % 256)) + 65536 * (n / 256 / 256 % 256 + 256 * (n / 256 / 256 / 256 % 256)) ≡ n
-back32 n h = omega arith
-
-pub entries-written : (es : List Entry) → cutsIn es < 65536 → entriesOf (certificateOf es) ≡ cutsIn es
+pub entries-written : (es : List Entry) → cutsIn es < u16Limit → entriesOf (certificateOf es) ≡ cutsIn es
 unfolding certificateOf u16At
 entries-written es h = back16 (cutsIn es) h
 
@@ -59,18 +54,6 @@ unfolding certificateOf u16At
 scale-written es = refl
 
 -- ---- its items, read from where they stand
-reads16 : (bs : List ℕ) (a : ℕ) → u16At bs a ≡ u16At (drop a bs) 0
-unfolding u16At
-reads16 bs a = sym (ap₂ (λ x y. x + 256 * y) (getD-drop a bs 0 0 ∙ ap (λ n. getD bs n 0) (add-zero a)) (getD-drop a bs 1 0))
-
--- the 32-bit number at the front
-front32 : List ℕ → ℕ
-front32 xs = u16At xs 0 + 65536 * u16At (drop 2 xs) 0
-
-reads32 : (bs : List ℕ) (a : ℕ) → u32At bs a ≡ front32 (drop a bs)
-unfolding u32At front32
-reads32 bs a = ap₂ (λ x y. x + 65536 * y) (reads16 bs a) (reads16 bs (a + 2) ∙ ap (λ l. u16At l 0) (sym (drop-drop 2 a bs)))
-
 -- c items, their contents at xs and their masks at ys
 itemsIn : ℕ → List ℕ → List ℕ → List Item
 itemsIn zero xs ys = []
@@ -104,19 +87,19 @@ listed j (active b ts ∷ es) = record { check = j; multiplier = b; mask = maskO
 -- multipliers and masks fit 32 bits
 abbrev pub Narrow : List Entry → Type 0
 Narrow [] = Unit {0}
-Narrow (e ∷ es) = (multiplierOf e < 4294967296) × (maskIn e < 4294967296) × Narrow es
+Narrow (e ∷ es) = (multiplierOf e < u32Limit) × (maskIn e < u32Limit) × Narrow es
 
-shift : (j n : ℕ) → j + suc n ≤ 65536 → suc j + n ≤ 65536
+shift : (j n : ℕ) → j + suc n ≤ u16Limit → suc j + n ≤ u16Limit
 shift j n h = omega arith
 
-items-listed : (j : ℕ) (es : List Entry) (more rest : List ℕ) → j + length es ≤ 65536 → Narrow es → itemsIn (cutsIn es) (contentBytes j es ++ more) (bodyBytes es ++ rest) ≡ listed j es
+items-listed : (j : ℕ) (es : List Entry) (more rest : List ℕ) → j + length es ≤ u16Limit → Narrow es → itemsIn (cutsIn es) (contentBytes j es ++ more) (bodyBytes es ++ rest) ≡ listed j es
 unfolding itemsIn u16At front32
 items-listed j [] more rest h s = refl
 items-listed j (inactive ∷ es) more rest h s = items-listed (suc j) es more rest (shift j (length es) h) (s .2)
-items-listed j (active b ts ∷ es) more rest h s = ap₂ _∷_ (item-eq (back16 j (first-in j (length es) 65536 h)) (back32 b (s .0)) (back32 (maskOf ts) (s .1)))
+items-listed j (active b ts ∷ es) more rest h s = ap₂ _∷_ (item-eq (back16 j (first-in j (length es) u16Limit h)) (back32 b (s .0)) (back32 (maskOf ts) (s .1)))
     (items-listed (suc j) es more rest (shift j (length es) h) (s .2))
 
-pub items-written : (es : List Entry) → length es ≤ 65535 → Narrow es → itemsOf (certificateOf es) ≡ listed 0 es
+pub items-written : (es : List Entry) → length es < u16Limit → Narrow es → itemsOf (certificateOf es) ≡ listed 0 es
 unfolding certificateOf
 items-written es h s = ap₂ (λ q c. itemsAt bs q 0 c) count count
     ∙ items-in bs (cutsIn es) 0 (cutsIn es)
@@ -126,13 +109,13 @@ items-written es h s = ap₂ (λ q c. itemsAt bs q 0 c) count count
     bs : List ℕ
     bs = le16 (cutsIn es) ++ le16 1 ++ contentBytes 0 es ++ bodyBytes es
 
-    few : (q n : ℕ) → q ≤ n → n ≤ 65535 → q < 65536
+    few : (q n : ℕ) → q ≤ n → n < u16Limit → q < u16Limit
     few q n h k = omega arith
 
     count : entriesOf bs ≡ cutsIn es
     count = entries-written es (few (cutsIn es) (length es) (cuts-few es) h)
 
-    room : (n : ℕ) → n ≤ 65535 → 0 + n ≤ 65536
+    room : (n : ℕ) → n < u16Limit → 0 + n ≤ u16Limit
     room n h = omega arith
 
     heads : (q n : ℕ) → n ≡ 6 * q → 4 + 6 * q + 4 * 0 ≡ suc (suc (suc (suc n)))

@@ -13,6 +13,7 @@ use borrow.Author.Tests.{lt-ltb, le-leb, eq-eqb, ltb-false}
 use lib.ListN.{length, getD}
 use lib.IntN.{ℤ}
 use Rattle.integers.specs.Count.{first-in}
+use Rattle.rules.specs.Bytes.{u16Limit, u32Limit}
 use Rattle.rules.specs.Limits.{frameLimit, maxEntries, maxScale, maxMultiplier, maxChecks, certificateLength}
 use Rattle.rules.specs.Refusal.{Answer, gives, frameLength, frameRange, wordWrong, certificateWrong, scaleRange, entryRange, maskWrong, entryOrder}
 use Rattle.rules.specs.Table.{Table, checksOf}
@@ -70,10 +71,10 @@ narrow (ms ∷ cs) (active m ts ∷ es) d p b = (
   narrow cs es (d .1) (p .1) (or-false (ltb maxMultiplier m) (tooLarge es) b .1),
 )
   where
-    fits : (m : ℕ) → m ≤ maxMultiplier → m < 4294967296
+    fits : (m : ℕ) → m ≤ maxMultiplier → m < u32Limit
     fits m h = omega arith
 
-    below : (m p : ℕ) → m < p → p ≤ 2 ^ 32 → m < 4294967296
+    below : (m p : ℕ) → m < p → p ≤ 2 ^ 32 → m < u32Limit
     below m p h k = omega arith
 
 proper-many : (cs : List (List ℕ)) (es : List Entry) → AllProper cs es → length es ≡ length cs
@@ -153,7 +154,7 @@ items-right t p j (ms ∷ cs) (active m ts ∷ es) a f q b h =
 items-back : (t : Table) (es : List Entry) → Sound t → AllProper (t .checks) es → tooLarge es ≡ false → itemsOf (certificateOf es) ≡ listed 0 es
 items-back t es s p b = items-written es (wide (length es) (checksOf t) (proper-many (t .checks) es p) (s .checks .1)) (narrow (t .checks) es (s .degrees) p b)
   where
-    wide : (n m : ℕ) → n ≡ m → m ≤ maxChecks → n ≤ 65535
+    wide : (n m : ℕ) → n ≡ m → m ≤ maxChecks → n < u16Limit
     wide n m e h = omega arith
 
 certificate-right : {A : Type 0} (t : Table) (es : List Entry) (a : Answer A) → Sound t → AllProper (t .checks) es → tooLarge es ≡ false → onCertificate t (certificateOf es) a ≡ a
@@ -173,7 +174,7 @@ certificate-right t es a s p b =
     four : (q n : ℕ) → n ≡ 4 + 10 * q → 4 ≤ n
     four q n e = omega arith
 
-    fewer : (q n m : ℕ) → q ≤ n → n ≡ m → m ≤ maxChecks → q < 65536
+    fewer : (q n m : ℕ) → q ≤ n → n ≡ m → m ≤ maxChecks → q < u16Limit
     fewer q n m h e k = omega arith
 
     count : entriesOf (certificateOf es) ≡ cutsIn es

@@ -3,6 +3,7 @@ pub mod Refusal
 pub mod Bytes
 pub mod Table
 pub mod CodeFile
+pub mod FileBytes
 pub mod Parity
 pub mod Mask
 pub mod Input

@@ -1,5 +1,5 @@
 -- The numbers of document 01, each in one place. Definitions only. Assumes nothing.
-use Prim.Native.Nat.{ℕ, _+_, _*_}
+use Prim.Native.Nat.{ℕ, _+_, _-_, _*_}
 
 -- U: spin +U is bit 0, spin −U is bit 1
 abbrev pub unit : ℕ
@@ -45,6 +45,19 @@ maxScale = 1023
 
 abbrev pub maxMultiplier : ℕ
 maxMultiplier = 16777215
+
+-- ---- what follows for a round of a run that 43 lets pass
+-- the size of an offset before it: at most 1,023 rounds are done
+abbrev pub offsetLimit : ℕ
+offsetLimit = offsetPerRound * (roundLimit - 1)
+
+-- the size of a value v = spin + y
+abbrev pub valueLimit : ℕ
+valueLimit = unit + offsetLimit
+
+-- its greatest multiplier: U and the size of a value
+abbrev pub stepLimit : ℕ
+stepLimit = unit + valueLimit
 
 -- where the code file's contents and bodies begin: "length is 4 + 4m + 2E bytes"
 abbrev pub contentsEnd : ℕ → ℕ

@@ -226,7 +226,7 @@ module _ (t : Table) (l : List ℤ) (wanted : ℕ) (lent : Lengths) (r : Run) wh
       }
 
 -- ---- what the tests say of the numbers
-pub sound-safe : (k : ℕ) (s : State) → sound k s ≡ true → (k < 1024) × AllWithin 4096 (s .copies) × AllWithin (8192 * k) (s .offsets)
+pub sound-safe : (k : ℕ) (s : State) → sound k s ≡ true → (k < roundLimit) × AllWithin unit (s .copies) × AllWithin (offsetPerRound * k) (s .offsets)
 unfolding sound
 sound-safe k s h =
     let p = and-both (ltb k roundLimit && eachWithin unit (s .copies)) (eachWithin (offsetPerRound * k) (s .offsets)) h in

@@ -1,14 +1,12 @@
 // The bounds of a half-done run: refusal 43.
 use super::Record;
+use limits::OFFSET_PER_ROUND;
 ghost use mathlib.Core.Path.{_≡_};
 ghost use lib.Dec.{leb};
 ghost use lib.IntN.{pos, natAbs};
 ghost use lib.Signed.{_≤ℤ_};
 ghost use Rattle.rules.specs.Input.{eachWithin};
 ghost use Rattle.rules.specs.Run.{sound};
-
-// "8,192 x rounds done"
-const OFFSET_PER_ROUND: u32 = 8192;
 
 // x is from -limit to limit.
 pub(crate) fn within(x: i32, limit: i32) -> bool

@@ -5,9 +5,9 @@ mod clear;
 mod refusals;
 
 use clear::clear_first;
+use limits::refusals::BUFFER_SHORT;
 use refusals::admit_sized;
 use table::Checked;
-use table::limits::BUFFER_SHORT;
 ghost use mathlib.Core.Path.{_≡_};
 ghost use Rattle.rules.specs.Buffers.{startLent};
 ghost use Rattle.rules.specs.Run as rule;
@@ -29,10 +29,10 @@ pub struct Record {
 
 impl Record {
     // "A run has at most 1,024 rounds"
-    pub const ROUND_LIMIT: u32 = 1024;
+    pub const ROUND_LIMIT: u32 = limits::ROUND_LIMIT;
 
     // U: spin +U is bit 0, spin -U is bit 1
-    pub const UNIT: i32 = inputs::limits::UNIT;
+    pub const UNIT: i32 = limits::UNIT;
 
     // "a start gives 0 and running"
     pub fn fresh() -> Self

@@ -4,18 +4,17 @@ use super::Lent;
 use super::Record;
 use super::Status;
 use super::bounds::is_sound;
-use cut::limits::ASKED_TOO_MUCH;
-use table::limits::BUFFER_SHORT;
+use limits::refusals::ASKED_TOO_MUCH;
+use limits::refusals::BUFFER_SHORT;
+use limits::refusals::RUN_DAMAGED;
+use limits::refusals::RUN_ENDED;
 ghost use mathlib.Core.Path.{_≡_};
 ghost use Prim.Native.Nat.{_≤_};
 ghost use Rattle.rules.specs.Buffers.{needsBy, fits};
+ghost use Rattle.rules.specs.Limits.{maxChecks};
 ghost use Rattle.rules.specs.Run.{isRunning};
 ghost use Rattle.run.specs.Reply.{statusOf, progressOf};
 ghost use Rattle.run.specs.Admitted.{lentOf, admittedOf, admitsBy, firstState};
-
-const RUN_ENDED: u8 = 42;
-
-const RUN_DAMAGED: u8 = 43;
 
 // "41 a lent buffer too short"
 pub(crate) fn long_enough(
@@ -26,7 +25,7 @@ pub(crate) fn long_enough(
     copies: &[i32],
     offsets: &[i32],
 ) -> bool
-    requires { ⌜ checks ≤ 2048 ⌝ }
+    requires { ⌜ checks ≤ maxChecks ⌝ }
     ensures { λ r. ⌜ r ≡ fits (needsBy bits checks edges) (lentOf lent (now (copies .entry)) (now (offsets .entry))) ⌝ }
 {
     if lent.spins < bits {
@@ -75,7 +74,7 @@ pub(crate) fn admit_sized(
     checks: usize,
     edges: usize,
 ) -> Admitted
-    requires { ⌜ checks ≤ 2048 ⌝ }
+    requires { ⌜ checks ≤ maxChecks ⌝ }
     ensures { λ r. ⌜ admittedOf r ≡ admitsBy (record { bits = bits; checks = checks; edges = edges }) (now (frame .entry)) wanted (lentOf lent (now (copies .entry)) (now (offsets .entry)))
         (progressOf run) (firstState edges (now (copies .entry)) (now (offsets .entry))) ⌝ }
 {

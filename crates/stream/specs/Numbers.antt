@@ -7,6 +7,7 @@ use lib.ListN.{length, drop}
 use lib.IntN.{ℤ}
 use mir.Syntax.{w16}
 use mir.Val.{toZ}
+use Rattle.rules.specs.Limits.{maxBits}
 use Rattle.rules.specs.Bytes.{u16At}
 use Rattle.rules.specs.Buffers.{over}
 
@@ -15,9 +16,13 @@ unfoldable pub numbersOf : List ℕ → ℕ → List ℤ
 numbersOf bs zero = []
 numbersOf bs (suc k) = numbersOf bs k ++ (toZ w16 (u16At bs (2 * k)) ∷ [])
 
--- the bytes read at once for so many numbers, of which 4,096 at the most
+-- how many numbers are read at once
+abbrev pub numbersAtOnce : ℕ
+numbersAtOnce = 2 * maxBits
+
+-- the bytes read at once for so many numbers
 abbrev pub bytesFor : ℕ → ℕ
-bytesFor n = 2 * min n 4096
+bytesFor n = 2 * min n numbersAtOnce
 
 -- what a record's part answers that is longer than it may be, or cut short: no 32-bit number
 abbrev pub notWhole : ℕ

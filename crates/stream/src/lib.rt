@@ -1,8 +1,10 @@
 // Numbers on standard input and output, for the programs. No contract can say what is read or
 // written: the readers' contracts say how much they answer and what they leave alone.
+use file_numbers::u16_of;
+use file_numbers::u32_of;
 use libc::STDIN_FILENO;
 use libc::STDOUT_FILENO;
-use table::numbers::u16_of;
+use limits::MAX_BITS;
 ghost use mathlib.Core.Path.{_≡_};
 ghost use Prim.Native.Nat.{_*_, _≤_, _<_};
 ghost use lib.IntN.{pos, natAbs};
@@ -10,12 +12,17 @@ ghost use lib.ListN.{length};
 ghost use lib.Signed.{_≤ℤ_};
 ghost use mir.Syntax.{w16, w32};
 ghost use mir.Val.{toZ};
+ghost use Rattle.rules.specs.Bytes.{u16Limit};
 ghost use Rattle.rules.specs.Buffers.{over};
-ghost use Rattle.stream.specs.Numbers.{numbersOf, bytesFor, notWhole, Read, ReadNumbers, ReadFront, PartRead};
+ghost use Rattle.stream.specs.Numbers.{numbersOf, numbersAtOnce, bytesFor, notWhole, Read, ReadNumbers, ReadFront, PartRead};
 
-const NUMBERS_AT_ONCE: usize = 4096;
+// How many numbers are read at once: more than a frame or a point has.
+pub const NUMBERS_AT_ONCE: usize = 2 * MAX_BITS;
 
 const BYTES_AT_ONCE: usize = 2 * NUMBERS_AT_ONCE;
+
+// The longest code file in a record: longer than any that is accepted.
+pub const CODE_LIMIT: usize = 30000;
 
 // What no 32-bit number is: a part of a record is longer than it may be, or cut short.
 pub const NOT_WHOLE: usize = 0x1_0000_0000;
@@ -52,7 +59,7 @@ pub fn read_i16(numbers: &mut [i16]) -> usize
 }
 
 fn read_by(bytes: &mut [u8], numbers: &mut [i16]) -> usize
-    requires { ⌜ 8192 ≤ length (now bytes) ⌝ }
+    requires { ⌜ 2 * numbersAtOnce ≤ length (now bytes) ⌝ }
     ensures { λ r. ⌜ ReadNumbers r (now (bytes .exit)) (now (numbers .exit)) (now (numbers .entry)) ⌝ }
 {
     let size = bytes_for(numbers.len());
@@ -91,7 +98,7 @@ fn decode(bytes: &[u8], numbers: &mut [i16], count: usize)
 
 // The number as a signed one: its upper half is negative.
 fn signed(n: usize) -> i16
-    requires { ⌜ n < 65536 ⌝ }
+    requires { ⌜ n < u16Limit ⌝ }
     ensures { λ r. ⌜ r ≡ toZ w16 n ⌝ }
 {
     if n < 32768 {
@@ -108,7 +115,7 @@ pub fn read_u32() -> usize
     if io::read_full(STDIN_FILENO, &mut bytes) < 4 {
         return NOT_WHOLE;
     }
-    u16_of(bytes[0], bytes[1]) + 65536 * u16_of(bytes[2], bytes[3])
+    u32_of(bytes[0], bytes[1], bytes[2], bytes[3]) as usize
 }
 
 // The number as a signed one: its upper half is negative.

@@ -9,3 +9,4 @@ pub mod AcceptedLaws
 pub mod LoadedLaws
 pub mod HeldLaws
 pub mod ViewLaws
+pub mod AnnouncedLaws

@@ -6,13 +6,13 @@ ghost use mathlib.Core.Path.{_≡_};
 ghost use Prim.Native.Nat.{_+_, _*_, _≤_, _<_};
 ghost use lib.ListN.{length};
 ghost use Rattle.rules.specs.Limits.{maxChecks, contentsEnd, fileLength};
-ghost use Rattle.rules.specs.Bytes.{u16At};
+ghost use Rattle.rules.specs.Bytes.{u16Limit, u16At};
 ghost use Rattle.rules.specs.CodeFile.{contents, totalCount, numbersAt, bodies, ascends, membersRight};
 
 // The k-th member of the bodies from byte `at` on.
 pub(crate) fn member_at(code: &[u8], at: usize, k: usize) -> usize
     requires { ⌜ at + 2 * (k + 1) ≤ length (now code) ⌝ }
-    ensures { λ r. ⌜ (r ≡ u16At (now (code .entry)) (at + 2 * k)) × (r < 65536) ⌝ }
+    ensures { λ r. ⌜ (r ≡ u16At (now (code .entry)) (at + 2 * k)) × (r < u16Limit) ⌝ }
 {
     u16_at(code, at + 2 * k)
 }

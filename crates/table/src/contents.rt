@@ -1,15 +1,16 @@
 // The contents: m entries of start and count.
-use super::limits::MAX_DEGREE;
-use super::limits::MAX_EDGES;
-use super::limits::MIN_DEGREE;
 use super::numbers::in_range;
 use super::numbers::u16_at;
+use limits::MAX_DEGREE;
+use limits::MAX_EDGES;
+use limits::MIN_DEGREE;
 ghost use mathlib.Core.Path.{_≡_};
 ghost use mathlib.Core.Bool.{_&&_};
 ghost use Prim.Native.Nat.{_+_, _*_, _≤_, _<_};
 ghost use lib.Dec.{leb};
 ghost use lib.ListN.{length};
 ghost use Rattle.rules.specs.Limits.{maxChecks, maxEdges, contentsEnd};
+ghost use Rattle.rules.specs.Bytes.{u16Limit};
 ghost use Rattle.rules.specs.CodeFile.{contentAt, contents, countsRight, startsRight, totalCount};
 
 // Where the contents of m checks end and the bodies begin.
@@ -31,7 +32,7 @@ pub(crate) fn start_at(code: &[u8], j: usize) -> usize
 // The count of check j.
 pub(crate) fn count_at(code: &[u8], j: usize) -> usize
     requires { ⌜ contentsEnd (j + 1) ≤ length (now code) ⌝ }
-    ensures { λ r. ⌜ (r ≡ contentAt (now (code .entry)) j .count) × (r < 65536) ⌝ }
+    ensures { λ r. ⌜ (r ≡ contentAt (now (code .entry)) j .count) × (r < u16Limit) ⌝ }
 {
     u16_at(code, 6 + 4 * j)
 }

@@ -1,8 +1,8 @@
 // In how many checks each bit stands.
 use super::bodies::member_at;
-use super::limits::MAX_BIT_DEGREE;
-use super::limits::MAX_BITS;
 use super::numbers::in_range;
+use limits::MAX_BIT_DEGREE;
+use limits::MAX_BITS;
 ghost use mathlib.Core.Path.{_≡_};
 ghost use Prim.Native.Nat.{ℕ, _+_, _*_, _≤_, _<_};
 ghost use lib.ListN.{length, getD};

@@ -4,24 +4,26 @@ mod bodies;
 mod contents;
 mod degrees;
 mod fill;
-pub mod limits;
 pub mod numbers;
 mod stages;
 
 use contents::contents_end;
+use contents::total_count;
 use fill::write_members;
 use fill::write_starts;
-use limits::BUFFER_SHORT;
-use limits::HEADER_SHORT;
-use limits::LENGTH_WRONG;
 use limits::MAX_BITS;
 use limits::MAX_CHECKS;
-use limits::SIZE_RANGE;
+use limits::MAX_EDGES;
+use limits::refusals::BUFFER_SHORT;
+use limits::refusals::HEADER_SHORT;
+use limits::refusals::LENGTH_WRONG;
+use limits::refusals::SIZE_RANGE;
 use numbers::in_range;
 use numbers::u16_at;
 use stages::check_contents;
 ghost use mathlib.Core.Path.{_≡_};
 ghost use Rattle.rules.specs.CodeFile.{codeFileReply};
+ghost use Rattle.rules.specs.Report.{announced};
 ghost use Rattle.table.specs.Reply.{numbered};
 ghost use Rattle.table.specs.Loaded.{loaded};
 
@@ -54,6 +56,28 @@ pub fn check(code: &[u8]) -> Checked
         return Checked::Refused(LENGTH_WRONG);
     }
     check_contents(code, n, m)
+}
+
+// How long the code file is that begins with these bytes, as far as they tell: what to read next.
+pub fn announced(bytes: &[u8]) -> usize
+    ensures { λ r. ⌜ r ≡ announced (now (bytes .entry)) ⌝ }
+{
+    if bytes.len() < 4 {
+        return 4;
+    }
+    let checks = u16_at(bytes, 2);
+    if MAX_CHECKS < checks {
+        return 4;
+    }
+    let bodies = contents_end(checks);
+    if bytes.len() < bodies {
+        return bodies;
+    }
+    let edges = total_count(bytes, checks);
+    if MAX_EDGES < edges {
+        return bodies;
+    }
+    bodies + 2 * edges
 }
 
 // Checks a code file and leaves its m + 1 starts, E the last, and its E members at the front of the

@@ -1,21 +1,15 @@
 // The 16-bit numbers of a file, and the test of a range.
+use file_numbers::u16_of;
 ghost use mathlib.Core.Path.{_≡_};
-ghost use Prim.Native.Nat.{_+_, _*_, _<_};
+ghost use Prim.Native.Nat.{_+_, _<_};
 ghost use lib.ListN.{length};
-ghost use Rattle.rules.specs.Bytes.{u16At};
+ghost use Rattle.rules.specs.Bytes.{u16Limit, u16At};
 ghost use Rattle.rules.specs.CodeFile.{inRange};
-
-// The number of two bytes: "file numbers are little-endian".
-pub fn u16_of(low: u8, high: u8) -> usize
-    ensures { λ r. ⌜ (r ≡ low + 256 * high) × (r < 65536) ⌝ }
-{
-    low as usize + 256 * high as usize
-}
 
 // The number at byte `at`.
 pub(crate) fn u16_at(code: &[u8], at: usize) -> usize
     requires { ⌜ at + 1 < length (now code) ⌝ }
-    ensures { λ r. ⌜ (r ≡ u16At (now (code .entry)) at) × (r < 65536) ⌝ }
+    ensures { λ r. ⌜ (r ≡ u16At (now (code .entry)) at) × (r < u16Limit) ⌝ }
 {
     u16_of(code[at], code[at + 1])
 }

@@ -1,4 +1,6 @@
 // A certificate's count, scale, contents and bodies.
+use file_numbers::put16;
+use file_numbers::put32;
 ghost use mathlib.Core.Path.{_≡_};
 ghost use mathlib.Core.Bool.{cond};
 ghost use mathlib.Core.List.{[], _++_};
@@ -12,24 +14,6 @@ ghost use Rattle.writing.specs.Written.{cutsFrom, contentsFrom, bodiesFr
 
 // "S 1 to 1,023": a run's certificate has scale 1.
 const SCALE: usize = 1;
-
-fn put16(bytes: &mut [u8], at: usize, x: usize)
-    requires { ⌜ at + 2 ≤ length (now bytes) ⌝ }
-    ensures { λ _. ⌜ now (bytes .exit) ≡ sets (now (bytes .entry)) at (le16 x) ⌝ }
-{
-    bytes[at] = (x % 256) as u8;
-    bytes[at + 1] = (x / 256 % 256) as u8;
-}
-
-fn put32(bytes: &mut [u8], at: usize, x: u32)
-    requires { ⌜ at + 4 ≤ length (now bytes) ⌝ }
-    ensures { λ _. ⌜ now (bytes .exit) ≡ sets (now (bytes .entry)) at (le32 x) ⌝ }
-{
-    bytes[at] = (x % 256) as u8;
-    bytes[at + 1] = (x / 256 % 256) as u8;
-    bytes[at + 2] = (x / 256 / 256 % 256) as u8;
-    bytes[at + 3] = (x / 256 / 256 / 256 % 256) as u8;
-}
 
 // q: how many masks are not 0.
 fn count_cuts(masks: &[u32]) -> usize

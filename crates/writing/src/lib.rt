@@ -3,9 +3,9 @@
 mod entries;
 
 use entries::write_entries;
-use table::limits::BUFFER_SHORT;
-use table::limits::MAX_CHECKS;
-use table::limits::SIZE_RANGE;
+use limits::MAX_CHECKS;
+use limits::refusals::BUFFER_SHORT;
+use limits::refusals::SIZE_RANGE;
 ghost use mathlib.Core.Path.{_≡_};
 ghost use Rattle.rules.specs.Mask.{digit};
 ghost use Rattle.rules.specs.Cut.{isNeg};

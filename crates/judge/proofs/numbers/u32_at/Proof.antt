@@ -1,41 +1,47 @@
--- `u32_at` meets its contract: two 16-bit numbers. Assumes nothing.
-use mathlib.Core.Path.{ap₂}
-use Prim.Native.Nat.{_+_, _*_}
+-- `u32_at` meets its contract. Assumes nothing.
+use mathlib.Core.Path.{_∙_}
 use borrow.Author.Needs.{needs}
-use Rattle.rules.specs.Bytes.{u32At}
+use Rattle.rules.proofs.ByteLaws.{u32-bytes}
 use Rattle.judge.proofs.numbers.u32_at.Statement.{statement}
 use Rattle.judge.proofs.numbers.u32_at.Tie as tie
 
-u16-at-requires : tie.Need-u16-at-requires
-u16-at-requires c κs = search needs
+shared-slice-read-u32-of : tie.Need-shared-slice-read-u32-of
+shared-slice-read-u32-of c = search needs
 
-add-u16-at : tie.Need-add-u16-at
-add-u16-at c = search needs
+add-u32-of : tie.Need-add-u32-of
+add-u32-of c = search needs
 
-u16-at-requires-2 : tie.Need-u16-at-requires-2
-u16-at-requires-2 c κs = search needs
+shared-slice-read-u32-of-2 : tie.Need-shared-slice-read-u32-of-2
+shared-slice-read-u32-of-2 c = search needs
 
-mul-result : tie.Need-mul-result
-mul-result c = search needs
+add-u32-of-2 : tie.Need-add-u32-of-2
+add-u32-of-2 c = search needs
 
-add-result : tie.Need-add-result
-add-result c = search needs
+shared-slice-read-u32-of-3 : tie.Need-shared-slice-read-u32-of-3
+shared-slice-read-u32-of-3 c = search needs
 
-cast-result : tie.Need-cast-result
-cast-result c = search needs
+add-u32-of-3 : tie.Need-add-u32-of-3
+add-u32-of-3 c = search needs
+
+shared-slice-read-u32-of-4 : tie.Need-shared-slice-read-u32-of-4
+shared-slice-read-u32-of-4 c = search needs
+
+u32-of-requires : tie.Need-u32-of-requires
+u32-of-requires c κs = search needs
 
 returns : tie.Need-returns
-unfolding u32At
-returns c = ap₂ (λ a b. a + 65536 * b) (c .before .u16-at .ensures .0) (c .u16-at2 .ensures .0)
+returns c = c .u32-of .ensures ∙ u32-bytes _ _
 
 pub u32-at-spec : {M : Type 1} → statement M
 u32-at-spec =
     tie.close
     (tie.spec
-    u16-at-requires
-    add-u16-at
-    u16-at-requires-2
-    mul-result
-    add-result
-    cast-result
+    shared-slice-read-u32-of
+    add-u32-of
+    shared-slice-read-u32-of-2
+    add-u32-of-2
+    shared-slice-read-u32-of-3
+    add-u32-of-3
+    shared-slice-read-u32-of-4
+    u32-of-requires
     returns)

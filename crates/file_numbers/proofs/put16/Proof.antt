@@ -1,0 +1,42 @@
+-- `put16` meets its contract. Assumes nothing.
+use borrow.Author.Needs.{needs}
+use Rattle.file_numbers.proofs.PutLaws.{two-out, two-put}
+use Rattle.file_numbers.proofs.put16.Statement.{statement}
+use Rattle.file_numbers.proofs.put16.Tie as tie
+
+returns : tie.Need-returns
+returns c = search two-out
+
+low-byte-requires : tie.Need-low-byte-requires
+low-byte-requires c κs = search needs
+
+put-requires : tie.Need-put-requires
+put-requires c κs = search needs
+
+add-put : tie.Need-add-put
+add-put c = search needs
+
+low-byte-requires-2 : tie.Need-low-byte-requires-2
+low-byte-requires-2 c κs = search needs
+
+put-requires-2 : tie.Need-put-requires-2
+put-requires-2 c κs = search needs
+
+same-length : tie.Need-same-length
+same-length c = search needs
+
+returns-2 : tie.Need-returns-2
+returns-2 c = search two-put
+
+pub put16-spec : {M : Type 1} → statement M
+put16-spec =
+    tie.close
+    (tie.spec
+    returns
+    low-byte-requires
+    put-requires
+    add-put
+    low-byte-requires-2
+    put-requires-2
+    same-length
+    returns-2)

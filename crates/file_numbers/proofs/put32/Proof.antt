@@ -1,0 +1,28 @@
+-- `put32` meets its contract. Assumes nothing.
+use borrow.Author.Needs.{needs}
+use Rattle.file_numbers.proofs.PutLaws.{four-out, four-put}
+use Rattle.file_numbers.proofs.put32.Statement.{statement}
+use Rattle.file_numbers.proofs.put32.Tie as tie
+
+returns : tie.Need-returns
+returns c = search four-out
+
+put16-requires : tie.Need-put16-requires
+put16-requires c κs = search needs
+
+add-put16 : tie.Need-add-put16
+add-put16 c = search needs
+
+put16-requires-2 : tie.Need-put16-requires-2
+put16-requires-2 c κs = search needs
+
+same-length : tie.Need-same-length
+same-length c = search needs
+
+returns-2 : tie.Need-returns-2
+returns-2 c = search four-put
+
+pub put32-spec : {M : Type 1} → statement M
+put32-spec =
+    tie.close
+    (tie.spec returns put16-requires add-put16 put16-requires-2 same-length returns-2)
