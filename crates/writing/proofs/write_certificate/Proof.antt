@@ -4,7 +4,7 @@ use Prim.Native.Nat.{_≤_, _<_}
 use native.Mathlib.Omega.{arith}
 use lib.ListN.{length}
 use borrow.Author.Needs.{needs}
-use Rattle.rules.specs.Limits.{maxChecks}
+use Rattle.rules.specs.Limits.{maxChecks, certificateLength}
 use Rattle.writing.proofs.CertificateLaws.{certificate-many, certificate-uneven, certificate-short, certificate-written}
 use Rattle.writing.proofs.write_certificate.Statement.{statement}
 use Rattle.writing.proofs.write_certificate.Tie as tie
@@ -34,10 +34,13 @@ add-if3 : tie.Need-add-if3
 add-if3 c = search needs
 
 returns-3 : tie.Need-returns-3
-returns-3 c = certificate-short _ _ _ (few (c .before .before)) (even (c .before)) (c .if3 .taken)
+returns-3 c =
+    let args = c .before .before .before .before .before .before .args in
+    let short : length (args .certificate .now) < certificateLength (length (args .masks .now)) = omega arith in
+    certificate-short _ _ _ (few (c .before .before)) (even (c .before)) short
 
 write-entries-requires : tie.Need-write-entries-requires
-write-entries-requires c κs = search needs
+write-entries-requires c κs = (omega arith, omega arith)
 
 same-length : tie.Need-same-length
 same-length c = search needs
