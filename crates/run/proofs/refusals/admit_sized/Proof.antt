@@ -50,6 +50,10 @@ damaged-refusal-requires c κs = tt
 first-of-requires : tie.Need-first-of-requires
 first-of-requires c κs = tt
 
+-- the number is the first of the two, 42 before 43
+first-is : (c : tie.After-first-of) → c .first-of .result ≡ orElse (c .before .before .before .before .ended-refusal .result) (c .before .damaged-refusal .result)
+first-is c = c .first-of .ensures
+
 returns-4 : tie.Need-returns-4
 returns-4 c =
     let u = c .before .before in
@@ -57,7 +61,7 @@ returns-4 c =
     let w = v .before .before in
     let framed = sym (w .before .before .frame .ensures) ∙ w .before .if1 .left in
     let room = sym (v .before .long-enough .ensures) ∙ not-false _ (v .if3 .left) in
-    let first = c .before .first-of .ensures ∙ ap₂ orElse (u .before .before .before .ended-refusal .ensures) (u .damaged-refusal .ensures) in
+    let first = first-is (c .before) ∙ ap₂ orElse (u .before .before .before .ended-refusal .ensures) (u .damaged-refusal .ensures) in
     answers-refused _ _ _ _ _ _ framed (le-leb _ _ (w .if2 .left)) room _ first (c .if4 .taken)
 
 returns-5 : tie.Need-returns-5
@@ -67,7 +71,7 @@ returns-5 c =
     let w = v .before .before in
     let framed = sym (w .before .before .frame .ensures) ∙ w .before .if1 .left in
     let room = sym (v .before .long-enough .ensures) ∙ not-false _ (v .if3 .left) in
-    let first = c .before .first-of .ensures ∙ ap₂ orElse (u .before .before .before .ended-refusal .ensures) (u .damaged-refusal .ensures) in
+    let first = first-is (c .before) ∙ ap₂ orElse (u .before .before .before .ended-refusal .ensures) (u .damaged-refusal .ensures) in
     answers-admitted _ _ _ _ _ _ framed (le-leb _ _ (w .if2 .left)) room _ first (c .if4 .left)
 
 pub admit-sized-spec : {M : Type 1} → statement M
