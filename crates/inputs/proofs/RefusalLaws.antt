@@ -1,6 +1,6 @@
 -- A refusal's number, 0 for none: which of two comes first, and what it is in front of an answer. Assumes nothing.
-use mathlib.Core.Path.{_≡_, refl, sym, ap}
-use mathlib.Core.Bool.{Bool, true, false, cond}
+use mathlib.Core.Path.{_≡_, refl, sym, ap, ap₂}
+use mathlib.Core.Bool.{Bool, true, false, cond, _&&_}
 use Prim.Native.Nat.{ℕ, zero, suc}
 use native.Mathlib.Nat.{suc-ne-zero}
 use Rattle.rules.specs.Refusal.{Answer, refused, must}
@@ -19,6 +19,23 @@ else-none zero k e = (refl, e)
 else-none (suc j) k e = absurd (suc-ne-zero j e)
 
 -- ---- of a test
+pub test-holds : (b : Bool) (j k : ℕ) → b ≡ true → j ≡ cond b j k
+test-holds b j k e = ap (λ x. cond x j k) (sym e)
+
+pub test-fails : (b : Bool) (j k : ℕ) → b ≡ false → k ≡ cond b j k
+test-fails b j k e = ap (λ x. cond x j k) (sym e)
+
+-- ---- of two tests with one number
+module _ (a b : Bool) (j k : ℕ) where
+  pub both-hold : a ≡ true → b ≡ true → j ≡ cond (a && b) j k
+  both-hold e f = ap₂ (λ x y. cond (x && y) j k) (sym e) (sym f)
+
+  pub first-fails : a ≡ false → k ≡ cond (a && b) j k
+  first-fails e = ap (λ x. cond (x && b) j k) (sym e)
+
+  pub second-fails : a ≡ true → b ≡ false → k ≡ cond (a && b) j k
+  second-fails e f = ap₂ (λ x y. cond (x && y) j k) (sym e) (sym f)
+
 pub cond-none : (b : Bool) (j k : ℕ) → cond b j (suc k) ≡ 0 → (b ≡ true) × (j ≡ 0)
 cond-none true j k e = (refl, e)
 cond-none false j k e = absurd (suc-ne-zero k e)

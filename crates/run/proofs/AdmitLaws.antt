@@ -1,6 +1,6 @@
 -- The refusals of a call for rounds: buffers too short, what admitting a call leaves, and rules' own tests in the code's numbers. Assumes nothing.
 use mathlib.Core.Path.{_≡_, refl, sym, _∙_, ap, ap₂}
-use mathlib.Core.Bool.{Bool, true, false, _&&_}
+use mathlib.Core.Bool.{Bool, true, false, cond, _&&_}
 use mathlib.Core.List.{List, [], _∷_}
 use Prim.Native.Nat.{ℕ, zero, suc, _*_, _≤_, _<_}
 use native.Mathlib.Omega.{arith}
@@ -24,10 +24,11 @@ use Rattle.table.specs.Loaded.{withRoom, laid, loaded}
 use Rattle.table.proofs.AnswerLaws.{and-holds}
 use Rattle.table.proofs.AcceptedLaws.{readable-table}
 use Rattle.table.proofs.LoadedLaws.{laid-reply}
-use Rattle.inputs.specs.Refusals.{frameRefusal, turnedDown}
+use Rattle.inputs.specs.Refusals.{frameRefusal, orElse, turnedDown}
+use Rattle.inputs.proofs.RefusalLaws.{turned-refused, turned-none}
 use Rattle.inputs.proofs.InputLaws.{frame-law}
 use Rattle.cut.proofs.ReplyLaws.{each-all}
-use Rattle.run.specs.Admitted.{Sizes, sizesOf, admitsBy, firstState, admissionBy, admission}
+use Rattle.run.specs.Admitted.{Sizes, sizesOf, endedRefusal, damagedRefusal, admitsBy, firstState, admissionBy, admission}
 
 -- ---- 41
 module _ (a b : Lengths) where
@@ -44,12 +45,7 @@ module _ (a b : Lengths) where
 
 -- ---- 8, 9
 pub turned-down : {A : Type 0} (j k : ℕ) (a : Answer A) → (k ≡ 0 → ⊥) → k ≡ j → refused k ≡ turnedDown j a
-unfolding turnedDown
-turned-down j k a h e = go k h ∙ ap (λ x. turnedDown x a) e
-  where
-    go : (k : ℕ) → (k ≡ 0 → ⊥) → refused k ≡ turnedDown k a
-    go zero h = absurd (h refl)
-    go (suc k) h = refl
+turned-down j k a h e = turned-refused k a h ∙ ap (λ x. turnedDown x a) e
 
 -- ---- each answer on an accepted code file
 module _ (z : Sizes) (l : List ℤ) (wanted : ℕ) (lent : Lengths) (p : Progress) (s : State) where
@@ -75,18 +71,22 @@ module _ (z : Sizes) (l : List ℤ) (wanted : ℕ) (lent : Lengths) (p : Progres
       answers-short g = answered-is 0 true false _ _ framed asked g refl refl
 
       module _ (room : fits (needsBy (z .bits) (z .checks) (z .edges)) lent ≡ true) where
-        pub answers-ended : isRunning (p .status) ≡ false → refused runEnded ≡ admitsBy z l wanted lent p s
-        unfolding answered turnedDown must
-        answers-ended h = answered-is 0 true true false _ framed asked room h refl
-
-        module _ (runs : isRunning (p .status) ≡ true) where
-          pub answers-damaged : sound (p .rounds) s ≡ false → refused runDamaged ≡ admitsBy z l wanted lent p s
+        -- 42, then 43: k is the first of them
+        module _ (k : ℕ) (first : k ≡ orElse (endedRefusal (p .status)) (damagedRefusal (p .rounds) s)) where
+          pub answers-standing : turnedDown k (gives z) ≡ admitsBy z l wanted lent p s
           unfolding answered turnedDown must
-          answers-damaged i = answered-is 0 true true true false framed asked room runs i
+          answers-standing = ap (λ x. turnedDown x (gives z)) first ∙ go (isRunning (p .status)) (sound (p .rounds) s) ∙ answered-is 0 true true _ _ framed asked room refl refl
+            where
+              go : (runs sounds : Bool) → turnedDown (orElse (cond runs 0 runEnded) (cond sounds 0 runDamaged)) (gives z) ≡ answered 0 true true runs sounds
+              go false sounds = refl
+              go true false = refl
+              go true true = refl
 
-          pub answers-admitted : sound (p .rounds) s ≡ true → gives z ≡ admitsBy z l wanted lent p s
-          unfolding answered turnedDown must
-          answers-admitted i = answered-is 0 true true true true framed asked room runs i
+          pub answers-refused : (k ≡ 0 → ⊥) → refused k ≡ admitsBy z l wanted lent p s
+          answers-refused h = turned-refused k (gives z) h ∙ answers-standing
+
+          pub answers-admitted : k ≡ 0 → gives z ≡ admitsBy z l wanted lent p s
+          answers-admitted e = turned-none k (gives z) e ∙ answers-standing
 
 -- ---- what a load tells of the code file, and what admitting the call then leaves
 -- the table, once there is room for it

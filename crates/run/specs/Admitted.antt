@@ -1,4 +1,5 @@
 -- The refusals of a call for rounds in the code's own numbers, and what admitting a call leaves. Definitions only. Assumes nothing.
+use mathlib.Core.Bool.{cond}
 use mathlib.Core.List.{List}
 use Prim.Native.Nat.{ℕ}
 use lib.Dec.{leb}
@@ -9,7 +10,7 @@ use Rattle.rules.specs.Refusal.{Answer, refused, gives, must, then, askedTooMuc
 use Rattle.rules.specs.Table.{Table, edges, edgesOf, checksOf}
 use Rattle.rules.specs.Round.{State}
 use Rattle.rules.specs.Buffers.{spins, copies, offsets, multipliers, masks, word, certificate, Lengths, needsBy, fits, over}
-use Rattle.rules.specs.Run.{Progress, isRunning, sound}
+use Rattle.rules.specs.Run.{Status, Progress, isRunning, sound}
 use Rattle.rules.specs.CodeFile.{codeFile}
 use Rattle.table.specs.Starts.{startsOf}
 use Rattle.table.specs.Loaded.{withRoom}
@@ -40,6 +41,13 @@ sizesOf t = record { bits = t .bits; checks = checksOf t; edges = edgesOf t }
 abbrev pub admittedOf : Admitted → Answer Sizes
 admittedOf (Refused k) = refused k
 admittedOf (Sized n m e) = gives (record { bits = n; checks = m; edges = e })
+
+-- 42 and 43 by their numbers, 0 for none
+abbrev pub endedRefusal : Status → ℕ
+endedRefusal x = cond (isRunning x) 0 runEnded
+
+abbrev pub damagedRefusal : ℕ → State → ℕ
+damagedRefusal k s = cond (sound k s) 0 runDamaged
 
 -- 8, 9, 17, 41, 42, 43
 unfoldable pub admitsBy : Sizes → List ℤ → ℕ → Lengths → Progress → State → Answer Sizes

@@ -12,9 +12,9 @@ ghost use mathlib.Core.Path.{_≡_};
 ghost use Prim.Native.Nat.{_≤_};
 ghost use Rattle.rules.specs.Buffers.{needsBy, fits};
 ghost use Rattle.rules.specs.Limits.{maxChecks};
-ghost use Rattle.rules.specs.Run.{isRunning};
+ghost use Rattle.inputs.specs.Refusals.{orElse};
 ghost use Rattle.run.specs.Reply.{statusOf, progressOf};
-ghost use Rattle.run.specs.Admitted.{lentOf, admittedOf, admitsBy, firstState};
+ghost use Rattle.run.specs.Admitted.{lentOf, admittedOf, endedRefusal, damagedRefusal, admitsBy, firstState};
 
 // "41 a lent buffer too short"
 pub(crate) fn long_enough(
@@ -52,14 +52,35 @@ pub(crate) fn long_enough(
     true
 }
 
-pub(crate) fn is_running(status: Status) -> bool
-    ensures { λ r. ⌜ r ≡ isRunning (statusOf status) ⌝ }
+// 42 of a run that is certified or spent, or 0.
+pub(crate) fn ended_refusal(status: Status) -> u8
+    ensures { λ r. ⌜ r ≡ endedRefusal (statusOf status) ⌝ }
 {
     match status {
-        Status::Running => true,
-        Status::Certified => false,
-        Status::Spent => false,
+        Status::Running => 0,
+        Status::Certified => RUN_ENDED,
+        Status::Spent => RUN_ENDED,
     }
+}
+
+// 43 of the run as if it were running, or 0.
+pub(crate) fn damaged_refusal(rounds: u32, copies: &[i32], offsets: &[i32]) -> u8
+    ensures { λ r. ⌜ r ≡ damagedRefusal rounds (record { copies = now (copies .entry); offsets = now (offsets .entry) }) ⌝ }
+{
+    if is_sound(rounds, copies, offsets) {
+        return 0;
+    }
+    RUN_DAMAGED
+}
+
+// The first refusal of two, 0 for none.
+pub(crate) fn first_of(first: u8, second: u8) -> u8
+    ensures { λ r. ⌜ r ≡ orElse first second ⌝ }
+{
+    if first != 0 {
+        return first;
+    }
+    second
 }
 
 // 8, 9, 17, 41, 42, 43 of a table with these sizes.
@@ -89,11 +110,11 @@ pub(crate) fn admit_sized(
         return Admitted::Refused(BUFFER_SHORT);
     }
     let status = run.status;
-    if !is_running(status) {
-        return Admitted::Refused(RUN_ENDED);
-    }
-    if !is_sound(run.rounds, &copies[..edges], &offsets[..edges]) {
-        return Admitted::Refused(RUN_DAMAGED);
+    let ended = ended_refusal(status);
+    let damaged = damaged_refusal(run.rounds, &copies[..edges], &offsets[..edges]);
+    let standing = first_of(ended, damaged);
+    if standing != 0 {
+        return Admitted::Refused(standing);
     }
     Admitted::Sized {
         bits,

@@ -1,7 +1,8 @@
 -- `decide` meets its contract. Assumes nothing.
-use mathlib.Core.Path.{_≡_, _∙_, ap, subst}
-use Prim.Native.Nat.{_*_, _≤_, _<_}
+use mathlib.Core.Path.{_≡_, _∙_, ap}
+use Prim.Native.Nat.{_*_, _%_, _≤_, _<_}
 use native.Mathlib.Omega.{arith}
+use lib.Count.{ones}
 use lib.IntN.{pos}
 use mir.Syntax.{w32}
 use mir.Val.{SFits}
@@ -22,7 +23,11 @@ returns : tie.Need-returns
 returns c =
     let start = c .before .before .before .before in
     let top : SFits w32 (start .args .s .top) = fit w32 (start .args .s .top) (search) in
-    decided-odd (start .args .s) _ _ _ (c .before .before .if1 .taken) (c .before .when-violated .ensures) (toZ-ofZ top)
+    let odd : ones (start .args .s .mask) % 2 ≡ 1 = omega arith in
+    decided-odd (start .args .s) _ _ _ odd (c .before .when-violated .ensures) (toZ-ofZ top)
+
+even : (c : tie.Else1) → ones (c .before .before .args .s .mask) % 2 ≡ 1 → ⊥
+even c o = omega arith
 
 above-requires : tie.Need-above-requires
 above-requires c κs = search needs
@@ -40,7 +45,11 @@ mul-if2 c =
 
 -- the room is less than twice that height
 short : (c : tie.Then2) → c .before .before .before .before .before .before .args .s .room < 2 * up (c .before .before .before .before .before .before .args .s .top)
-short c = subst (λ n. c .before .before .before .before .before .before .args .s .room < 2 * n) (above-is (c .before .before)) (c .if2 .taken)
+short c = omega (arith, above-is (c .before .before))
+
+-- or not
+enough : (c : tie.Else2) → 2 * up (c .before .before .before .before .before .before .args .s .top) ≤ c .before .before .before .before .before .before .args .s .room
+enough c = omega (arith, above-is (c .before .before))
 
 change-side-requires : tie.Need-change-side-requires
 change-side-requires c κs =
@@ -54,14 +63,13 @@ returns-2 : tie.Need-returns-2
 returns-2 c =
     let start = c .before .before .before .before .before .before .before .before .before in
     c .before .change-side .ensures
-    ∙ decided-change (start .args .s) (start .args .heights .now) (c .before .before .before .before .before .before .before .if1 .left) (short (c .before .before .before))
+    ∙ decided-change (start .args .s) (start .args .heights .now) (even (c .before .before .before .before .before .before .before)) (short (c .before .before .before))
 
 returns-3 : tie.Need-returns-3
 returns-3 c =
     let start = c .before .before .before .before .before .before .before in
     let top : SFits w32 (start .args .s .top) = fit w32 (start .args .s .top) (search) in
-    decided-stay (start .args .s) _ _ (c .before .before .before .before .before .if1 .left)
-    (subst (λ n. 2 * n ≤ start .args .s .room) (above-is (c .before .before .before)) (c .before .if2 .left)) (toZ-ofZ top)
+    decided-stay (start .args .s) _ _ (even (c .before .before .before .before .before)) (enough (c .before)) (toZ-ofZ top)
 
 pub decide-spec : {M : Type 1} → statement M
 decide-spec =

@@ -1,6 +1,10 @@
 -- `when_violated` meets its contract. Assumes nothing.
+use Prim.Native.Nat.{_*_, _≤_, _<_}
+use native.Mathlib.Omega.{arith}
 use borrow.Author.Needs.{needs}
 use borrow.Author.Tests.{lt-ltb, le-ltb}
+use Rattle.rules.specs.Limits.{unit}
+use Rattle.inputs.proofs.RefusalLaws.{test-holds, test-fails}
 use Rattle.cut.proofs.when_violated.Statement.{statement}
 use Rattle.cut.proofs.when_violated.Tie as tie
 
@@ -8,10 +12,14 @@ mul-if1 : tie.Need-mul-if1
 mul-if1 c = search needs
 
 returns : tie.Need-returns
-returns c = simp (lt-ltb _ _ (c .if1 .taken))
+returns c =
+    let below : c .before .args .left < 2 * unit = omega arith in
+    test-holds _ (c .before .args .mask) 0 (lt-ltb _ _ below)
 
 returns-2 : tie.Need-returns-2
-returns-2 c = simp (le-ltb _ _ (c .if1 .left))
+returns-2 c =
+    let from : 2 * unit ≤ c .before .args .left = omega arith in
+    test-fails _ _ _ (le-ltb _ _ from)
 
 pub when-violated-spec : {M : Type 1} → statement M
 when-violated-spec = tie.close (tie.spec mul-if1 returns returns-2)

@@ -2,23 +2,24 @@
 use mathlib.Core.Path.{sym, _∙_}
 use borrow.Author.Tests.{eq-eqb, ne-eqb, not-true, not-false}
 use Rattle.inputs.specs.Refusals.{pointRefusal}
+use Rattle.inputs.proofs.RefusalLaws.{both-hold, first-fails, second-fails}
 use Rattle.inputs.proofs.point.Statement.{statement}
 use Rattle.inputs.proofs.point.Tie as tie
 
 returns : tie.Need-returns
 unfolding pointRefusal
-returns c = simp (ne-eqb _ _ (c .if1 .taken))
+returns c = first-fails _ _ _ _ (ne-eqb _ _ (c .if1 .taken))
 
 spins-right-requires : tie.Need-spins-right-requires
 spins-right-requires c κs = tt
 
 returns-2 : tie.Need-returns-2
 unfolding pointRefusal
-returns-2 c = simp (eq-eqb _ _ (c .before .before .if1 .left), sym (c .before .spins-right .ensures) ∙ not-true _ (c .if2 .taken))
+returns-2 c = second-fails _ _ _ _ (eq-eqb _ _ (c .before .before .if1 .left)) (sym (c .before .spins-right .ensures) ∙ not-true _ (c .if2 .taken))
 
 returns-3 : tie.Need-returns-3
 unfolding pointRefusal
-returns-3 c = simp (eq-eqb _ _ (c .before .before .if1 .left), sym (c .before .spins-right .ensures) ∙ not-false _ (c .if2 .left))
+returns-3 c = both-hold _ _ _ _ (eq-eqb _ _ (c .before .before .if1 .left)) (sym (c .before .spins-right .ensures) ∙ not-false _ (c .if2 .left))
 
 pub point-spec : {M : Type 1} → statement M
 point-spec = tie.close (tie.spec returns spins-right-requires returns-2 returns-3)

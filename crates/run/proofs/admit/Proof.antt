@@ -29,7 +29,7 @@ same-length-2 c = search needs
 returns : tie.Need-returns
 returns c =
     let load = c .before .before .before .before .before .before .before in
-    admission-refused _ _ _ _ _ _ (load .load .ensures) _ _ _ _ _ _ _ (ap numbered (c .before .answer .given .1))
+    admission-refused _ _ _ _ _ _ (load .load .ensures) _ _ _ _ _ _ (c .before .answer .given .0 .0) (ap numbered (c .before .answer .given .1))
 
 same-length-3 : tie.Need-same-length-3
 same-length-3 c = search needs

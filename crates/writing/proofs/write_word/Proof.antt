@@ -26,7 +26,10 @@ abbrev μ-loop : tie.MeasureT-loop
 μ-loop spins word₀ i₀ word i = length spins - i
 
 returns : tie.Need-returns Inv-loop μ-loop
-returns c = word-short _ _ (c .if1 .taken)
+returns c =
+    let args = c .before .before .args in
+    let short : length (args .word .now) < length (args .spins .now) = omega arith in
+    word-short _ _ short
 
 loop-holds : tie.Need-loop-holds Inv-loop μ-loop
 loop-holds c = (omega arith, refl, refl)
@@ -41,7 +44,7 @@ bit-byte-requires : tie.Need-bit-byte-requires Inv-loop μ-loop
 bit-byte-requires c κs = search needs
 
 slice-write-word : tie.Need-slice-write-word Inv-loop μ-loop
-slice-write-word c = search needs
+slice-write-word c = omega arith
 
 add-i : tie.Need-add-i Inv-loop μ-loop
 add-i c = search needs

@@ -25,8 +25,9 @@ shl-result c = search needs
 returns : tie.Need-returns
 unfolding maskRight
 returns c =
+    let odd : ones (c .before .args .mask) % 2 ≡ 1 = omega arith in
     ap (ltb (c .before .args .mask)) (shl-exact {a = 1} 1 (c .before .args .d) 64 (omega arith) (omega arith) ∙ one-mul (2 ^ c .before .args .d))
-    ∙ sym (and-holds _ _ (eq-eqb (ones (c .before .args .mask) % 2) 1 (c .if1 .taken)))
+    ∙ sym (and-holds _ _ (eq-eqb (ones (c .before .args .mask) % 2) 1 odd))
 
 returns-2 : tie.Need-returns-2
 unfolding maskRight

@@ -1,4 +1,6 @@
 -- `ordered` meets its contract: the first entry follows none, each later one the entry before it. Assumes nothing.
+use Prim.Native.Nat.{_≤_, _<_}
+use native.Mathlib.Omega.{arith}
 use borrow.Author.Needs.{needs}
 use Rattle.rules.specs.Certificate.{itemAt}
 use Rattle.judge.proofs.RefusalLaws.{follows-first, follows-check, follows-mask, follows-less}
@@ -19,8 +21,14 @@ check-at-requires-2 c κs = search needs
 
 returns-2 : tie.Need-returns-2
 returns-2 c =
-    follows-check (c .before .before .before .before .before .args .bytes .now) (c .before .before .before .before .before .args .q) (c .before .before .before .before .before .args .k) (c .before .before .check-at .result) (c .before .check-at2 .result) (itemAt (c .before .before .before .before .before .args .bytes .now) (c .before .before .before .before .before .args .q) (c .before .before .before .before .before .args .k))
-    (c .before .before .before .if1 .left) (c .before .before .check-at .ensures .0) (c .before .check-at2 .ensures .0) (c .if2 .taken)
+    let args = c .before .before .before .before .before .args in
+    let less : c .before .before .check-at .result < c .before .check-at2 .result = omega arith in
+    follows-check (args .bytes .now) (args .q) (args .k) (c .before .before .check-at .result) (c .before .check-at2 .result) (itemAt (args .bytes .now) (args .q) (args .k))
+    (c .before .before .before .if1 .left) (c .before .before .check-at .ensures .0) (c .before .check-at2 .ensures .0) less
+
+-- the check is not above the one before
+at-most : (c : tie.Else2) → c .before .check-at2 .result ≤ c .before .before .check-at .result
+at-most c = omega arith
 
 sub-mask-at : tie.Need-sub-mask-at
 sub-mask-at c = search needs
@@ -36,12 +44,13 @@ returns-3 c =
     let args = c .before .before .before .before .before .before .before .before .args in
     follows-mask (args .bytes .now) (args .q) (args .k) (c .before .before .before .before .before .check-at .result) (c .before .before .before .before .check-at2 .result) (itemAt (args .bytes .now) (args .q) (args .k))
     (c .before .before .before .before .before .before .if1 .left) (c .before .before .before .before .before .check-at .ensures .0) (c .before .before .before .before .check-at2 .ensures .0)
-    (c .before .mask-at .result) (c .mask-at2 .result) (c .before .before .before .if2 .left) (c .before .before .if3 .taken) (c .before .mask-at .ensures) (c .mask-at2 .ensures)
+    (c .before .mask-at .result) (c .mask-at2 .result) (at-most (c .before .before .before)) (c .before .before .if3 .taken) (c .before .mask-at .ensures) (c .mask-at2 .ensures)
 
 returns-4 : tie.Need-returns-4
 returns-4 c =
-    follows-less (c .before .before .before .before .before .before .args .bytes .now) (c .before .before .before .before .before .before .args .q) (c .before .before .before .before .before .before .args .k) (c .before .before .before .check-at .result) (c .before .before .check-at2 .result) (itemAt (c .before .before .before .before .before .before .args .bytes .now) (c .before .before .before .before .before .before .args .q) (c .before .before .before .before .before .before .args .k))
-    (c .before .before .before .before .if1 .left) (c .before .before .before .check-at .ensures .0) (c .before .before .check-at2 .ensures .0) (c .before .if2 .left) (c .if3 .left)
+    let args = c .before .before .before .before .before .before .args in
+    follows-less (args .bytes .now) (args .q) (args .k) (c .before .before .before .check-at .result) (c .before .before .check-at2 .result) (itemAt (args .bytes .now) (args .q) (args .k))
+    (c .before .before .before .before .if1 .left) (c .before .before .before .check-at .ensures .0) (c .before .before .check-at2 .ensures .0) (at-most (c .before)) (c .if3 .left)
 
 pub ordered-spec : {M : Type 1} → statement M
 ordered-spec =

@@ -1,7 +1,8 @@
 -- `run::bounds::is_sound` meets its contract: each return has the tests that led there. Assumes nothing.
 use mathlib.Core.Path.{_≡_, sym, _∙_, ap}
 use mathlib.Core.Bool.{true}
-use Prim.Native.Nat.{_*_}
+use Prim.Native.Nat.{_*_, _≤_, _<_}
+use native.Mathlib.Omega.{arith}
 use lib.IntN.{pos, natAbs}
 use mir.Syntax.{w32}
 use mir.Val.{toZ}
@@ -9,20 +10,26 @@ use mir.Facts.{toZ-pos}
 use borrow.Author.Needs.{needs}
 use borrow.Author.Tests.{not-true, not-false}
 use Rattle.integers.specs.Linear.{lin, arithZ}
-use Rattle.rules.specs.Limits.{offsetPerRound}
+use Rattle.rules.specs.Limits.{roundLimit, offsetPerRound}
 use Rattle.rules.specs.Input.{eachWithin}
 use Rattle.run.proofs.BoundsLaws.{sound-late, sound-copies}
 use Rattle.run.proofs.bounds.is_sound.Statement.{statement}
 use Rattle.run.proofs.bounds.is_sound.Tie as tie
 
 returns : tie.Need-returns
-returns c = sound-late _ _ _ (c .if1 .taken)
+returns c =
+    let late : roundLimit ≤ c .before .args .rounds = omega arith in
+    sound-late _ _ _ late
+
+-- a round is left
+early : (c : tie.Else1) → c .before .args .rounds < roundLimit
+early c = omega arith
 
 all-within-requires : tie.Need-all-within-requires
 all-within-requires c κs = search needs
 
 returns-2 : tie.Need-returns-2
-returns-2 c = sound-copies _ _ _ (c .before .before .if1 .left) _ (sym (c .before .all-within .ensures) ∙ not-true _ (c .if2 .taken))
+returns-2 c = sound-copies _ _ _ (early (c .before .before)) _ (sym (c .before .all-within .ensures) ∙ not-true _ (c .if2 .taken))
 
 mul-all-within : tie.Need-mul-all-within
 mul-all-within c = search needs
@@ -40,7 +47,7 @@ all-within-requires-2 c κs = rw (limit-is c) (simp lin (omega arithZ))
 returns-3 : tie.Need-returns-3
 returns-3 c =
     c .all-within2 .ensures ∙ ap (λ z. eachWithin (natAbs z) (c .before .before .before .before .args .offsets .now)) (limit-is (c .before))
-    ∙ sound-copies _ _ _ (c .before .before .before .if1 .left) true (sym (c .before .before .all-within .ensures) ∙ not-false _ (c .before .if2 .left))
+    ∙ sound-copies _ _ _ (early (c .before .before .before)) true (sym (c .before .before .all-within .ensures) ∙ not-false _ (c .before .if2 .left))
 
 pub is-sound-spec : {M : Type 1} → statement M
 is-sound-spec =

@@ -1,12 +1,13 @@
 -- `run::refusals::admit_sized` meets its contract: each return has the tests that led there. Assumes nothing.
-use mathlib.Core.Path.{sym, _∙_}
+use mathlib.Core.Path.{_≡_, sym, _∙_, ap₂}
 use native.Mathlib.Omega.{arith}
 use lib.ListN.{length-take}
 use borrow.Author.Tests.{le-leb, lt-leb, not-true, not-false}
 use Rattle.rules.specs.Buffers.{copies, offsets}
 use Rattle.rules.proofs.BufferLaws.{fits-part}
+use Rattle.inputs.specs.Refusals.{orElse}
 use Rattle.run.specs.Admitted.{admitsBy}
-use Rattle.run.proofs.AdmitLaws.{turned-down, answers-asked, answers-short, answers-ended, answers-damaged, answers-admitted}
+use Rattle.run.proofs.AdmitLaws.{turned-down, answers-asked, answers-short, answers-refused, answers-admitted}
 use Rattle.run.proofs.refusals.admit_sized.Statement.{statement}
 use Rattle.run.proofs.refusals.admit_sized.Tie as tie
 
@@ -31,49 +32,48 @@ returns-3 c =
     let framed = sym (w .before .before .frame .ensures) ∙ w .before .if1 .left in
     answers-short _ _ _ _ _ _ framed (le-leb _ _ (w .if2 .left)) (sym (c .before .long-enough .ensures) ∙ not-true _ (c .if3 .taken))
 
-is-running-requires : tie.Need-is-running-requires
-is-running-requires c κs = tt
+ended-refusal-requires : tie.Need-ended-refusal-requires
+ended-refusal-requires c κs = tt
+
+slice-aggregate-damaged-refusal : tie.Need-slice-aggregate-damaged-refusal
+slice-aggregate-damaged-refusal c =
+    let room = fits-part _ _ (sym (c .before .before .before .long-enough .ensures) ∙ not-false _ (c .before .before .if3 .left)) in
+    simp length-take (omega (arith, room copies))
+
+slice-aggregate-damaged-refusal-2 : tie.Need-slice-aggregate-damaged-refusal-2
+slice-aggregate-damaged-refusal-2 c =
+    let room = fits-part _ _ (sym (c .before .before .before .before .long-enough .ensures) ∙ not-false _ (c .before .before .before .if3 .left)) in
+    simp length-take (omega (arith, room offsets))
+
+damaged-refusal-requires : tie.Need-damaged-refusal-requires
+damaged-refusal-requires c κs = tt
+
+first-of-requires : tie.Need-first-of-requires
+first-of-requires c κs = tt
+
+-- the number is the first of the two, 42 before 43
+first-is : (c : tie.After-first-of) → c .first-of .result ≡ orElse (c .before .before .before .before .ended-refusal .result) (c .before .damaged-refusal .result)
+first-is c = c .first-of .ensures
 
 returns-4 : tie.Need-returns-4
 returns-4 c =
-    let v = c .before .before in
+    let u = c .before .before in
+    let v = u .before .before .before .before in
     let w = v .before .before in
     let framed = sym (w .before .before .frame .ensures) ∙ w .before .if1 .left in
     let room = sym (v .before .long-enough .ensures) ∙ not-false _ (v .if3 .left) in
-    answers-ended _ _ _ _ _ _ framed (le-leb _ _ (w .if2 .left)) room (sym (c .before .is-running .ensures) ∙ not-true _ (c .if4 .taken))
-
-slice-aggregate-is-sound : tie.Need-slice-aggregate-is-sound
-slice-aggregate-is-sound c =
-    let room = fits-part _ _ (sym (c .before .before .before .before .long-enough .ensures) ∙ not-false _ (c .before .before .before .if3 .left)) in
-    simp length-take (omega (arith, room copies))
-
-slice-aggregate-is-sound-2 : tie.Need-slice-aggregate-is-sound-2
-slice-aggregate-is-sound-2 c =
-    let room = fits-part _ _ (sym (c .before .before .before .before .before .long-enough .ensures) ∙ not-false _ (c .before .before .before .before .if3 .left)) in
-    simp length-take (omega (arith, room offsets))
-
-is-sound-requires : tie.Need-is-sound-requires
-is-sound-requires c κs = tt
+    let first = first-is (c .before) ∙ ap₂ orElse (u .before .before .before .ended-refusal .ensures) (u .damaged-refusal .ensures) in
+    answers-refused _ _ _ _ _ _ framed (le-leb _ _ (w .if2 .left)) room _ first (c .if4 .taken)
 
 returns-5 : tie.Need-returns-5
 returns-5 c =
-    let u = c .before .before .before .before in
-    let v = u .before .before in
+    let u = c .before .before in
+    let v = u .before .before .before .before in
     let w = v .before .before in
     let framed = sym (w .before .before .frame .ensures) ∙ w .before .if1 .left in
     let room = sym (v .before .long-enough .ensures) ∙ not-false _ (v .if3 .left) in
-    let runs = sym (u .before .is-running .ensures) ∙ not-false _ (u .if4 .left) in
-    answers-damaged _ _ _ _ _ _ framed (le-leb _ _ (w .if2 .left)) room runs (sym (c .before .is-sound .ensures) ∙ not-true _ (c .if5 .taken))
-
-returns-6 : tie.Need-returns-6
-returns-6 c =
-    let u = c .before .before .before .before in
-    let v = u .before .before in
-    let w = v .before .before in
-    let framed = sym (w .before .before .frame .ensures) ∙ w .before .if1 .left in
-    let room = sym (v .before .long-enough .ensures) ∙ not-false _ (v .if3 .left) in
-    let runs = sym (u .before .is-running .ensures) ∙ not-false _ (u .if4 .left) in
-    answers-admitted _ _ _ _ _ _ framed (le-leb _ _ (w .if2 .left)) room runs (sym (c .before .is-sound .ensures) ∙ not-false _ (c .if5 .left))
+    let first = first-is (c .before) ∙ ap₂ orElse (u .before .before .before .ended-refusal .ensures) (u .damaged-refusal .ensures) in
+    answers-admitted _ _ _ _ _ _ framed (le-leb _ _ (w .if2 .left)) room _ first (c .if4 .left)
 
 pub admit-sized-spec : {M : Type 1} → statement M
 admit-sized-spec =
@@ -84,10 +84,10 @@ admit-sized-spec =
     returns-2
     long-enough-requires
     returns-3
-    is-running-requires
+    ended-refusal-requires
+    slice-aggregate-damaged-refusal
+    slice-aggregate-damaged-refusal-2
+    damaged-refusal-requires
+    first-of-requires
     returns-4
-    slice-aggregate-is-sound
-    slice-aggregate-is-sound-2
-    is-sound-requires
-    returns-5
-    returns-6)
+    returns-5)
