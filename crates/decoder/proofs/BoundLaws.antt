@@ -6,6 +6,7 @@ use Prim.Native.Nat.{ℕ, zero, suc, _+_, _*_, _≤_, _<_}
 use native.Mathlib.Omega.{arith}
 use lib.ListN.{length}
 use lib.IntN.{ℤ, pos, natAbs, _+ℤ_, _-ℤ_, _*ℤ_}
+use Rattle.rules.specs.Limits.{reducedLimit, stepLimit}
 use Rattle.integers.specs.Linear.{arithZ}
 use Rattle.integers.specs.Product.{ring, abs, natAbs-≤}
 use Rattle.integers.specs.Sum.{AllWithin, sumTo, sumTo-same}
@@ -29,7 +30,7 @@ within-at u (x ∷ l) (suc i) h = within-at u l i (h .1)
 room-of : (n : ℕ) (l : List ℤ) (ss ms : List ℕ) → length l ≡ n → AllWithin 8191 l → Holds n ss ms → Room ms l
 room-of n l ss ms e w h = λ i k. few (natAbs (at l i)) (degreeOf i ms) (degreeOf i (edges (checksFrom ss ms))) (ap (degreeOf i) (h .members)) (within-at 8191 l i w) (h .sound .standing i (subst (λ m. i < m) e k) .1)
   where
-    few : (x d g : ℕ) → d ≡ g → x ≤ 8191 → g ≤ 32 → x + 8388608 * d ≤ 268443647
+    few : (x d g : ℕ) → d ≡ g → x ≤ 8191 → g ≤ 32 → x + stepLimit * d ≤ reducedLimit
     few x d g e h k = omega arith
 
 pub rows-fit : (n : ℕ) (l s : List ℤ) (ss ms bs ks : List ℕ) → GapFits n l s ss ms bs ks → RowsFit ss ms bs ks l

@@ -9,7 +9,7 @@ use lib.ListN.{length}
 use lib.IntN.{ℤ}
 use Rattle.integers.specs.Linear.{Within}
 use Rattle.integers.specs.Sum.{AllWithin}
-use Rattle.rules.specs.Limits.{unit, roundLimit, offsetPerRound}
+use Rattle.rules.specs.Limits.{unit, roundLimit, offsetPerRound, offsetLimit, stepLimit}
 use Rattle.rules.specs.Table.{Table, at, edges, edgesOf, checksOf, degreeOf}
 use Rattle.rules.specs.Cut.{negatives, keep}
 use Rattle.rules.specs.Step.{Entry}
@@ -45,7 +45,7 @@ wide-all a b (x ∷ xs) h w = (one x (w .0), wide-all a b xs h (w .1))
     one : (x : ℤ) → Within a x → Within b x
     one x w = record { hi = omega arith; lo = omega arith }
 
-offsets-low : (k : ℕ) → k < roundLimit → offsetPerRound * k ≤ 8380416
+offsets-low : (k : ℕ) → k < roundLimit → offsetPerRound * k ≤ offsetLimit
 offsets-low k h = omega arith
 
 module _ (l : List ℤ) (ss ms ds : List ℕ) (r : Run) (g : Given (length l) l ss ms ds) (h : Ready l ss ms r) where
@@ -80,8 +80,8 @@ module _ (l : List ℤ) (ss ms ds : List ℕ) (r : Run) (g : Given (length l) l 
   offsets-within : AllWithin (offsetPerRound * r .progress .rounds) (r .buffers .offsets)
   offsets-within = subst (λ s. AllWithin (offsetPerRound * r .progress .rounds) (s .offsets)) here (h .safe .offsets)
 
-  offsets-few : AllWithin 8380416 (r .buffers .offsets)
-  offsets-few = wide-all (offsetPerRound * r .progress .rounds) 8380416 (r .buffers .offsets) (offsets-low (r .progress .rounds) early) offsets-within
+  offsets-few : AllWithin offsetLimit (r .buffers .offsets)
+  offsets-few = wide-all (offsetPerRound * r .progress .rounds) offsetLimit (r .buffers .offsets) (offsets-low (r .progress .rounds) early) offsets-within
 
   pub spins-fit : SpinsFit (length (r .buffers .spins)) l ms ds (r .buffers .copies) (r .buffers .offsets)
   spins-fit = subst (λ n. SpinsFit n l ms ds (r .buffers .copies) (r .buffers .offsets)) (sym spins-long) (record {
@@ -133,9 +133,9 @@ module _ (l : List ℤ) (ss ms ds : List ℕ) (r : Run) (g : Given (length l) l 
       unfolding d t
       sized = round-sized t l st
 
-      limited : AllUpTo 8388608 (p .multipliers)
+      limited : AllUpTo stepLimit (p .multipliers)
       unfolding d t st
-      limited = subst (λ x. AllUpTo 8388608 (x .multipliers)) (sym pass-is) (up-to 8388608 (d .entries) (multipliers-limit t l st (r .progress .rounds) early offsets-within))
+      limited = subst (λ x. AllUpTo stepLimit (x .multipliers)) (sym pass-is) (up-to stepLimit (d .entries) (multipliers-limit t l st (r .progress .rounds) early offsets-within))
 
       pub gap-fits : GapFits (length s) l s ss ms (p .multipliers) (p .masks)
       unfolding t

@@ -11,6 +11,7 @@ use lib.IntN.{ℤ, pos, natAbs, _+ℤ_, _-ℤ_, _*ℤ_, +ℤ-assoc, +ℤ-idl, +�
 use mir.Syntax.{w32, w64}
 use mir.Val.{SFits}
 use borrow.Author.Tests.{eq-eqb, ne-eqb}
+use Rattle.rules.specs.Limits.{reducedLimit, stepLimit}
 use Rattle.integers.specs.Linear.{lin, arithZ, Within}
 use Rattle.integers.specs.Product.{natAbs-is}
 use Rattle.integers.specs.Sum.{AllWithin, sumTo}
@@ -43,14 +44,14 @@ pub diff-fits : (p b : ℕ) (t r : ℤ) → Within p t → Within b r → p + b 
 diff-fits p b t r = simp lin (omega arithZ)
 
 -- ---- a member's weight
-pub weight-fits : (x : ℤ) (b : ℕ) → natAbs x + 8388608 ≤ 268443647 → b ≤ 8388608 → SFits w32 (x +ℤ pos b) × SFits w32 (x -ℤ pos b)
+pub weight-fits : (x : ℤ) (b : ℕ) → natAbs x + stepLimit ≤ reducedLimit → b ≤ stepLimit → SFits w32 (x +ℤ pos b) × SFits w32 (x -ℤ pos b)
 weight-fits x b h k = (simp lin (omega (arithZ, natAbs-is x)), simp lin (omega (arithZ, natAbs-is x)))
 
-weight-within : (t : Bool) (b : ℕ) → b ≤ 8388608 → Within 8388608 (side t (pos b))
+weight-within : (t : Bool) (b : ℕ) → b ≤ stepLimit → Within stepLimit (side t (pos b))
 weight-within true b h = simp lin (omega arithZ)
 weight-within false b h = simp lin (omega arithZ)
 
-weights-within : (ts : List Bool) (b : ℕ) → b ≤ 8388608 → AllWithin 8388608 (weights b ts)
+weights-within : (ts : List Bool) (b : ℕ) → b ≤ stepLimit → AllWithin stepLimit (weights b ts)
 weights-within [] b h = tt
 weights-within (t ∷ ts) b h = (weight-within t b h, weights-within ts b h)
 
@@ -61,10 +62,10 @@ module _ (ms : List ℕ) (b rest k : ℕ) (ls : List ℤ) (h : k < length ms) wh
   row-next y e = ap (λ z. scatter (drop (k + 1) ms) (weights b (setOf (length (drop (k + 1) ms)) (rest / 2))) (set ls (getD ms k 0) z)) e
       ∙ ap (λ l. scatter l (weights b (setOf (length l) rest)) ls) (sym (drop-next ms k 0 h))
 
-  pub room-place : Below (length ls) ms → Room (drop k ms) ls → natAbs (at ls (getD ms k 0)) + 8388608 ≤ 268443647
+  pub room-place : Below (length ls) ms → Room (drop k ms) ls → natAbs (at ls (getD ms k 0)) + stepLimit ≤ reducedLimit
   room-place g r = room-here (getD ms k 0) (drop (k + 1) ms) ls (below-at (length ls) ms k h g) (subst (λ l. Room l ls) (drop-next ms k 0 h) r)
 
-  pub room-next : (y : ℤ) → b ≤ 8388608 → y ≡ at ls (getD ms k 0) +ℤ side (eqb (rest % 2) 1) (pos b) → Room (drop k ms) ls → Room (drop (k + 1) ms) (set ls (getD ms k 0) y)
+  pub room-next : (y : ℤ) → b ≤ stepLimit → y ≡ at ls (getD ms k 0) +ℤ side (eqb (rest % 2) 1) (pos b) → Room (drop k ms) ls → Room (drop (k + 1) ms) (set ls (getD ms k 0) y)
   room-next y hb e r = subst (λ z. Room (drop (k + 1) ms) (set ls (getD ms k 0) z)) (sym e)
       (room-more (getD ms k 0) (drop (k + 1) ms) ls (side (eqb (rest % 2) 1) (pos b)) (weight-within (eqb (rest % 2) 1) b hb) (subst (λ l. Room l ls) (drop-next ms k 0 h) r))
 
@@ -107,7 +108,7 @@ with-price false r rs = one (pos (r .multiplier) *ℤ (pos (length (r .members))
     one : (x y : ℤ) → (x +ℤ pos 0) +ℤ y ≡ x +ℤ y
     one x y = simp lin (omega arithZ)
 
-with-room : (t : Bool) (ms rest : List ℕ) (b k : ℕ) (ls : List ℤ) → b ≤ 8388608 → Room (ms ++ rest) ls → Room rest (scatterRows (withRow t (rowOf ms b k) []) ls)
+with-room : (t : Bool) (ms rest : List ℕ) (b k : ℕ) (ls : List ℤ) → b ≤ stepLimit → Room (ms ++ rest) ls → Room rest (scatterRows (withRow t (rowOf ms b k) []) ls)
 with-room true ms rest b k ls h r = room-last ms rest ls r
 with-room false ms rest b k ls h r = room-scatter ms rest (weights b (setOf (length ms) k)) ls (weights-within (setOf (length ms) k) b h) r
 
@@ -140,7 +141,7 @@ module _ (cs : List (List ℕ)) (bs ks : List ℕ) (j : ℕ) (hc : j < length cs
     pub check-room : (ls : List ℤ) → Room (edges (drop j cs)) ls → Room p ls
     check-room ls r = subst (λ l. Room l ls) (sym e) (room-first (getD cs j []) (edges (drop (j + 1) cs)) ls (subst (λ l. Room l ls) edges-next r))
 
-    pub check-left : (ls new : List ℤ) → getD bs j 0 ≤ 8388608 → new ≡ scatterRows (withRow (eqb (getD ks j 0) 0) (rowOf p (getD bs j 0) (getD ks j 0)) []) ls
+    pub check-left : (ls new : List ℤ) → getD bs j 0 ≤ stepLimit → new ≡ scatterRows (withRow (eqb (getD ks j 0) 0) (rowOf p (getD bs j 0) (getD ks j 0)) []) ls
         → Room (edges (drop j cs)) ls → Room (edges (drop (j + 1) cs)) new
     check-left ls new h g r = subst (λ l. Room (edges (drop (j + 1) cs)) l) (sym (g ∙ ap (λ l. scatterRows (withRow (eqb (getD ks j 0) 0) (rowOf l (getD bs j 0) (getD ks j 0)) []) ls) e))
         (with-room (eqb (getD ks j 0) 0) (getD cs j []) (edges (drop (j + 1) cs)) (getD bs j 0) (getD ks j 0) ls h (subst (λ l. Room l ls) edges-next r))

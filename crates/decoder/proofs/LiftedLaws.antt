@@ -10,6 +10,7 @@ use native.Mathlib.Numerals.{add-one}
 use native.Mathlib.Nat.{div-add-mod', mod-lt, div-mul-le-self, mul-le-mul-left, mul-comm, add-mul, lt-of-not-le}
 use lib.IntN.{ℤ, pos, negsuc, negℤ, _+ℤ_}
 use lib.Signed.{_≤ℤ_, _<ℤ_, ltZ}
+use Rattle.rules.specs.Limits.{stepLimit}
 use Rattle.integers.specs.Linear.{lin, arithZ, _⩽_, Within, up, dn, lt-out, le-out, lt-ltZ, le-ltZ}
 use Rattle.integers.specs.Clip.{clipZ, clip-low, clip-high, clip-mid, Place, below, above, inside, place, clip-neg}
 use Rattle.rules.specs.Parity.{side, left}
@@ -226,7 +227,7 @@ module _ (hs : List ℤ) where
       few : (x n : ℕ) → 0 < n → x / n ≡ 0 → x < n
       few x n h q = subst (λ y. y < n) (ap (λ k. k * n + x % n) (sym q) ∙ div-add-mod' x n) (omega (arith, mod-lt x h))
 
-  pub least-found : (b d : ℕ) → 8192 ≤ sumAt hs b → b ≤ 8388608 → d ≡ (sumAt hs b - 8192) / countAt hs b → d ≡ 0 → LeastAt hs b
+  pub least-found : (b d : ℕ) → 8192 ≤ sumAt hs b → b ≤ stepLimit → d ≡ (sumAt hs b - 8192) / countAt hs b → d ≡ 0 → LeastAt hs b
   unfolding sumAt countAt
   least-found b d h k e q = record { met = h; last = under; bounded = k }
     where

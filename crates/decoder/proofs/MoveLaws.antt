@@ -10,6 +10,7 @@ use lib.IntN.{ℤ, pos, _+ℤ_, _-ℤ_}
 use mir.Syntax.{w32}
 use mir.Val.{SFits, toZ}
 use mir.Facts.{toZ-pos}
+use Rattle.rules.specs.Limits.{offsetLimit, stepLimit, valueLimit}
 use Rattle.integers.specs.Linear.{lin, arithZ, Within}
 use Rattle.rules.specs.Table.{at}
 use Rattle.rules.specs.Mask.{setOf}
@@ -20,19 +21,19 @@ use Rattle.decoder.proofs.PlaceLaws.{minus-length, minus-at}
 use Rattle.decoder.proofs.MaskLaws.{set-at, set-alike}
 use Rattle.decoder.proofs.ValueLaws.{moves-length, moves-at}
 
-pub word-pos : (b : ℕ) → b ≤ 8388608 → toZ w32 b ≡ pos b
+pub word-pos : (b : ℕ) → b ≤ stepLimit → toZ w32 b ≡ pos b
 word-pos b h = toZ-pos w32 (omega arith)
 
-pub up-fits : (v : ℤ) (b : ℕ) → Within 8384512 v → b ≤ 8388608 → SFits w32 (v +ℤ pos b)
+pub up-fits : (v : ℤ) (b : ℕ) → Within valueLimit v → b ≤ stepLimit → SFits w32 (v +ℤ pos b)
 up-fits v b = simp lin (omega arithZ)
 
-pub down-fits : (v : ℤ) (b : ℕ) → Within 8384512 v → b ≤ 8388608 → SFits w32 (v -ℤ pos b)
+pub down-fits : (v : ℤ) (b : ℕ) → Within valueLimit v → b ≤ stepLimit → SFits w32 (v -ℤ pos b)
 down-fits v b = simp lin (omega arithZ)
 
-pub value-fits : (x y : ℤ) → Within 4096 x → Within 8380416 y → SFits w32 (x +ℤ y)
+pub value-fits : (x y : ℤ) → Within 4096 x → Within offsetLimit y → SFits w32 (x +ℤ y)
 value-fits x y = simp lin (omega arithZ)
 
-pub offset-fits : (v z : ℤ) → Within 8384512 v → Within 4096 z → SFits w32 (v -ℤ z)
+pub offset-fits : (v z : ℤ) → Within valueLimit v → Within 4096 z → SFits w32 (v -ℤ z)
 offset-fits v z = simp lin (omega arithZ)
 
 -- ---- the copies and offsets that a multiplier b and a mask m leave of the values v

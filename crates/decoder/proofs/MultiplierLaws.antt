@@ -13,6 +13,7 @@ use lib.IntN.{ℤ, pos, negsuc, negℤ, natAbs, _+ℤ_, _-ℤ_}
 use lib.Signed.{_≤ℤ_, _<ℤ_, ltZ}
 use mir.Syntax.{w32}
 use mir.Val.{SFits}
+use Rattle.rules.specs.Limits.{offsetLimit, priceLimit, stepLimit, valueLimit}
 use Rattle.integers.specs.Linear.{lin, arithZ, _⩽_, Within, up, le-out, lt-ltZ}
 use Rattle.integers.specs.Product.{natAbs-≤}
 use Rattle.integers.specs.Sum.{AllWithin}
@@ -59,10 +60,10 @@ top : (z : ℤ) → z ⩽ pos 16777216 → up z ≤ 16777216
 top (pos n) h = omega (arith, le-out h)
 top (negsuc n) h = omega arith
 
-pub lifted-le : (b : ℕ) (h : ℤ) → Within 8388608 h → b ≤ 8388608 → lifted b h ≤ 16777216
+pub lifted-le : (b : ℕ) (h : ℤ) → Within stepLimit h → b ≤ stepLimit → lifted b h ≤ 16777216
 lifted-le b h w k = top (h +ℤ pos b) (sum-in b h w k)
   where
-    sum-in : (b : ℕ) (h : ℤ) → Within 8388608 h → b ≤ 8388608 → h +ℤ pos b ⩽ pos 16777216
+    sum-in : (b : ℕ) (h : ℤ) → Within stepLimit h → b ≤ stepLimit → h +ℤ pos b ⩽ pos 16777216
     sum-in b h = simp lin (omega arithZ)
 
 -- ---- the greatest height is one of them
@@ -70,10 +71,10 @@ abbrev In : ℤ → List ℤ → Type 0
 In x [] = ⊥
 In x (h ∷ hs) = (x ≡ h) ⊎ In x hs
 
-floor-low : (h : ℤ) → Within 8388608 h → ltZ h (negℤ (pos 2147479552)) ≡ false
+floor-low : (h : ℤ) → Within stepLimit h → ltZ h (negℤ (pos 2147479552)) ≡ false
 floor-low h = simp lin (omega arithZ)
 
-highest-in : (h : ℤ) (hs : List ℤ) → AllWithin 8388608 (h ∷ hs) → In (highest (h ∷ hs)) (h ∷ hs)
+highest-in : (h : ℤ) (hs : List ℤ) → AllWithin stepLimit (h ∷ hs) → In (highest (h ∷ hs)) (h ∷ hs)
 highest-in h [] w = inl (ap (λ b. cond b (negℤ (pos 2147479552)) h) (floor-low h (w .0)))
 highest-in h (k ∷ hs) w = go (ltZ h (highest (k ∷ hs))) (highest-in k hs (w .1))
   where
@@ -90,20 +91,20 @@ in-sum b x (h ∷ hs) (inr i) = later (lifted b h) (lifted b x) (tally (lifted b
     later c a n h = omega arith
 
 -- ---- the heights of values that are small
-bounds : (t : Bool) (v : ℤ) → Within 8384512 v → (negℤ (pos 8380416) ⩽ height t v) × (height t v ⩽ pos 8388608)
+bounds : (t : Bool) (v : ℤ) → Within valueLimit v → (negℤ (pos offsetLimit) ⩽ height t v) × (height t v ⩽ pos stepLimit)
 bounds true v w = (simp lin (omega arithZ), simp lin (omega arithZ))
 bounds false v w = (simp lin (omega arithZ), simp lin (omega arithZ))
 
-in-low : (x : ℤ) (ts : List Bool) (vs : List ℤ) → AllWithin 8384512 vs → In x (heightsOf ts vs) → negℤ (pos 8380416) ⩽ x
+in-low : (x : ℤ) (ts : List Bool) (vs : List ℤ) → AllWithin valueLimit vs → In x (heightsOf ts vs) → negℤ (pos offsetLimit) ⩽ x
 in-low x [] vs w i = absurd i
 in-low x (t ∷ ts) [] w i = absurd i
-in-low x (t ∷ ts) (v ∷ vs) w (inl e) = subst (λ z. negℤ (pos 8380416) ⩽ z) (sym e) (bounds t v (w .0) .0)
+in-low x (t ∷ ts) (v ∷ vs) w (inl e) = subst (λ z. negℤ (pos offsetLimit) ⩽ z) (sym e) (bounds t v (w .0) .0)
 in-low x (t ∷ ts) (v ∷ vs) w (inr i) = in-low x ts vs (w .1) i
 
-box : (z : ℤ) → negℤ (pos 8380416) ⩽ z → z ⩽ pos 8388608 → Within 8388608 z
+box : (z : ℤ) → negℤ (pos offsetLimit) ⩽ z → z ⩽ pos stepLimit → Within stepLimit z
 box z = simp lin (omega arithZ)
 
-pub heights-small : (ts : List Bool) (vs : List ℤ) → AllWithin 8384512 vs → AllWithin 8388608 (heightsOf ts vs)
+pub heights-small : (ts : List Bool) (vs : List ℤ) → AllWithin valueLimit vs → AllWithin stepLimit (heightsOf ts vs)
 heights-small [] vs w = tt
 heights-small (t ∷ ts) [] w = tt
 heights-small (t ∷ ts) (v ∷ vs) w = (box (height t v) (bounds t v (w .0) .0) (bounds t v (w .0) .1), heights-small ts vs (w .1))
@@ -137,7 +138,7 @@ reached z h = subst (λ x. 8192 ≤ up x) (sym (back z (pos 8192 -ℤ z) refl (s
     back z (pos n) e h = plain z n e
     back z (negsuc n) e h = absurd (omega arithZ)
 
-module _ (ts : List Bool) (vs : List ℤ) (few : length vs ≤ 32) (small : AllWithin 8384512 vs) (alike : Alike ts vs) (c : Cuts 4096 ts (clips 4096 vs)) where
+module _ (ts : List Bool) (vs : List ℤ) (few : length vs ≤ 32) (small : AllWithin valueLimit vs) (alike : Alike ts vs) (c : Cuts 4096 ts (clips 4096 vs)) where
   abbrev hs : List ℤ
   hs = heightsOf ts vs
 
@@ -148,7 +149,7 @@ module _ (ts : List Bool) (vs : List ℤ) (few : length vs ≤ 32) (small : AllW
   member : In (highest hs) hs
   member = go ts vs alike (c .isOdd) small
     where
-      go : (ts : List Bool) (vs : List ℤ) → Alike ts vs → odd ts ≡ true → AllWithin 8384512 vs → In (highest (heightsOf ts vs)) (heightsOf ts vs)
+      go : (ts : List Bool) (vs : List ℤ) → Alike ts vs → odd ts ≡ true → AllWithin valueLimit vs → In (highest (heightsOf ts vs)) (heightsOf ts vs)
       go [] vs a o w = absurd (false≢true o)
       go (t ∷ ts) [] a o w = absurd a
       go (t ∷ ts) (v ∷ vs) a o w = highest-in (height t v) (heightsOf ts vs) (heights-small (t ∷ ts) (v ∷ vs) w)
@@ -180,8 +181,8 @@ module _ (ts : List Bool) (vs : List ℤ) (few : length vs ≤ 32) (small : AllW
     where
       none : (n : ℕ) → 8192 ≤ n → n < 8192 → ⊥
       none n h k = omega arith
-  least-is (suc b) l = multiplier-unique 4096 8384512 ts vs b
-      (multiplier-least 4096 8384512 ts vs (c .isOdd) alike small (omega arith) (c .under))
+  least-is (suc b) l = multiplier-unique 4096 valueLimit ts vs b
+      (multiplier-least 4096 valueLimit ts vs (c .isOdd) alike small (omega arith) (c .under))
       (short-of b ts vs (l .last b refl)) (met-of (suc b) ts vs (l .met))
 
 -- ---- where the search starts: all heights lifted to 2U together
@@ -219,21 +220,21 @@ sum-under (h ∷ hs) = both h (sumZ hs) (lifted 0 h) (tally (lifted 0) hs) (up-l
     both : (h s : ℤ) (m n : ℕ) → h +ℤ pos 0 ⩽ pos m → s ⩽ pos n → h +ℤ s ⩽ pos (m + n)
     both h s m n = simp lin (omega arithZ)
 
-pub together-fits : (hs : List ℤ) → length hs ≤ 32 → AllWithin 8388608 hs → sumAt hs 0 < 8192
+pub together-fits : (hs : List ℤ) → length hs ≤ 32 → AllWithin stepLimit hs → sumAt hs 0 < 8192
     → SFits w32 (pos 8192 -ℤ sumZ hs) × (pos 0 ≤ℤ (pos 8192 -ℤ sumZ hs)) × (natAbs (pos 8192 -ℤ sumZ hs) ≤ 268443648)
 unfolding sumAt
 together-fits hs h w k = (fits (sumZ hs) within, not-less (sumZ hs) (tally (lifted 0) hs) (sum-under hs) k, size (pos 8192 -ℤ sumZ hs) (reach (sumZ hs) within))
   where
-    wide : (n : ℕ) (z : ℤ) → n ≤ 32 → Within (8388608 * n) z → Within 268435456 z
+    wide : (n : ℕ) (z : ℤ) → n ≤ 32 → Within (stepLimit * n) z → Within priceLimit z
     wide n z = simp lin (omega arithZ)
 
-    within : Within 268435456 (sumZ hs)
-    within = wide (length hs) (sumZ hs) h (sum-within 8388608 hs w)
+    within : Within priceLimit (sumZ hs)
+    within = wide (length hs) (sumZ hs) h (sum-within stepLimit hs w)
 
-    fits : (z : ℤ) → Within 268435456 z → SFits w32 (pos 8192 -ℤ z)
+    fits : (z : ℤ) → Within priceLimit z → SFits w32 (pos 8192 -ℤ z)
     fits z = simp lin (omega arithZ)
 
-    reach : (z : ℤ) → Within 268435456 z → Within 268443648 (pos 8192 -ℤ z)
+    reach : (z : ℤ) → Within priceLimit z → Within 268443648 (pos 8192 -ℤ z)
     reach z = simp lin (omega arithZ)
 
     size : (z : ℤ) → Within 268443648 z → natAbs z ≤ 268443648
@@ -243,24 +244,24 @@ together-fits hs h w k = (fits (sumZ hs) within, not-less (sumZ hs) (tally (lift
     not-less z n = simp lin (omega arithZ)
 
 -- ---- machine words
-pub sum-next : (n : ℕ) (z h : ℤ) → n < 32 → Within (8388608 * n) z → Within 8388608 h → SFits w32 (z +ℤ h) × Within (8388608 * (n + 1)) (z +ℤ h)
+pub sum-next : (n : ℕ) (z h : ℤ) → n < 32 → Within (stepLimit * n) z → Within stepLimit h → SFits w32 (z +ℤ h) × Within (stepLimit * (n + 1)) (z +ℤ h)
 sum-next n z h k w x = (fits n z h k w x, within n z h w x)
   where
-    fits : (n : ℕ) (z h : ℤ) → n < 32 → Within (8388608 * n) z → Within 8388608 h → SFits w32 (z +ℤ h)
+    fits : (n : ℕ) (z h : ℤ) → n < 32 → Within (stepLimit * n) z → Within stepLimit h → SFits w32 (z +ℤ h)
     fits n z h = simp lin (omega arithZ)
 
-    within : (n : ℕ) (z h : ℤ) → Within (8388608 * n) z → Within 8388608 h → Within (8388608 * (n + 1)) (z +ℤ h)
+    within : (n : ℕ) (z h : ℤ) → Within (stepLimit * n) z → Within stepLimit h → Within (stepLimit * (n + 1)) (z +ℤ h)
     within n z h = simp lin (omega arithZ)
 
-pub lift-fits : (h : ℤ) (b : ℕ) → Within 8388608 h → b ≤ 8388608 → SFits w32 (h +ℤ pos b)
+pub lift-fits : (h : ℤ) (b : ℕ) → Within stepLimit h → b ≤ stepLimit → SFits w32 (h +ℤ pos b)
 lift-fits h b = simp lin (omega arithZ)
 
-pub start-fits : (x : ℤ) → negℤ (pos 8380416) ≤ℤ x → x ≤ℤ pos 8192 → SFits w32 (pos 8192 -ℤ x) × (pos 0 ≤ℤ (pos 8192 -ℤ x))
+pub start-fits : (x : ℤ) → negℤ (pos offsetLimit) ≤ℤ x → x ≤ℤ pos 8192 → SFits w32 (pos 8192 -ℤ x) × (pos 0 ≤ℤ (pos 8192 -ℤ x))
 start-fits x h k = (simp lin (omega arithZ), simp lin (omega arithZ))
 
-pub start-most : (x : ℤ) → negℤ (pos 8380416) ≤ℤ x → x ≤ℤ pos 8192 → natAbs (pos 8192 -ℤ x) ≤ 8388608
+pub start-most : (x : ℤ) → negℤ (pos offsetLimit) ≤ℤ x → x ≤ℤ pos 8192 → natAbs (pos 8192 -ℤ x) ≤ stepLimit
 start-most x h k = size (pos 8192 -ℤ x) (simp lin (omega arithZ)) (simp lin (omega arithZ))
   where
-    size : (z : ℤ) → pos 0 ≤ℤ z → z ≤ℤ pos 8388608 → natAbs z ≤ 8388608
+    size : (z : ℤ) → pos 0 ≤ℤ z → z ≤ℤ pos stepLimit → natAbs z ≤ stepLimit
     size (pos n) h k = omega (arith, le-out k)
     size (negsuc n) h k = absurd (omega arithZ)

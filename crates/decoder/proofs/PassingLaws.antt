@@ -7,7 +7,7 @@ use lib.ListN.{length, getD, take, drop, length-drop}
 use lib.Seq.{length-take-le}
 use lib.IntN.{ℤ}
 use Rattle.integers.specs.Sum.{AllWithin}
-use Rattle.rules.specs.Limits.{unit}
+use Rattle.rules.specs.Limits.{unit, offsetLimit}
 use Rattle.rules.specs.Table.{at}
 use Rattle.rules.specs.Step.{Step, step}
 use Rattle.rules.specs.Round.{values, pass, entriesIn}
@@ -156,7 +156,7 @@ module _ (ss ms : List ℕ) (s z y : List ℤ) (bs ks : List ℕ) where
             copiesLong = part-length (from j) (from (j + 1)) (q .copies) (omega (arith, end-in, copies-long)) ∙ sym (part-length (from j) (from (j + 1)) ms end-in);
             offsetsLong = part-length (from j) (from (j + 1)) (q .offsets) (omega (arith, end-in, offsets-long)) ∙ sym (part-length (from j) (from (j + 1)) ms end-in);
             spins = fits .spins;
-            offsets = subst (AllWithin 8380416) (sym offsets-are) (take-within 8380416 (from (j + 1) - from j) (drop (from j) y) (drop-within 8380416 (from j) y (fits .offsets)));
+            offsets = subst (AllWithin offsetLimit) (sym offsets-are) (take-within offsetLimit (from (j + 1) - from j) (drop (from j) y) (drop-within offsetLimit (from j) y (fits .offsets)));
           };
         }
 

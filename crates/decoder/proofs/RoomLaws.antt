@@ -11,6 +11,7 @@ use lib.ListN.{length, set, length-set}
 use lib.Seq.{getD-set-same, getD-set-other}
 use lib.IntN.{ℤ, pos, natAbs, _+ℤ_}
 use borrow.Author.Tests.{eq-eqb}
+use Rattle.rules.specs.Limits.{reducedLimit, stepLimit}
 use Rattle.integers.specs.Linear.{Within, le-out}
 use Rattle.integers.specs.Product.{natAbs-≤, abs-add}
 use Rattle.integers.specs.Sum.{AllWithin}
@@ -21,31 +22,31 @@ use Rattle.decoder.specs.Room.{Room}
 natAbs-add : (a b : ℤ) → natAbs (a +ℤ b) ≤ natAbs a + natAbs b
 natAbs-add a b = omega (arith, le-out (abs-add a b))
 
-pub room-here : (m : ℕ) (ms : List ℕ) (ls : List ℤ) → m < length ls → Room (m ∷ ms) ls → natAbs (at ls m) + 8388608 ≤ 268443647
+pub room-here : (m : ℕ) (ms : List ℕ) (ls : List ℤ) → m < length ls → Room (m ∷ ms) ls → natAbs (at ls m) + stepLimit ≤ reducedLimit
 room-here m ms ls h r = take-one (natAbs (at ls m)) (cond (eqb m m) 1 0) (degreeOf m ms) (ap (λ b. cond b 1 0) (eq-eqb m m refl)) (r m h)
   where
-    take-one : (x c d : ℕ) → c ≡ 1 → x + 8388608 * (c + d) ≤ 268443647 → x + 8388608 ≤ 268443647
+    take-one : (x c d : ℕ) → c ≡ 1 → x + stepLimit * (c + d) ≤ reducedLimit → x + stepLimit ≤ reducedLimit
     take-one x c d e h = omega arith
 
-room-step : (ms : List ℕ) (ls : List ℤ) (m i : ℕ) (w : ℤ) → Within 8388608 w → i < length ls → Room (m ∷ ms) ls → natAbs (at (set ls m (at ls m +ℤ w)) i) + 8388608 * degreeOf i ms ≤ 268443647
+room-step : (ms : List ℕ) (ls : List ℤ) (m i : ℕ) (w : ℤ) → Within stepLimit w → i < length ls → Room (m ∷ ms) ls → natAbs (at (set ls m (at ls m +ℤ w)) i) + stepLimit * degreeOf i ms ≤ reducedLimit
 room-step ms ls m i w hw h r = go (ℕ-discrete m i)
   where
-    same : (x y c d : ℕ) → y ≤ x + 8388608 → c ≡ 1 → x + 8388608 * (c + d) ≤ 268443647 → y + 8388608 * d ≤ 268443647
+    same : (x y c d : ℕ) → y ≤ x + stepLimit → c ≡ 1 → x + stepLimit * (c + d) ≤ reducedLimit → y + stepLimit * d ≤ reducedLimit
     same x y c d g e h = omega arith
 
-    other : (x y c d : ℕ) → y ≡ x → x + 8388608 * (c + d) ≤ 268443647 → y + 8388608 * d ≤ 268443647
+    other : (x y c d : ℕ) → y ≡ x → x + stepLimit * (c + d) ≤ reducedLimit → y + stepLimit * d ≤ reducedLimit
     other x y c d g h = omega arith
 
-    near : (x w : ℤ) → Within 8388608 w → natAbs (x +ℤ w) ≤ natAbs x + 8388608
-    near x w hw = omega (arith, natAbs-add x w, natAbs-≤ w 8388608 hw)
+    near : (x w : ℤ) → Within stepLimit w → natAbs (x +ℤ w) ≤ natAbs x + stepLimit
+    near x w hw = omega (arith, natAbs-add x w, natAbs-≤ w stepLimit hw)
 
-    go : Dec (m ≡ i) → natAbs (at (set ls m (at ls m +ℤ w)) i) + 8388608 * degreeOf i ms ≤ 268443647
+    go : Dec (m ≡ i) → natAbs (at (set ls m (at ls m +ℤ w)) i) + stepLimit * degreeOf i ms ≤ reducedLimit
     go (yes e) = same (natAbs (at ls i)) (natAbs (at (set ls m (at ls m +ℤ w)) i)) (cond (eqb m i) 1 0) (degreeOf i ms)
-        (subst (λ z. natAbs z ≤ natAbs (at ls i) + 8388608) (sym (ap (at (set ls m (at ls m +ℤ w))) (sym e) ∙ getD-set-same ls m (at ls m +ℤ w) (pos 0) (subst (λ z. z < length ls) (sym e) h) ∙ ap (λ z. at ls z +ℤ w) e)) (near (at ls i) w hw))
+        (subst (λ z. natAbs z ≤ natAbs (at ls i) + stepLimit) (sym (ap (at (set ls m (at ls m +ℤ w))) (sym e) ∙ getD-set-same ls m (at ls m +ℤ w) (pos 0) (subst (λ z. z < length ls) (sym e) h) ∙ ap (λ z. at ls z +ℤ w) e)) (near (at ls i) w hw))
         (ap (λ b. cond b 1 0) (eq-eqb m i e)) (r i h)
     go (no f) = other (natAbs (at ls i)) (natAbs (at (set ls m (at ls m +ℤ w)) i)) (cond (eqb m i) 1 0) (degreeOf i ms) (ap natAbs (getD-set-other ls m i (at ls m +ℤ w) (pos 0) (λ e. f (sym e)))) (r i h)
 
-pub room-more : (m : ℕ) (ms : List ℕ) (ls : List ℤ) (w : ℤ) → Within 8388608 w → Room (m ∷ ms) ls → Room ms (set ls m (at ls m +ℤ w))
+pub room-more : (m : ℕ) (ms : List ℕ) (ls : List ℤ) (w : ℤ) → Within stepLimit w → Room (m ∷ ms) ls → Room ms (set ls m (at ls m +ℤ w))
 room-more m ms ls w hw r = λ i h. room-step ms ls m i w hw (subst (λ n. i < n) (length-set ls m (at ls m +ℤ w)) h) r
 
 degree-append : (i : ℕ) (xs ys : List ℕ) → degreeOf i (xs ++ ys) ≡ degreeOf i xs + degreeOf i ys
@@ -55,16 +56,16 @@ degree-append i (x ∷ xs) ys = ap (λ n. cond (eqb x i) 1 0 + n) (degree-append
 pub room-first : (xs ys : List ℕ) (ls : List ℤ) → Room (xs ++ ys) ls → Room xs ls
 room-first xs ys ls r = λ i h. less (natAbs (at ls i)) (degreeOf i (xs ++ ys)) (degreeOf i xs) (degreeOf i ys) (degree-append i xs ys) (r i h)
   where
-    less : (x d a b : ℕ) → d ≡ a + b → x + 8388608 * d ≤ 268443647 → x + 8388608 * a ≤ 268443647
+    less : (x d a b : ℕ) → d ≡ a + b → x + stepLimit * d ≤ reducedLimit → x + stepLimit * a ≤ reducedLimit
     less x d a b e h = omega arith
 
 pub room-last : (xs ys : List ℕ) (ls : List ℤ) → Room (xs ++ ys) ls → Room ys ls
 room-last xs ys ls r = λ i h. less (natAbs (at ls i)) (degreeOf i (xs ++ ys)) (degreeOf i xs) (degreeOf i ys) (degree-append i xs ys) (r i h)
   where
-    less : (x d a b : ℕ) → d ≡ a + b → x + 8388608 * d ≤ 268443647 → x + 8388608 * b ≤ 268443647
+    less : (x d a b : ℕ) → d ≡ a + b → x + stepLimit * d ≤ reducedLimit → x + stepLimit * b ≤ reducedLimit
     less x d a b e h = omega arith
 
-pub room-scatter : (ms rest : List ℕ) (ws ls : List ℤ) → AllWithin 8388608 ws → Room (ms ++ rest) ls → Room rest (scatter ms ws ls)
+pub room-scatter : (ms rest : List ℕ) (ws ls : List ℤ) → AllWithin stepLimit ws → Room (ms ++ rest) ls → Room rest (scatter ms ws ls)
 room-scatter ms rest [] ls w r = room-last ms rest ls r
 room-scatter [] rest (x ∷ ws) ls w r = r
 room-scatter (m ∷ ms) rest (x ∷ ws) ls w r = room-scatter ms rest ws (set ls m (at ls m +ℤ x)) (w .1) (room-more m (ms ++ rest) ls x (w .0) r)

@@ -8,7 +8,7 @@ use native.Mathlib.Omega.{arith}
 use lib.ListN.{length, take, drop, drop-of-length-le}
 use lib.IntN.{ℤ}
 use Rattle.integers.specs.Sum.{AllWithin}
-use Rattle.rules.specs.Limits.{unit}
+use Rattle.rules.specs.Limits.{unit, offsetLimit, stepLimit, valueLimit}
 use Rattle.rules.specs.Table.{at}
 use Rattle.rules.specs.Mask.{setOf}
 use Rattle.rules.specs.Cut.{cut}
@@ -96,19 +96,19 @@ module _ (v z hs : List ℤ) (k m : ℕ) (top : ℤ) (few : length v ≤ 32) (sa
     cuts : Cuts unit (setOf (length v) m) (clips unit v)
     cuts = cut-sound unit (clips unit v) (setOf (length v) m) (some-cut v m mask-is f)
 
-    pub heights-rise : AllWithin 8384512 v → Rising hs top
+    pub heights-rise : AllWithin valueLimit v → Rising hs top
     heights-rise w = subst (λ t. Rising hs t) (sym top-is) (subst (λ l. Rising l (highest (heightsOf (setOf (length v) m) v))) (sym heights-are) (rising (setOf (length v) m) v few w (set-alike v m) cuts))
 
-    pub least-multiplier-is : (b : ℕ) → AllWithin 8384512 v → LeastAt hs b → b ≡ steppedOn v .multiplier
+    pub least-multiplier-is : (b : ℕ) → AllWithin valueLimit v → LeastAt hs b → b ≡ steppedOn v .multiplier
     least-multiplier-is b w l = least-is (setOf (length v) m) v few w (set-alike v m) cuts b (subst (λ x. LeastAt x b) heights-are l) ∙ multiplier-some v m mask-is f
 
-  pub multiplier-is : (b : ℕ) → AllWithin 8384512 v → MultiplierOf m hs b → (b ≡ steppedOn v .multiplier) × (b ≤ 8388608)
+  pub multiplier-is : (b : ℕ) → AllWithin valueLimit v → MultiplierOf m hs b → (b ≡ steppedOn v .multiplier) × (b ≤ stepLimit)
   multiplier-is b w l = go (ℕ-discrete m 0)
     where
-      zero-small : b ≡ 0 → b ≤ 8388608
+      zero-small : b ≡ 0 → b ≤ stepLimit
       zero-small q = omega arith
 
-      go : Dec (m ≡ 0) → (b ≡ steppedOn v .multiplier) × (b ≤ 8388608)
+      go : Dec (m ≡ 0) → (b ≡ steppedOn v .multiplier) × (b ≤ stepLimit)
       go (yes q) = (l .none q ∙ multiplier-none v m mask-is q, zero-small (l .none q))
       go (no f) = (least-multiplier-is f b w (l .some f), l .some f .bounded)
 
@@ -120,8 +120,8 @@ module _ (s : List ℤ) (ms : List ℕ) (z y l : List ℤ) (fits : StepFits s ms
   few : length l ≤ 32
   few = subst (λ n. n ≤ 32) (sym long) (fits .few)
 
-  small : AllWithin 8384512 l
-  small = subst (AllWithin 8384512) (sym e) (values-within 4096 8380416 (at s) ms y (within-at 4096 s (fits .spins)) (fits .offsets))
+  small : AllWithin valueLimit l
+  small = subst (AllWithin valueLimit) (sym e) (values-within 4096 offsetLimit (at s) ms y (within-at 4096 s (fits .spins)) (fits .offsets))
 
   same : length z ≡ length l
   same = fits .copiesLong ∙ sym long

@@ -10,7 +10,7 @@ use mir.Val.{SFits}
 use Rattle.integers.specs.Linear.{lin, arithZ, Within}
 use Rattle.integers.specs.Clip.{clipZ}
 use Rattle.integers.specs.Sum.{AllWithin}
-use Rattle.rules.specs.Limits.{unit, maxBits}
+use Rattle.rules.specs.Limits.{unit, maxBits, offsetLimit, valueLimit}
 use Rattle.rules.specs.Table.{degreeOf, at}
 use Rattle.rules.specs.Step.{minus}
 use Rattle.rules.specs.Bound.{gather}
@@ -28,10 +28,10 @@ use Rattle.decoder.proofs.PlaceLaws.{below-more, minus-length, minus-at
 use Rattle.decoder.proofs.GatherLaws.{degree-take, gather-within}
 
 -- ---- an edge's weight, and the total with it
-difference-fits : (z y : ℤ) → Within 4096 z → Within 8380416 y → SFits w32 (z -ℤ y)
+difference-fits : (z y : ℤ) → Within 4096 z → Within offsetLimit y → SFits w32 (z -ℤ y)
 difference-fits z y = simp lin (omega arithZ)
 
-sum-fits : (t a g w : ℤ) (d k : ℕ) → t ≡ a +ℤ g → Within 8191 a → Within (8384512 * d) g → d ≤ k → k ≤ 32 → Within 8384512 w → SFits w32 (t +ℤ w)
+sum-fits : (t a g w : ℤ) (d k : ℕ) → t ≡ a +ℤ g → Within 8191 a → Within (valueLimit * d) g → d ≤ k → k ≤ 32 → Within valueLimit w → SFits w32 (t +ℤ w)
 sum-fits t a g w d k = simp lin (omega arithZ)
 
 module _ (old : List ℤ) (ms : List ℕ) (z y : List ℤ) (fit : EdgesFit old ms z y) where
@@ -42,10 +42,10 @@ module _ (old : List ℤ) (ms : List ℕ) (z y : List ℤ) (fit : EdgesFit old m
   weight-at e h = minus-at z y e (omega (arith, fit .copiesLong)) (omega (arith, fit .offsetsLong))
 
   pub weight-fits : (e : ℕ) → SFits w32 (at z e -ℤ at y e)
-  weight-fits e = difference-fits (at z e) (at y e) (within-at 4096 z (fit .copies) e) (within-at 8380416 y (fit .offsets) e)
+  weight-fits e = difference-fits (at z e) (at y e) (within-at 4096 z (fit .copies) e) (within-at offsetLimit y (fit .offsets) e)
 
-  weights-within : AllWithin 8384512 (minus z y)
-  weights-within = minus-within 4096 8380416 z y (fit .copies) (fit .offsets)
+  weights-within : AllWithin valueLimit (minus z y)
+  weights-within = minus-within 4096 offsetLimit z y (fit .copies) (fit .offsets)
 
   pub total-fits : (new : List ℤ) (e : ℕ) → e < length ms → Gathered old new (take e ms) (minus z y) → SFits w32 (at new (getD ms e 0) +ℤ at (minus z y) e)
   total-fits new e h g =
@@ -53,10 +53,10 @@ module _ (old : List ℤ) (ms : List ℕ) (z y : List ℤ) (fit : EdgesFit old m
       sum-fits (at new x) (at old x) (gather x (take e ms) (minus z y)) (at (minus z y) e) (degreeOf x (take e ms)) (degreeOf x ms)
       (g .sums x (below-at (length old) ms e h (fit .below)))
       (within-at 8191 old (fit .frame) x)
-      (gather-within 8384512 x (take e ms) (minus z y) weights-within)
+      (gather-within valueLimit x (take e ms) (minus z y) weights-within)
       (degree-take x e ms)
       (fit .standing e h)
-      (within-at 8384512 (minus z y) weights-within e)
+      (within-at valueLimit (minus z y) weights-within e)
 
 -- ---- from the frame to the spins
 abbrev pub zeros : List ℤ

@@ -8,6 +8,7 @@ use Prim.Native.Nat.{ℕ, _≤_}
 use lib.Dec.{eqb}
 use lib.ListN.{length}
 use lib.IntN.{ℤ}
+use Rattle.rules.specs.Limits.{stepLimit}
 use Rattle.integers.specs.Sum.{AllWithin}
 use Rattle.rules.specs.Parity.{meets}
 use Rattle.rules.specs.Mask.{setOf}
@@ -42,4 +43,4 @@ pub record GapFits (n : ℕ) (l s : List ℤ) (ss ms bs ks : List ℕ) : Type 0 
   pub spinsLong : length s ≡ n
   pub multipliersLong : length bs ≡ length (checksFrom ss ms)
   pub masksLong : length ks ≡ length (checksFrom ss ms)
-  pub multipliers : AllUpTo 8388608 bs
+  pub multipliers : AllUpTo stepLimit bs

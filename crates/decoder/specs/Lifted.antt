@@ -6,6 +6,7 @@ use Prim.Native.Nat.{ℕ, suc, _+_, _≤_, _<_, min}
 use lib.ListN.{length}
 use lib.IntN.{ℤ, pos, negℤ, natAbs, _+ℤ_, _-ℤ_}
 use lib.Signed.{_≤ℤ_}
+use Rattle.rules.specs.Limits.{offsetLimit, stepLimit}
 use Rattle.integers.specs.Linear.{up}
 use Rattle.integers.specs.Sum.{AllWithin}
 
@@ -37,9 +38,9 @@ sumZ (h ∷ hs) = h +ℤ sumZ hs
 pub record Rising (hs : List ℤ) (top : ℤ) : Type 0 where
   pub some : 0 < length hs
   pub few : length hs ≤ 32
-  pub small : AllWithin 8388608 hs
+  pub small : AllWithin stepLimit hs
   pub short : sumAt hs 0 < 8192
-  pub low : negℤ (pos 8380416) ≤ℤ top
+  pub low : negℤ (pos offsetLimit) ≤ℤ top
   pub high : top ≤ℤ pos 8192
   pub met : 8192 ≤ sumAt hs (natAbs (pos 8192 -ℤ top))
 
@@ -47,7 +48,7 @@ pub record Rising (hs : List ℤ) (top : ℤ) : Type 0 where
 pub record LeastAt (hs : List ℤ) (b : ℕ) : Type 0 where
   pub met : 8192 ≤ sumAt hs b
   pub last : (a : ℕ) → b ≡ suc a → sumAt hs a < 8192
-  pub bounded : b ≤ 8388608
+  pub bounded : b ≤ stepLimit
 
 -- the multiplier of a mask, 0 of none
 pub record MultiplierOf (mask : ℕ) (hs : List ℤ) (b : ℕ) : Type 0 where

@@ -5,7 +5,7 @@ use Prim.Native.Nat.{ℕ}
 use lib.ListN.{length}
 use lib.IntN.{ℤ}
 use Rattle.integers.specs.Sum.{AllWithin}
-use Rattle.rules.specs.Limits.{unit}
+use Rattle.rules.specs.Limits.{unit, offsetLimit}
 use Rattle.rules.specs.Step.{Step}
 use Rattle.rules.specs.Round.{Round, pass, copiesIn, offsetsIn, entriesIn}
 use Rattle.rules.specs.Buffers.{multipliersOf, masksOf}
@@ -39,6 +39,6 @@ pub record PassFits (n : ℕ) (ss ms : List ℕ) (s z y : List ℤ) (bs ks : Lis
   pub spins : AllWithin 4096 s
   pub copiesLong : length z ≡ length ms
   pub offsetsLong : length y ≡ length ms
-  pub offsets : AllWithin 8380416 y
+  pub offsets : AllWithin offsetLimit y
   pub multipliersLong : length bs ≡ length (checksFrom ss ms)
   pub masksLong : length ks ≡ length (checksFrom ss ms)

@@ -4,6 +4,7 @@ use mathlib.Core.List.{List}
 use Prim.Native.Nat.{ℕ, _≤_, _<_}
 use lib.ListN.{length, getD}
 use lib.IntN.{ℤ}
+use Rattle.rules.specs.Limits.{offsetLimit}
 use Rattle.integers.specs.Sum.{AllWithin}
 use Rattle.rules.specs.Table.{degreeOf}
 use Rattle.rules.proofs.Duality.{Below}
@@ -18,7 +19,7 @@ pub record SpinsFit (n : ℕ) (l : List ℤ) (ms ds : List ℕ) (z y : List ℤ)
   pub copiesLong : length z ≡ length ms
   pub offsetsLong : length y ≡ length ms
   pub copies : AllWithin 4096 z
-  pub offsets : AllWithin 8380416 y
+  pub offsets : AllWithin offsetLimit y
   pub room : n ≤ length ds
   pub degrees : (i : ℕ) → i < n → getD ds i 0 ≡ degreeOf i ms
   pub standing : (i : ℕ) → i < n → (1 ≤ degreeOf i ms) × (degreeOf i ms ≤ 32)

@@ -5,7 +5,7 @@ use Prim.Native.Nat.{ℕ, _≤_}
 use lib.ListN.{length}
 use lib.IntN.{ℤ}
 use Rattle.integers.specs.Sum.{AllWithin}
-use Rattle.rules.specs.Limits.{unit}
+use Rattle.rules.specs.Limits.{unit, offsetLimit, stepLimit, valueLimit}
 use Rattle.rules.specs.Step.{Step, step}
 use Rattle.rules.specs.Round.{values}
 use Rattle.rules.specs.Buffers.{multiplierOf, maskIn}
@@ -35,11 +35,11 @@ pub record StepFits (s : List ℤ) (ms : List ℕ) (z y : List ℤ) : Type 0 whe
   pub copiesLong : length z ≡ length ms
   pub offsetsLong : length y ≡ length ms
   pub spins : AllWithin 4096 s
-  pub offsets : AllWithin 8380416 y
+  pub offsets : AllWithin offsetLimit y
 
 -- the multiplier b; the copies, and the values v in the offsets' place
 pub record MoveFits (b : ℕ) (z v : List ℤ) : Type 0 where
-  pub bounded : b ≤ 8388608
+  pub bounded : b ≤ stepLimit
   pub few : length v ≤ 32
-  pub small : AllWithin 8384512 v
+  pub small : AllWithin valueLimit v
   pub copiesLong : length z ≡ length v

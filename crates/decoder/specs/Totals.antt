@@ -7,7 +7,7 @@ use lib.ListN.{length, getD}
 use lib.IntN.{ℤ, _+ℤ_}
 use Rattle.integers.specs.Clip.{clipZ}
 use Rattle.integers.specs.Sum.{AllWithin}
-use Rattle.rules.specs.Limits.{unit, maxBitDegree, frameLimit}
+use Rattle.rules.specs.Limits.{unit, maxBitDegree, frameLimit, offsetLimit}
 use Rattle.rules.specs.Table.{degreeOf, at}
 use Rattle.rules.specs.Bound.{gather}
 use Rattle.rules.specs.Round.{divided}
@@ -25,7 +25,7 @@ pub record EdgesFit (t : List ℤ) (ms : List ℕ) (z y : List ℤ) : Type 0 whe
   pub copiesLong : length z ≡ length ms
   pub offsetsLong : length y ≡ length ms
   pub copies : AllWithin unit z
-  pub offsets : AllWithin 8380416 y
+  pub offsets : AllWithin offsetLimit y
   pub standing : (e : ℕ) → e < length ms → degreeOf (getD ms e 0) ms ≤ maxBitDegree
 
 -- what dividing n totals t by the degrees ds asks

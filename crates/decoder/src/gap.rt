@@ -7,6 +7,7 @@ ghost use Prim.Native.Nat.{_+_, _≤_, _%_};
 ghost use lib.Dec.{eqb};
 ghost use lib.ListN.{length};
 ghost use lib.IntN.{pos, natAbs, _+ℤ_, _-ℤ_, _*ℤ_};
+ghost use Rattle.rules.specs.Limits.{priceLimit, reducedLimit, stepLimit};
 ghost use Rattle.integers.specs.Linear.{Within};
 ghost use Rattle.integers.specs.Product.{abs};
 ghost use Rattle.integers.specs.Sum.{sumTo};
@@ -23,7 +24,7 @@ ghost use Rattle.decoder.specs.Room.{rowOf, Room, RowsFit};
 
 // A number with a member's weight: the multiplier b, added where the mask's lowest bit is 1 and subtracted where it is 0.
 fn weighted(x: i32, b: u32, mask: u32) -> i32
-    requires { ⌜ (natAbs x + 8388608 ≤ 268443647) × (b ≤ 8388608) ⌝ }
+    requires { ⌜ (natAbs x + stepLimit ≤ reducedLimit) × (b ≤ stepLimit) ⌝ }
     ensures { λ r. ⌜ r ≡ x +ℤ side (eqb (mask % 2) 1) (pos b) ⌝ }
 {
     if mask % 2 == 1 {
@@ -34,7 +35,7 @@ fn weighted(x: i32, b: u32, mask: u32) -> i32
 
 // A check's weights, scattered to its members.
 fn add_row_of(members: &[u16], b: u32, mask: u32, numbers: &mut [i32])
-    requires { ⌜ (b ≤ 8388608) × Below (length (now numbers)) (now members) × Room (now members) (now numbers) ⌝ }
+    requires { ⌜ (b ≤ stepLimit) × Below (length (now numbers)) (now members) × Room (now members) (now numbers) ⌝ }
     ensures { λ _. ⌜ now (numbers .exit) ≡ scatter (now (members .entry)) (weights b (setOf (length (now (members .entry))) mask)) (now (numbers .entry)) ⌝ }
 {
     let mut rest = mask;
@@ -49,7 +50,7 @@ fn add_row_of(members: &[u16], b: u32, mask: u32, numbers: &mut [i32])
 
 // The same, with the common degree by itself.
 fn add_row(members: &[u16], b: u32, mask: u32, numbers: &mut [i32])
-    requires { ⌜ (b ≤ 8388608) × Below (length (now numbers)) (now members) × Room (now members) (now numbers) ⌝ }
+    requires { ⌜ (b ≤ stepLimit) × Below (length (now numbers)) (now members) × Room (now members) (now numbers) ⌝ }
     ensures { λ _. ⌜ now (numbers .exit) ≡ scatter (now (members .entry)) (weights b (setOf (length (now (members .entry))) mask)) (now (numbers .entry)) ⌝ }
 {
     if members.len() == COMMON_DEGREE {
@@ -61,17 +62,17 @@ fn add_row(members: &[u16], b: u32, mask: u32, numbers: &mut [i32])
 
 // A check's multiplier times (d - 2).
 fn price_of(b: u32, d: usize) -> i64
-    requires { ⌜ (b ≤ 8388608) × (d ≤ 32) ⌝ }
-    ensures { λ r. ⌜ (r ≡ pos b *ℤ (pos d -ℤ pos 2)) × Within 268435456 r ⌝ }
+    requires { ⌜ (b ≤ stepLimit) × (d ≤ 32) ⌝ }
+    ensures { λ r. ⌜ (r ≡ pos b *ℤ (pos d -ℤ pos 2)) × Within priceLimit r ⌝ }
 {
     (b as i64) * (d as i64 - 2)
 }
 
 // A check's row, if its mask is not 0: its weights are scattered, and its price is returned.
 fn add_check(members: &[u16], b: u32, mask: u32, numbers: &mut [i32]) -> i64
-    requires { ⌜ (b ≤ 8388608) × (length (now members) ≤ 32) × Below (length (now numbers)) (now members) × Room (now members) (now numbers) ⌝ }
+    requires { ⌜ (b ≤ stepLimit) × (length (now members) ≤ 32) × Below (length (now numbers)) (now members) × Room (now members) (now numbers) ⌝ }
     ensures { λ r. ⌜ (now (numbers .exit) ≡ scatterRows (withRow (eqb mask 0) (rowOf (now (members .entry)) b mask) []) (now (numbers .entry)))
-        × (r ≡ price (withRow (eqb mask 0) (rowOf (now (members .entry)) b mask) [])) × Within 268435456 r ⌝ }
+        × (r ≡ price (withRow (eqb mask 0) (rowOf (now (members .entry)) b mask) [])) × Within priceLimit r ⌝ }
 {
     if mask == 0 {
         return 0;

@@ -8,7 +8,7 @@ ghost use Prim.Native.Nat.{_≤_};
 ghost use lib.ListN.{length};
 ghost use Rattle.integers.specs.Linear.{Within};
 ghost use Rattle.integers.specs.Sum.{AllWithin};
-ghost use Rattle.rules.specs.Limits.{unit};
+ghost use Rattle.rules.specs.Limits.{unit, offsetLimit, stepLimit, valueLimit};
 ghost use Rattle.rules.specs.Table.{at};
 ghost use Rattle.rules.specs.Mask.{setOf};
 ghost use Rattle.rules.specs.Step.{move, moves, minus};
@@ -25,7 +25,7 @@ pub struct Entry {
 
 // v = spin + y, in the offsets' place.
 fn add_spins(spins: &[i32], members: &[u16], offsets: &mut [i32])
-    requires { ⌜ (length (now offsets) ≡ length (now members)) × Below (length (now spins)) (now members) × AllWithin 4096 (now spins) × AllWithin 8380416 (now offsets) ⌝ }
+    requires { ⌜ (length (now offsets) ≡ length (now members)) × Below (length (now spins)) (now members) × AllWithin 4096 (now spins) × AllWithin offsetLimit (now offsets) ⌝ }
     ensures { λ _. ⌜ now (offsets .exit) ≡ values (at (now (spins .entry))) (now (members .entry)) (now (offsets .entry)) ⌝ }
 {
     let mut i = 0;
@@ -49,7 +49,7 @@ fn multiplier_for(mask: u32, top: i32, heights: &[i32]) -> u32
 
 // A member's new copy: "clip(v + b) on V, clip(v − b) elsewhere".
 fn moved(v: i32, t: bool, b: u32) -> i32
-    requires { ⌜ (Within 8384512 v) × (b ≤ 8388608) ⌝ }
+    requires { ⌜ (Within valueLimit v) × (b ≤ stepLimit) ⌝ }
     ensures { λ r. ⌜ r ≡ move unit b t v ⌝ }
 {
     if t {

@@ -59,6 +59,13 @@ valueLimit = unit + offsetLimit
 abbrev pub stepLimit : ℕ
 stepLimit = unit + valueLimit
 
+-- a multiplier times (d − 2), of 32 members at the most; and a reduced number at scale 1, of a bit in 32 checks at the most
+abbrev pub priceLimit : ℕ
+priceLimit = maxDegree * stepLimit
+
+abbrev pub reducedLimit : ℕ
+reducedLimit = frameLimit + maxBitDegree * stepLimit
+
 -- where the code file's contents and bodies begin: "length is 4 + 4m + 2E bytes"
 abbrev pub contentsEnd : ℕ → ℕ
 contentsEnd m = 4 + 4 * m

@@ -3,6 +3,7 @@ use mathlib.Core.Path.{sym, _∙_, subst}
 use mir.Syntax.{w64}
 use mir.Facts.{toZ-ofZ}
 use borrow.Author.Needs.{needs}
+use Rattle.rules.specs.Limits.{priceLimit}
 use Rattle.integers.specs.Linear.{lin, arithZ, Within}
 use Rattle.integers.specs.Machine.{fit}
 use Rattle.decoder.proofs.GapLaws.{row-none, row-some}
@@ -29,7 +30,7 @@ returns-2 c =
     let a = c .before .before .before .before .before .before .args in
     let e = row-some (a .members .now) (a .b) (a .mask) (a .numbers .now) (c .before .before .before .before .if1 .left) in
     let r = toZ-ofZ (fit w64 (c .price-of .result) (c .price-of .ok)) in
-    (c .before .before .add-row .ensures ∙ e .0, r ∙ c .price-of .ensures .0 ∙ e .1, subst (Within 268435456) (sym r) (c .price-of .ensures .1))
+    (c .before .before .add-row .ensures ∙ e .0, r ∙ c .price-of .ensures .0 ∙ e .1, subst (Within priceLimit) (sym r) (c .price-of .ensures .1))
 
 pub add-check-spec : {M : Type 1} → statement M
 add-check-spec =

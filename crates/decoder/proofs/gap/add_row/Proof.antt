@@ -4,6 +4,7 @@ use Prim.Native.Nat.{_≤_}
 use native.Mathlib.Omega.{arith}
 use lib.ListN.{length, length-take}
 use borrow.Author.Needs.{needs}
+use Rattle.rules.specs.Limits.{stepLimit}
 use Rattle.rules.specs.Mask.{setOf}
 use Rattle.rules.specs.Bound.{weights}
 use Rattle.rules.specs.Scatter.{scatter}
@@ -20,7 +21,7 @@ add-row-of-requires : tie.Need-add-row-of-requires
 add-row-of-requires c κs =
     let start = c .before .before .before .before in
     let a = start .args in
-    subst (λ ms. (a .b ≤ 8388608) × Below (length (a .numbers .now)) ms × Room ms (a .numbers .now)) (sym (take-exact 6 (a .members .now) (omega arith))) (start .pre)
+    subst (λ ms. (a .b ≤ stepLimit) × Below (length (a .numbers .now)) ms × Room ms (a .numbers .now)) (sym (take-exact 6 (a .members .now) (omega arith))) (start .pre)
 
 same-length : tie.Need-same-length
 same-length c = search needs

@@ -9,6 +9,7 @@ use mir.Syntax.{w32}
 use mir.Val.{SFits, toZ, ofZ}
 use mir.Facts.{toZ-ofZ}
 use borrow.Author.Needs.{needs}
+use Rattle.rules.specs.Limits.{reducedLimit, stepLimit}
 use Rattle.integers.specs.Machine.{fit}
 use Rattle.rules.specs.Mask.{setOf}
 use Rattle.rules.specs.Bound.{weights}
@@ -59,7 +60,7 @@ weighted-requires c κs =
     let args = start .args in
     let loop = c .before .before .before .loop in
     let x = at (loop .numbers) (getD (args .members .now) (loop .k) 0) in (
-      subst (λ z. natAbs z + 8388608 ≤ 268443647) (sym (toZ-ofZ (fit w32 x (c .weighted-arg .given))))
+      subst (λ z. natAbs z + stepLimit ≤ reducedLimit) (sym (toZ-ofZ (fit w32 x (c .weighted-arg .given))))
           (room-place (args .members .now) (args .b) (loop .rest) (loop .k) (loop .numbers) (c .before .before .loop-test .taken) (below (c .before .before .before)) (loop .inv .2)),
       start .pre .0,
     )

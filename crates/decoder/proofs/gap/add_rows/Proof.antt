@@ -9,6 +9,7 @@ use mir.Syntax.{w64}
 use mir.Val.{SFits, toZ}
 use mir.Facts.{toZ-ofZ}
 use borrow.Author.Needs.{needs}
+use Rattle.rules.specs.Limits.{priceLimit, stepLimit}
 use Rattle.integers.specs.Linear.{lin, arithZ, Within}
 use Rattle.integers.specs.Machine.{fit, reads}
 use Rattle.rules.specs.Table.{edges}
@@ -28,7 +29,7 @@ Inv-loop starts members multipliers masks numbers₀ sum₀ j₀ numbers sum j =
     (j ≤ length masks) × (length numbers ≡ length numbers₀) × Room (edges (drop j (checksFrom starts members))) numbers
     × (scatterRows (rowsLeft (checksFrom starts members) multipliers masks j) numbers ≡ scatterRows (rowsFrom (checksFrom starts members) multipliers masks) numbers₀)
     × (toZ w64 sum +ℤ price (rowsLeft (checksFrom starts members) multipliers masks j) ≡ price (rowsFrom (checksFrom starts members) multipliers masks))
-    × Within (268435456 * j) (toZ w64 sum)
+    × Within (priceLimit * j) (toZ w64 sum)
 
 abbrev μ-loop : tie.MeasureT-loop
 μ-loop starts members multipliers masks numbers₀ sum₀ j₀ numbers sum j = length masks - j
@@ -114,7 +115,7 @@ add-check-requires c κs =
     let start = here .before .before .before .before .before .before in
     let loop = here .before .loop in
     let e = part-is (length (start .args .numbers .now)) (start .args .starts .now) (start .args .members .now) (start .pre .holds) (loop .j) (check here) in (
-      up-to-at 8388608 (start .args .multipliers .now) (loop .j) (start .pre .multipliers),
+      up-to-at stepLimit (start .args .multipliers .now) (loop .j) (start .pre .multipliers),
       subst (λ l. length l ≤ 32) (sym e) (part-degree (length (start .args .numbers .now)) (start .args .starts .now) (start .args .members .now) (start .pre .holds) (loop .j) (check here) .1),
       subst (Below (length (loop .numbers))) (sym e) (subst (λ n. Below n (getD (checksFrom (start .args .starts .now) (start .args .members .now)) (loop .j) [])) (sym (loop .inv .1)) (part-below (length (start .args .numbers .now)) (start .args .starts .now) (start .args .members .now) (start .pre .holds) (loop .j) (check here))),
       check-room (checksFrom (start .args .starts .now) (start .args .members .now)) (start .args .multipliers .now) (start .args .masks .now) (loop .j) (check here) (omega (arith, check here, start .pre .multipliersLong)) (here .loop-test .taken) _ e (loop .numbers) (loop .inv .2),
@@ -127,7 +128,7 @@ add-sum c =
     let loop = here .before .loop in
     let call = c .before .add-check in
     subst (λ r. SFits w64 (toZ w64 (loop .sum) +ℤ r)) (sym (toZ-ofZ (fit w64 (call .result) (call .ok))))
-    (sum-fits (268435456 * loop .j) 268435456 (toZ w64 (loop .sum)) (call .result) (loop .inv .5) (call .ensures .2) (omega (arith, check here, start .pre .holds .sound .checks)))
+    (sum-fits (priceLimit * loop .j) priceLimit (toZ w64 (loop .sum)) (call .result) (loop .inv .5) (call .ensures .2) (omega (arith, check here, start .pre .holds .sound .checks)))
 
 add-j : tie.Need-add-j Inv-loop μ-loop
 add-j c = search needs
@@ -148,10 +149,10 @@ loop-again c =
     let s = reads (add-sum c) (ap (λ r. toZ w64 (loop .sum) +ℤ r) (toZ-ofZ (fit w64 (call .result) (call .ok)))) in (
       omega (arith, hk),
       check-long (checksFrom (start .args .starts .now) (start .args .members .now)) (start .args .multipliers .now) (start .args .masks .now) (loop .j) (check here) hb hk _ e (loop .numbers) new (call .ensures .0) ∙ loop .inv .1,
-      check-left (checksFrom (start .args .starts .now) (start .args .members .now)) (start .args .multipliers .now) (start .args .masks .now) (loop .j) (check here) hb hk _ e (loop .numbers) new (up-to-at 8388608 (start .args .multipliers .now) (loop .j) (start .pre .multipliers)) (call .ensures .0) (loop .inv .2),
+      check-left (checksFrom (start .args .starts .now) (start .args .members .now)) (start .args .multipliers .now) (start .args .masks .now) (loop .j) (check here) hb hk _ e (loop .numbers) new (up-to-at stepLimit (start .args .multipliers .now) (loop .j) (start .pre .multipliers)) (call .ensures .0) (loop .inv .2),
       check-scatter (checksFrom (start .args .starts .now) (start .args .members .now)) (start .args .multipliers .now) (start .args .masks .now) (loop .j) (check here) hb hk _ e (loop .numbers) new (call .ensures .0) ∙ loop .inv .3,
       ap (λ z. z +ℤ price (rowsLeft (checksFrom (start .args .starts .now) (start .args .members .now)) (start .args .multipliers .now) (start .args .masks .now) (loop .j + 1))) s ∙ check-price (checksFrom (start .args .starts .now) (start .args .members .now)) (start .args .multipliers .now) (start .args .masks .now) (loop .j) (check here) hb hk _ e (toZ w64 (loop .sum)) (call .result) (call .ensures .1) ∙ loop .inv .4,
-      subst (Within (268435456 * (loop .j + 1))) (sym s) (sum-within (268435456 * loop .j) 268435456 (268435456 * (loop .j + 1)) (toZ w64 (loop .sum)) (call .result) (loop .inv .5) (call .ensures .2) (omega arith)),
+      subst (Within (priceLimit * (loop .j + 1))) (sym s) (sum-within (priceLimit * loop .j) priceLimit (priceLimit * (loop .j + 1)) (toZ w64 (loop .sum)) (call .result) (loop .inv .5) (call .ensures .2) (omega arith)),
     )
 
 same-length : tie.Need-same-length Inv-loop μ-loop

@@ -6,6 +6,7 @@ use mir.Syntax.{w64}
 use mir.Val.{toZ}
 use mir.Facts.{toZ-pos}
 use borrow.Author.Needs.{needs}
+use Rattle.rules.specs.Limits.{priceLimit, stepLimit}
 use Rattle.integers.specs.Linear.{lin, arithZ, Within}
 use Rattle.integers.specs.Machine.{raw, reads, op-fits, prod-fits}
 use Rattle.integers.specs.Product.{within-*}
@@ -24,7 +25,7 @@ b-is c = toZ-pos w64 (omega arith)
 d-is : (c : tie.Start) → toZ w64 (c .args .d) ≡ pos (c .args .d)
 d-is c = toZ-pos w64 (omega arith)
 
-b-within : (c : tie.Start) → Within 8388608 (pos (c .args .b))
+b-within : (c : tie.Start) → Within stepLimit (pos (c .args .b))
 b-within c = simp lin (omega arithZ)
 
 sub-result : tie.Need-sub-result
@@ -34,12 +35,12 @@ less-within : (c : tie.Start) → Within 32 (raw (sub-result c))
 less-within c = let d = d-is c in simp lin (omega arithZ)
 
 mul-result : tie.Need-mul-result
-mul-result c = op-fits w64 _*ℤ_ (b-is c) (reads (sub-result c) refl) (prod-fits w64 8388608 32 (pos (c .args .b)) (raw (sub-result c)) (omega arith) (b-within c) (less-within c))
+mul-result c = op-fits w64 _*ℤ_ (b-is c) (reads (sub-result c) refl) (prod-fits w64 stepLimit 32 (pos (c .args .b)) (raw (sub-result c)) (omega arith) (b-within c) (less-within c))
 
 returns : tie.Need-returns
 returns c =
     let e = reads (mul-result c) (ap₂ _*ℤ_ (b-is c) (reads (sub-result c) (ap (λ z. z -ℤ pos 2) (d-is c)))) in
-    (e, subst (Within 268435456) (sym (reads (mul-result c) (ap₂ _*ℤ_ (b-is c) (reads (sub-result c) refl)))) (within-* 8388608 32 (pos (c .args .b)) (raw (sub-result c)) (b-within c) (less-within c)))
+    (e, subst (Within priceLimit) (sym (reads (mul-result c) (ap₂ _*ℤ_ (b-is c) (reads (sub-result c) refl)))) (within-* stepLimit 32 (pos (c .args .b)) (raw (sub-result c)) (b-within c) (less-within c)))
 
 pub price-of-spec : {M : Type 1} → statement M
 price-of-spec = tie.close (tie.spec cast-result cast-result-2 sub-result mul-result returns)

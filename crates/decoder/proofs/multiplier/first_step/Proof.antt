@@ -9,6 +9,7 @@ use mir.Syntax.{w32}
 use mir.Val.{SFits, toZ, ofZ}
 use mir.Facts.{toZ-ofZ}
 use borrow.Author.Needs.{needs}
+use Rattle.rules.specs.Limits.{stepLimit}
 use Rattle.integers.specs.Machine.{fit, to-unsigned}
 use Rattle.decoder.specs.Lifted.{sumAt, sumZ}
 use Rattle.decoder.proofs.MultiplierLaws.{level-met, together-fits, start-fits, start-most}
@@ -55,8 +56,8 @@ sub-alone c = subst (SFits w32) (sym (top-lacks c)) (start-fits (c .before .args
 alone-is : (c : tie.After-sum-of) → natAbs (pos 8192 -ℤ c .before .args .top) ≡ natAbs (toZ w32 (ofZ w32 (pos 8192 -ℤ toZ w32 (ofZ w32 (c .before .args .top)))))
 alone-is c = ap natAbs (sym (toZ-ofZ (sub-alone c) ∙ top-lacks c))
 
-alone-most : (c : tie.After-sum-of) → natAbs (toZ w32 (ofZ w32 (pos 8192 -ℤ toZ w32 (ofZ w32 (c .before .args .top))))) ≤ 8388608
-alone-most c = subst (λ n. n ≤ 8388608) (alone-is c) (start-most (c .before .args .top) (c .before .pre .low) (c .before .pre .high))
+alone-most : (c : tie.After-sum-of) → natAbs (toZ w32 (ofZ w32 (pos 8192 -ℤ toZ w32 (ofZ w32 (c .before .args .top))))) ≤ stepLimit
+alone-most c = subst (λ n. n ≤ stepLimit) (alone-is c) (start-most (c .before .args .top) (c .before .pre .low) (c .before .pre .high))
 
 cast-alone : tie.Need-cast-alone
 cast-alone c = to-unsigned tt (sub-alone c) (subst (λ z. pos 0 ≤ℤ z) (sym (top-lacks c)) (start-fits (c .before .args .top) (c .before .pre .low) (c .before .pre .high) .1))

@@ -2,13 +2,14 @@
 use Prim.Native.Nat.{_-_, _≤_, _<_}
 use native.Mathlib.Omega.{arith}
 use borrow.Author.Needs.{needs}
+use Rattle.rules.specs.Limits.{stepLimit}
 use Rattle.decoder.specs.Lifted.{sumAt}
 use Rattle.decoder.proofs.LiftedLaws.{next-step, least-found}
 use Rattle.decoder.proofs.multiplier.least_multiplier.Statement.{statement}
 use Rattle.decoder.proofs.multiplier.least_multiplier.Tie as tie
 
 abbrev Inv-loop : tie.InvT-loop
-Inv-loop heights top b₀ b = (b ≤ 8388608) × (8192 ≤ sumAt heights b)
+Inv-loop heights top b₀ b = (b ≤ stepLimit) × (8192 ≤ sumAt heights b)
 
 abbrev μ-loop : tie.MeasureT-loop
 μ-loop heights top b₀ b = b

@@ -6,6 +6,7 @@ use lib.ListN.{length}
 use mir.Syntax.{w32}
 use mir.Val.{SFits}
 use mir.Facts.{toZ-ofZ}
+use Rattle.rules.specs.Limits.{stepLimit}
 use Rattle.integers.specs.Linear.{Within}
 use Rattle.integers.specs.Machine.{fit}
 use Rattle.rules.specs.Table.{at}
@@ -36,7 +37,7 @@ element c = fit w32 (at (c .before .before .before .args .heights .now) (c .befo
 lift-requires : tie.Need-lift-requires Inv-loop μ-loop
 lift-requires c κs =
     let start = c .before .before .before in
-    (subst (Within 8388608) (sym (toZ-ofZ (element c))) (within-at 8388608 (start .args .heights .now) (start .pre .2) (c .before .before .loop .i)), start .pre .1)
+    (subst (Within stepLimit) (sym (toZ-ofZ (element c))) (within-at stepLimit (start .args .heights .now) (start .pre .2) (c .before .before .loop .i)), start .pre .1)
 
 lift-is : (c : tie.After-lift Inv-loop μ-loop)
     → c .lift .result ≡ lifted (c .before .before .before .before .args .b) (at (c .before .before .before .before .args .heights .now) (c .before .before .before .loop .i))
@@ -46,7 +47,7 @@ lift-le : (c : tie.After-lift Inv-loop μ-loop) → c .lift .result ≤ 16777216
 lift-le c =
     let start = c .before .before .before .before in
     let h = at (start .args .heights .now) (c .before .before .before .loop .i) in
-    subst (λ n. n ≤ 16777216) (sym (lift-is c)) (lifted-le (start .args .b) h (within-at 8388608 (start .args .heights .now) (start .pre .2) (c .before .before .before .loop .i)) (start .pre .1))
+    subst (λ n. n ≤ 16777216) (sym (lift-is c)) (lifted-le (start .args .b) h (within-at stepLimit (start .args .heights .now) (start .pre .2) (c .before .before .before .loop .i)) (start .pre .1))
 
 add-sum : tie.Need-add-sum Inv-loop μ-loop
 add-sum c = omega (arith, lift-le c)

@@ -8,6 +8,7 @@ use lib.Seq.{take-all}
 use mir.Syntax.{w32}
 use mir.Val.{SFits, toZ, ofZ}
 use mir.Facts.{toZ-ofZ}
+use Rattle.rules.specs.Limits.{stepLimit}
 use Rattle.integers.specs.Linear.{Within}
 use Rattle.integers.specs.Machine.{fit}
 use Rattle.rules.specs.Table.{at}
@@ -19,7 +20,7 @@ use Rattle.decoder.proofs.multiplier.sum_of.Statement.{statement}
 use Rattle.decoder.proofs.multiplier.sum_of.Tie as tie
 
 abbrev Inv-loop : tie.InvT-loop
-Inv-loop heights sum₀ i₀ sum i = (i ≤ length heights) × (toZ w32 sum ≡ sumZ (take i heights)) × Within (8388608 * i) (toZ w32 sum)
+Inv-loop heights sum₀ i₀ sum i = (i ≤ length heights) × (toZ w32 sum ≡ sumZ (take i heights)) × Within (stepLimit * i) (toZ w32 sum)
 
 abbrev μ-loop : tie.MeasureT-loop
 μ-loop heights sum₀ i₀ sum i = length heights - i
@@ -42,11 +43,11 @@ next-is c =
     ap (λ z. toZ w32 (l .sum) +ℤ z) (toZ-ofZ (fit w32 (at (a .heights .now) (l .i)) (c .sum .given)))
 
 next : (c : tie.After-sum Inv-loop μ-loop) → SFits w32 (toZ w32 (c .before .before .loop .sum) +ℤ at (c .before .before .before .args .heights .now) (c .before .before .loop .i))
-    × Within (8388608 * (c .before .before .loop .i + 1)) (toZ w32 (c .before .before .loop .sum) +ℤ at (c .before .before .before .args .heights .now) (c .before .before .loop .i))
+    × Within (stepLimit * (c .before .before .loop .i + 1)) (toZ w32 (c .before .before .loop .sum) +ℤ at (c .before .before .before .args .heights .now) (c .before .before .loop .i))
 next c =
     let start = c .before .before .before in
     let l = c .before .before .loop in
-    sum-next (l .i) (toZ w32 (l .sum)) (at (start .args .heights .now) (l .i)) (omega (arith, start .pre .0)) (l .inv .2) (within-at 8388608 (start .args .heights .now) (start .pre .1) (l .i))
+    sum-next (l .i) (toZ w32 (l .sum)) (at (start .args .heights .now) (l .i)) (omega (arith, start .pre .0)) (l .inv .2) (within-at stepLimit (start .args .heights .now) (start .pre .1) (l .i))
 
 add-sum : tie.Need-add-sum Inv-loop μ-loop
 add-sum c = subst (SFits w32) (sym (next-is c)) (next c .0)
@@ -64,7 +65,7 @@ loop-again c =
     let e = toZ-ofZ (add-sum c) ∙ next-is c in (
       omega arith,
       e ∙ ap (λ z. z +ℤ at (a .heights .now) (l .i)) (l .inv .1) ∙ sym (sum-take (a .heights .now) (l .i) (omega arith)),
-      subst (Within (8388608 * (l .i + 1))) (sym e) (next c .1),
+      subst (Within (stepLimit * (l .i + 1))) (sym e) (next c .1),
     )
 
 returns : tie.Need-returns Inv-loop μ-loop

@@ -7,6 +7,7 @@ use lib.IntN.{pos, _+ℤ_}
 use mir.Syntax.{w32}
 use mir.Val.{SFits, toZ, ofZ}
 use mir.Facts.{toZ-ofZ}
+use Rattle.rules.specs.Limits.{offsetLimit}
 use Rattle.integers.specs.Machine.{fit}
 use Rattle.rules.specs.Table.{at}
 use Rattle.rules.specs.Round.{values}
@@ -74,7 +75,7 @@ add-offsets : tie.Need-add-offsets Inv-loop μ-loop
 add-offsets c =
     let start = c .before .before .before .before .before in
     let l = c .before .before .before .before .loop in
-    subst (SFits w32) (sym (sum-is c)) (value-fits _ _ (within-at 4096 (start .args .spins .now) (start .pre .2) (getD (start .args .members .now) (l .i) 0)) (within-at 8380416 (start .args .offsets .now) (start .pre .3) (l .i)))
+    subst (SFits w32) (sym (sum-is c)) (value-fits _ _ (within-at 4096 (start .args .spins .now) (start .pre .2) (getD (start .args .members .now) (l .i) 0)) (within-at offsetLimit (start .args .offsets .now) (start .pre .3) (l .i)))
 
 mul-t16 : tie.Need-mul-t16 Inv-loop μ-loop
 mul-t16 c = omega arith

@@ -7,6 +7,7 @@ use lib.IntN.{_-ℤ_}
 use mir.Syntax.{w32}
 use mir.Val.{SFits, toZ, ofZ}
 use mir.Facts.{toZ-ofZ}
+use Rattle.rules.specs.Limits.{valueLimit}
 use Rattle.integers.specs.Linear.{Within}
 use Rattle.integers.specs.Clip.{clip-within}
 use Rattle.integers.specs.Machine.{fit}
@@ -47,11 +48,11 @@ value c =
     toZ-ofZ (fit w32 (at (l .offsets) (l .i)) (c .v .given))
     ∙ moving-at (start .args .b) (start .args .mask) (start .args .copies .now) (start .args .offsets .now) (start .pre) (l .i) (l .copies) (l .offsets) (l .inv)
 
-small : (c : tie.At-loop Inv-loop μ-loop) → Within 8384512 (at (c .before .args .offsets .now) (c .loop .i))
-small c = within-at 8384512 (c .before .args .offsets .now) (c .before .pre .small) (c .loop .i)
+small : (c : tie.At-loop Inv-loop μ-loop) → Within valueLimit (at (c .before .args .offsets .now) (c .loop .i))
+small c = within-at valueLimit (c .before .args .offsets .now) (c .before .pre .small) (c .loop .i)
 
 moved-requires : tie.Need-moved-requires Inv-loop μ-loop
-moved-requires c κs = (subst (Within 8384512) (sym (value (c .before))) (small (c .before .before .before)), c .before .before .before .before .pre .bounded)
+moved-requires c κs = (subst (Within valueLimit) (sym (value (c .before))) (small (c .before .before .before)), c .before .before .before .before .pre .bounded)
 
 mul-z : tie.Need-mul-z Inv-loop μ-loop
 mul-z c = omega (arith, long (c .before .before .before .before))

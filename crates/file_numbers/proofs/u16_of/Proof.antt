@@ -1,8 +1,8 @@
 -- `u16_of` meets its contract. Assumes nothing.
 use native.Mathlib.Omega.{arith}
 use borrow.Author.Needs.{needs}
-use Rattle.table.proofs.numbers.u16_of.Statement.{statement}
-use Rattle.table.proofs.numbers.u16_of.Tie as tie
+use Rattle.file_numbers.proofs.u16_of.Statement.{statement}
+use Rattle.file_numbers.proofs.u16_of.Tie as tie
 
 mul-result : tie.Need-mul-result
 mul-result c = search needs
