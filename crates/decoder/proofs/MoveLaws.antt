@@ -1,5 +1,5 @@
 -- One check's new copies and offsets: what they ask of 32-bit words, and the loop that leaves them, place by place. Assumes nothing.
-use mathlib.Core.Path.{_≡_, sym, _∙_, ap}
+use mathlib.Core.Path.{_≡_, sym, _∙_, ap, subst}
 use mathlib.Core.Bool.{Bool}
 use mathlib.Core.List.{List}
 use Prim.Native.Nat.{ℕ, _+_, _/_, _%_, _^_, _≤_, _<_}
@@ -86,3 +86,7 @@ module _ (b m : ℕ) (z₀ v : List ℤ) (f : MoveFits b z₀ v) where
       g .copies ∙ fill-all i (newCopies b m v) z₀ copies-same (omega (arith, f .copiesLong, g .few)),
       g .offsets ∙ fill-all i (newOffsets b m v) v offsets-same (omega (arith, g .few)),
     )
+
+-- with the two numbers stored
+pub moving-stored : (b m : ℕ) (z₀ v : List ℤ) (i : ℕ) {z z' y y' : List ℤ} → z' ≡ z → y' ≡ y → Moving b m z₀ v i z y → Moving b m z₀ v i z' y'
+moving-stored b m z₀ v i {z} {z'} {y} {y'} p q h = subst (λ x. Moving b m z₀ v i x y') (sym p) (subst (Moving b m z₀ v i z) (sym q) h)

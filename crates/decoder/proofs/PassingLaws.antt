@@ -33,7 +33,7 @@ pub record Passing (f : ℕ → ℤ) (ss ms : List ℕ) (q₀ q : Passed) (j : �
   pub multipliers : q .multipliers ≡ fill j (passed f (checksFrom ss ms) (q₀ .offsets) .multipliers) (q₀ .multipliers)
   pub masks : q .masks ≡ fill j (passed f (checksFrom ss ms) (q₀ .offsets) .masks) (q₀ .masks)
 
-passed-eq : {a a' b b' : List ℤ} {c c' d d' : List ℕ} → a ≡ a' → b ≡ b' → c ≡ c' → d ≡ d'
+pub passed-eq : {a a' b b' : List ℤ} {c c' d d' : List ℕ} → a ≡ a' → b ≡ b' → c ≡ c' → d ≡ d'
     → _≡_ {A = Passed} (record { copies = a; offsets = b; multipliers = c; masks = d }) (record { copies = a'; offsets = b'; multipliers = c'; masks = d' })
 passed-eq p q r s = λ i. record { copies = p i; offsets = q i; multipliers = r i; masks = s i }
 

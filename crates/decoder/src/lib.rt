@@ -12,6 +12,7 @@ mod perform;
 mod round;
 mod spins;
 mod step;
+mod store;
 
 use limits::MAX_CHECKS;
 use limits::MAX_EDGES;

@@ -1,5 +1,6 @@
 // The pass over all checks, in order.
 use super::step::step;
+use super::store::store;
 ghost use mathlib.Core.Path.{_≡_};
 ghost use Prim.Native.Nat.{_+_, _<_};
 ghost use lib.ListN.{length, getD};
@@ -28,8 +29,8 @@ fn pass_one(
     let a = starts[j] as usize;
     let e = starts[j + 1] as usize;
     let entry = step(spins, &members[a..e], &mut copies[a..e], &mut offsets[a..e]);
-    multipliers[j] = entry.multiplier;
-    masks[j] = entry.mask;
+    store(multipliers, j, entry.multiplier);
+    store(masks, j, entry.mask);
 }
 
 // All checks, as a loaded table has them: steps 2 and 3 of a round.

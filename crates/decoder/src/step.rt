@@ -2,6 +2,7 @@
 use super::common::COMMON_DEGREE;
 use super::mask::holds;
 use super::multiplier::least_multiplier;
+use super::store::store_signed;
 use cut::clip;
 ghost use mathlib.Core.Path.{_≡_};
 ghost use Prim.Native.Nat.{_≤_};
@@ -68,8 +69,9 @@ fn move_all(mask: u32, b: u32, copies: &mut [i32], offsets: &mut [i32])
     while i < offsets.len() {
         let v = offsets[i];
         let z = moved(v, holds(mask, i), b);
-        copies[i] = z;
-        offsets[i] = v - z;
+        let y = v - z;
+        store_signed(copies, i, z);
+        store_signed(offsets, i, y);
         i += 1;
     }
 }

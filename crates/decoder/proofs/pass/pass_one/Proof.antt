@@ -1,10 +1,11 @@
 -- `pass_one` meets its contract: the check's step on its parts, put back. Assumes nothing.
-use mathlib.Core.Path.{ap}
+use mathlib.Core.Path.{refl, _∙_, ap}
 use Prim.Native.Nat.{_+_}
 use lib.ListN.{getD}
 use borrow.Author.Needs.{needs}
 use Rattle.decoder.specs.Stepped.{Stepped}
 use Rattle.decoder.specs.Parts.{part, splice, placed, onePassed}
+use Rattle.decoder.proofs.PassingLaws.{passed-eq}
 use Rattle.decoder.proofs.pass.pass_one.Statement.{statement}
 use Rattle.decoder.proofs.pass.pass_one.Tie as tie
 
@@ -69,17 +70,11 @@ step-requires : tie.Need-step-requires
 unfolding part
 step-requires c κs = c .before .before .before .before .before .before .before .before .before .pre .1 .step
 
-mul-multipliers : tie.Need-mul-multipliers
-mul-multipliers c = search needs
+store-requires : tie.Need-store-requires
+store-requires c κs = c .before .before .before .before .before .before .before .before .before .before .before .before .before .pre .1 .multiplierThere
 
-slice-write-multipliers : tie.Need-slice-write-multipliers
-slice-write-multipliers c = search needs
-
-mul-masks : tie.Need-mul-masks
-mul-masks c = search needs
-
-slice-write-masks : tie.Need-slice-write-masks
-slice-write-masks c = search needs
+store-requires-2 : tie.Need-store-requires-2
+store-requires-2 c κs = c .before .before .before .before .before .before .before .before .before .before .before .before .before .before .before .before .before .pre .1 .maskThere
 
 same-length : tie.Need-same-length
 same-length c = search needs
@@ -96,9 +91,10 @@ same-length-4 c = search needs
 returns : tie.Need-returns
 unfolding onePassed part splice
 returns c =
-    let a = c .before .before .before .before .before .before .before .before .before .before .before .before .args in
-    ap (λ (t : Stepped). placed (a .j) (getD (a .starts .now) (a .j) 0) (getD (a .starts .now) (a .j + 1) 0) t
-    (record { copies = a .copies .now; offsets = a .offsets .now; multipliers = a .multipliers .now; masks = a .masks .now })) (c .before .before .step .ensures)
+    let a = c .before .before .before .before .before .before .before .before .before .before .before .before .before .before .before .before .before .before .before .before .args in
+    passed-eq refl refl (c .before .before .before .before .before .before .store .ensures) (c .before .before .store2 .ensures)
+    ∙ ap (λ (t : Stepped). placed (a .j) (getD (a .starts .now) (a .j) 0) (getD (a .starts .now) (a .j + 1) 0) t
+    (record { copies = a .copies .now; offsets = a .offsets .now; multipliers = a .multipliers .now; masks = a .masks .now })) (c .before .before .before .before .before .before .before .before .before .before .step .ensures)
 
 pub pass-one-spec : {M : Type 1} → statement M
 pass-one-spec =
@@ -124,10 +120,8 @@ pass-one-spec =
     part-step-start-3
     part-step-end-3
     step-requires
-    mul-multipliers
-    slice-write-multipliers
-    mul-masks
-    slice-write-masks
+    store-requires
+    store-requires-2
     same-length
     same-length-2
     same-length-3

@@ -14,7 +14,7 @@ use Rattle.integers.specs.Machine.{fit}
 use Rattle.rules.specs.Table.{at}
 use Rattle.rules.specs.Step.{move}
 use Rattle.rules.proofs.Optimal.{within-at}
-use Rattle.decoder.proofs.MoveLaws.{offset-fits, Moving, moving-first, moving-long, moving-at, moving-next, moving-last}
+use Rattle.decoder.proofs.MoveLaws.{offset-fits, Moving, moving-first, moving-long, moving-at, moving-next, moving-stored, moving-last}
 use Rattle.decoder.proofs.step.move_all.Statement.{statement}
 use Rattle.decoder.proofs.step.move_all.Tie as tie
 
@@ -54,38 +54,34 @@ small c = within-at valueLimit (c .before .args .offsets .now) (c .before .pre .
 moved-requires : tie.Need-moved-requires Inv-loop μ-loop
 moved-requires c κs = (subst (Within valueLimit) (sym (value (c .before))) (small (c .before .before .before)), c .before .before .before .before .pre .bounded)
 
-mul-z : tie.Need-mul-z Inv-loop μ-loop
-mul-z c = omega (arith, long (c .before .before .before .before))
-
-slice-set-from-z : tie.Need-slice-set-from-z Inv-loop μ-loop
-slice-set-from-z c = omega (arith, long (c .before .before .before .before))
-
 copy : (c : tie.After-moved Inv-loop μ-loop)
     → toZ w32 (ofZ w32 (c .moved .result)) ≡ move 4096 (c .before .before .before .before .before .args .b) (c .before .holds .result) (at (c .before .before .before .before .before .args .offsets .now) (c .before .before .before .before .loop .i))
 copy c = toZ-ofZ (fit w32 (c .moved .result) (c .moved .ok)) ∙ c .moved .ensures ∙ ap (move 4096 (c .before .before .before .before .before .args .b) (c .before .holds .result)) (value (c .before .before))
 
-sub-offsets : tie.Need-sub-offsets Inv-loop μ-loop
-sub-offsets c = subst (SFits w32) (sym (ap₂ _-ℤ_ (value (c .before .before)) (copy c))) (offset-fits _ _ (small (c .before .before .before .before)) (clip-within 4096 _))
+sub-y : tie.Need-sub-y Inv-loop μ-loop
+sub-y c = subst (SFits w32) (sym (ap₂ _-ℤ_ (value (c .before .before)) (copy c))) (offset-fits _ _ (small (c .before .before .before .before)) (clip-within 4096 _))
 
-mul-t8 : tie.Need-mul-t8 Inv-loop μ-loop
-mul-t8 c = omega (arith, long (c .before .before .before .before))
+store-signed-requires : tie.Need-store-signed-requires Inv-loop μ-loop
+store-signed-requires c κs = omega (arith, long (c .before .before .before .before .before), c .before .before .before .before .loop-test)
 
-slice-set-from-offsets : tie.Need-slice-set-from-offsets Inv-loop μ-loop
-slice-set-from-offsets c = omega arith
+store-signed-requires-2 : tie.Need-store-signed-requires-2 Inv-loop μ-loop
+store-signed-requires-2 c κs = omega (arith, long (c .before .before .before .before .before .before .before .before), c .before .before .before .before .before .before .before .loop-test)
 
 add-i : tie.Need-add-i Inv-loop μ-loop
-add-i c = omega (arith, long (c .before .before .before .before))
+add-i c = omega (arith, long (c .before .before .before .before .before .before .before .before .before .before), c .before .before .before .before .before .before .before .before .before .loop-test)
 
 loop-less : tie.Need-loop-less Inv-loop μ-loop
-loop-less c = omega (arith, long (c .before .before .before .before))
+loop-less c = omega (arith, long (c .before .before .before .before .before .before .before .before .before .before), c .before .before .before .before .before .before .before .before .before .loop-test)
 
 loop-again : tie.Need-loop-again Inv-loop μ-loop
 loop-again c =
-    let start = c .before .before .before .before .before in
-    let l = c .before .before .before .before .loop in
-    let inside : l .i < length (start .args .offsets .now) = omega (arith, long (c .before .before .before .before)) in
-    moving-next (start .args .b) (start .args .mask) (start .args .copies .now) (start .args .offsets .now) (start .pre) (l .i) (l .copies) (l .offsets) (l .inv)
-    (c .before .holds .result) _ _ inside (c .before .holds .ensures) (copy c) (toZ-ofZ (sub-offsets c) ∙ ap (λ v. v -ℤ toZ w32 (ofZ w32 (c .moved .result))) (value (c .before .before)))
+    let start = c .before .before .before .before .before .before .before .before .before .before .before in
+    let l = c .before .before .before .before .before .before .before .before .before .before .loop in
+    let moved = c .before .before .before .before .before .before in
+    let inside : l .i < length (start .args .offsets .now) = omega (arith, long (c .before .before .before .before .before .before .before .before .before .before), c .before .before .before .before .before .before .before .before .before .loop-test) in
+    moving-stored _ _ _ _ _ (c .before .before .before .before .store-signed .ensures) (c .before .store-signed2 .ensures)
+    (moving-next (start .args .b) (start .args .mask) (start .args .copies .now) (start .args .offsets .now) (start .pre) (l .i) (l .copies) (l .offsets) (l .inv)
+    (moved .before .holds .result) _ _ inside (moved .before .holds .ensures) (copy moved) (toZ-ofZ (sub-y moved) ∙ ap (λ v. v -ℤ toZ w32 (ofZ w32 (moved .moved .result))) (value (moved .before .before))))
 
 same-length : tie.Need-same-length Inv-loop μ-loop
 same-length c = omega (arith, long (c .before), c .before .before .pre .copiesLong)
@@ -110,11 +106,9 @@ move-all-spec =
     slice-copy-out-v
     holds-requires
     moved-requires
-    mul-z
-    slice-set-from-z
-    sub-offsets
-    mul-t8
-    slice-set-from-offsets
+    sub-y
+    store-signed-requires
+    store-signed-requires-2
     add-i
     loop-less
     loop-again
