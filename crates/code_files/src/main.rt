@@ -1,7 +1,8 @@
 // Runs code files through table::check. Standard input holds records: a 32-bit length L, at most
 // 30,000, and L bytes, a code file. Each gets a line, `bits N checks M edges E` or `refused K`. The
 // end of the input, a longer record or one that is cut short ends the program.
-use libc::STDOUT_FILENO;
+use stream::Part;
+use stream::print;
 use stream::print_number;
 use stream::read_part;
 use table::Checked;
@@ -21,31 +22,27 @@ fn print_answer(answer: Checked) {
             print_number(b" edges ", edges as u64);
         }
     }
-    io::write_all(STDOUT_FILENO, b"\n");
+    print(b"\n");
 }
 
 // One record: false where it is not whole.
-fn one_record(file: &mut [u8]) -> bool {
-    let size = read_part(file);
-    if file.len() < size {
+fn one_record() -> bool {
+    let mut file = [0u8; RECORD_LIMIT];
+    let part = read_part(&mut file);
+    let Part::Whole(size) = part else {
         return false;
-    }
+    };
     print_answer(table::check(&file[..size]));
     true
 }
 
 // The budget is a number that no input uses up.
-fn all_records(file: &mut [u8]) {
+fn main() {
     let mut left: u64 = 0x1_0000_0000_0000;
     while 0 < left {
-        if !one_record(file) {
+        if !one_record() {
             return;
         }
         left -= 1;
     }
-}
-
-fn main() {
-    let mut file = [0u8; RECORD_LIMIT];
-    all_records(&mut file);
 }

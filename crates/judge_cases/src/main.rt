@@ -7,7 +7,8 @@
 use judge::Agreed;
 use judge::Parity;
 use judge::Verdict;
-use libc::STDOUT_FILENO;
+use stream::Part;
+use stream::print;
 use stream::print_number;
 use stream::print_signed;
 use stream::read_i16_part;
@@ -25,11 +26,9 @@ fn print_verdict(answer: Verdict) {
     match answer {
         Verdict::Refused(k) => print_number(b"refused ", k as u64),
         Verdict::Broken(j) => print_number(b"broken ", j as u64),
-        Verdict::Certified => {
-            io::write_all(STDOUT_FILENO, b"certified");
-        }
+        Verdict::Certified => print(b"certified"),
         Verdict::Gap(g) => {
-            io::write_all(STDOUT_FILENO, b"gap ");
+            print(b"gap ");
             print_signed(g);
         }
     }
@@ -38,9 +37,7 @@ fn print_verdict(answer: Verdict) {
 fn print_parity(answer: Parity) {
     match answer {
         Parity::Refused(k) => print_number(b"refused ", k as u64),
-        Parity::Met => {
-            io::write_all(STDOUT_FILENO, b"met");
-        }
+        Parity::Met => print(b"met"),
         Parity::Broken(j) => print_number(b"broken ", j as u64),
     }
 }
@@ -54,53 +51,53 @@ fn print_agreed(answer: Agreed) {
 
 fn print_answers(code: &[u8], frame: &[i16], word: &[u8], certificate: &[u8]) {
     print_verdict(judge::judge(code, frame, word, certificate));
-    io::write_all(STDOUT_FILENO, b" ; ");
+    print(b" ; ");
     print_parity(judge::syndrome(code, word));
-    io::write_all(STDOUT_FILENO, b" ; ");
+    print(b" ; ");
     print_agreed(judge::agreement(code, frame, word));
-    io::write_all(STDOUT_FILENO, b"\n");
+    print(b"\n");
 }
 
 // The rest of a record, part by part: false where it is not whole.
 fn with_word(code: &[u8], frame: &[i16], word: &[u8]) -> bool {
     let mut certificate = [0u8; CERTIFICATE_LIMIT];
-    let size = read_part(&mut certificate);
-    if CERTIFICATE_LIMIT < size {
+    let part = read_part(&mut certificate);
+    let Part::Whole(size) = part else {
         return false;
-    }
+    };
     print_answers(code, frame, word, &certificate[..size]);
     true
 }
 
 fn with_frame(code: &[u8], frame: &[i16]) -> bool {
     let mut word = [0u8; WORD_LIMIT];
-    let size = read_part(&mut word);
-    if WORD_LIMIT < size {
+    let part = read_part(&mut word);
+    let Part::Whole(size) = part else {
         return false;
-    }
+    };
     with_word(code, frame, &word[..size])
 }
 
 fn with_code(code: &[u8]) -> bool {
     let mut frame = [0i16; FRAME_LIMIT];
-    let count = read_i16_part(&mut frame);
-    if FRAME_LIMIT < count {
+    let part = read_i16_part(&mut frame);
+    let Part::Whole(count) = part else {
         return false;
-    }
+    };
     with_frame(code, &frame[..count])
 }
 
 fn one_record() -> bool {
     let mut code = [0u8; CODE_LIMIT];
-    let size = read_part(&mut code);
-    if CODE_LIMIT < size {
+    let part = read_part(&mut code);
+    let Part::Whole(size) = part else {
         return false;
-    }
+    };
     with_code(&code[..size])
 }
 
 // The budget is a number that no input uses up.
-fn all_records() {
+fn main() {
     let mut left: u64 = 0x1_0000_0000_0000;
     while 0 < left {
         if !one_record() {
@@ -108,8 +105,4 @@ fn all_records() {
         }
         left -= 1;
     }
-}
-
-fn main() {
-    all_records();
 }

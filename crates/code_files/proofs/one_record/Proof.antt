@@ -2,32 +2,33 @@
 use native.Mathlib.Omega.{arith}
 use lib.ListN.{length-take}
 use borrow.Author.Needs.{needs}
+use Rattle.stream.proofs.PartLaws.{part-fits}
 use Rattle.code_files.proofs.one_record.Statement.{statement}
 use Rattle.code_files.proofs.one_record.Tie as tie
+
+slice-aggregate-read-part : tie.Need-slice-aggregate-read-part
+slice-aggregate-read-part c = search needs
 
 read-part-requires : tie.Need-read-part-requires
 read-part-requires c κs = search needs
 
-same-length : tie.Need-same-length
-same-length c = search needs
+enum-known-part : tie.Need-enum-known-part
+enum-known-part c = search needs
 
 returns : tie.Need-returns
 returns c = search needs
 
-slice-reshare-prefix-check : tie.Need-slice-reshare-prefix-check
-slice-reshare-prefix-check c = search needs
+array-share-prefix-file : tie.Need-array-share-prefix-file
+array-share-prefix-file c = search part-fits
 
 slice-aggregate-check : tie.Need-slice-aggregate-check
-slice-aggregate-check c = simp length-take (omega arith)
+slice-aggregate-check c = simp length-take (omega (arith, array-share-prefix-file (c .before)))
 
 check-requires : tie.Need-check-requires
 check-requires c κs = search needs
 
 print-answer-requires : tie.Need-print-answer-requires
 print-answer-requires c κs = search needs
-
-same-length-2 : tie.Need-same-length-2
-same-length-2 c = search needs
 
 returns-2 : tie.Need-returns-2
 returns-2 c = search needs
@@ -36,12 +37,12 @@ pub one-record-spec : {M : Type 1} → statement M
 one-record-spec =
     tie.close
     (tie.spec
+    slice-aggregate-read-part
     read-part-requires
-    same-length
+    enum-known-part
     returns
-    slice-reshare-prefix-check
+    array-share-prefix-file
     slice-aggregate-check
     check-requires
     print-answer-requires
-    same-length-2
     returns-2)

@@ -1,7 +1,8 @@
--- `one_record` meets its contract: a part of the buffer is as long as the record says. Assumes nothing.
+-- `one_record` meets its contract: the part is the front of the buffer. Assumes nothing.
 use native.Mathlib.Omega.{arith}
 use lib.ListN.{length-take}
 use borrow.Author.Needs.{needs}
+use Rattle.stream.proofs.PartLaws.{part-fits}
 use Rattle.judge_cases.proofs.one_record.Statement.{statement}
 use Rattle.judge_cases.proofs.one_record.Tie as tie
 
@@ -11,14 +12,17 @@ slice-aggregate-read-part c = search needs
 read-part-requires : tie.Need-read-part-requires
 read-part-requires c κs = search needs
 
+enum-known-part : tie.Need-enum-known-part
+enum-known-part c = search needs
+
 returns : tie.Need-returns
 returns c = search needs
 
 array-share-prefix-code : tie.Need-array-share-prefix-code
-array-share-prefix-code c = search needs
+array-share-prefix-code c = search part-fits
 
 slice-aggregate-with-code : tie.Need-slice-aggregate-with-code
-slice-aggregate-with-code c = simp length-take (omega arith)
+slice-aggregate-with-code c = simp length-take (omega (arith, array-share-prefix-code (c .before)))
 
 with-code-requires : tie.Need-with-code-requires
 with-code-requires c κs = search needs
@@ -32,6 +36,7 @@ one-record-spec =
     (tie.spec
     slice-aggregate-read-part
     read-part-requires
+    enum-known-part
     returns
     array-share-prefix-code
     slice-aggregate-with-code

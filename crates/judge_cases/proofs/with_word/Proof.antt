@@ -1,7 +1,8 @@
--- `with_word` meets its contract: a part of the buffer is as long as the record says. Assumes nothing.
+-- `with_word` meets its contract: the part is the front of the buffer. Assumes nothing.
 use native.Mathlib.Omega.{arith}
 use lib.ListN.{length-take}
 use borrow.Author.Needs.{needs}
+use Rattle.stream.proofs.PartLaws.{part-fits}
 use Rattle.judge_cases.proofs.with_word.Statement.{statement}
 use Rattle.judge_cases.proofs.with_word.Tie as tie
 
@@ -11,14 +12,17 @@ slice-aggregate-read-part c = search needs
 read-part-requires : tie.Need-read-part-requires
 read-part-requires c κs = search needs
 
+enum-known-part : tie.Need-enum-known-part
+enum-known-part c = search needs
+
 returns : tie.Need-returns
 returns c = search needs
 
 array-share-prefix-certificate : tie.Need-array-share-prefix-certificate
-array-share-prefix-certificate c = search needs
+array-share-prefix-certificate c = search part-fits
 
 slice-aggregate-print-answers : tie.Need-slice-aggregate-print-answers
-slice-aggregate-print-answers c = simp length-take (omega arith)
+slice-aggregate-print-answers c = simp length-take (omega (arith, array-share-prefix-certificate (c .before)))
 
 print-answers-requires : tie.Need-print-answers-requires
 print-answers-requires c κs = search needs
@@ -32,6 +36,7 @@ with-word-spec =
     (tie.spec
     slice-aggregate-read-part
     read-part-requires
+    enum-known-part
     returns
     array-share-prefix-certificate
     slice-aggregate-print-answers

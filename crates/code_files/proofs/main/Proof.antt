@@ -1,7 +1,7 @@
--- `all_records` meets its contract: the budget falls with each record. Assumes nothing.
+-- `main` meets its contract: the budget falls with each record. Assumes nothing.
 use borrow.Author.Needs.{needs}
-use Rattle.judge_cases.proofs.all_records.Statement.{statement}
-use Rattle.judge_cases.proofs.all_records.Tie as tie
+use Rattle.code_files.proofs.main.Statement.{statement}
+use Rattle.code_files.proofs.main.Tie as tie
 
 abbrev Inv-loop : tie.InvT-loop
 Inv-loop left₀ left = Unit {0}
@@ -30,8 +30,8 @@ loop-again c = tt
 returns-2 : tie.Need-returns-2 Inv-loop μ-loop
 returns-2 c = tt
 
-pub all-records-spec : {M : Type 1} → statement M
-all-records-spec =
+pub main-spec : {M : Type 1} → statement M
+main-spec =
     tie.close
     (tie.spec
     Inv-loop
