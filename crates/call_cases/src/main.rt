@@ -10,22 +10,23 @@
 //     5 put     1 for copies or 2 for offsets; an index and an element
 //
 // A start and a call for rounds get a line: the answer, the record of the run and a checksum of the
-// seven whole buffers. The end of the input or fields that are cut short end the program.
+// seven whole buffers. A code file or a frame that is not whole is empty. The end of the input or
+// fields that are cut short end the program.
 mod calls;
 mod checksum;
-mod fields;
-mod fill;
+mod command;
 mod print;
 
-use calls::call;
-use fields::HEAD_LIMIT;
-use fields::lent;
-use fields::read_head;
-use fill::set_buffers;
-use libc::STDIN_FILENO;
+use calls::put;
+use calls::rounds;
+use calls::start;
+use command::Command;
+use command::read_command;
+use print::end_line;
 use run::Record;
-ghost use Prim.Native.Nat.{_≤_};
-ghost use lib.ListN.{length};
+use stream::read_i16_part;
+use stream::read_part;
+use stream::whole;
 
 const CODE_LIMIT: usize = 30000;
 
@@ -37,143 +38,8 @@ const CHECKS: usize = 2100;
 
 const CERTIFICATE: usize = 20600;
 
-// How long the code file and the frame are.
-struct Sizes {
-    code: usize,
-    frame: usize,
-}
-
-struct State {
-    run: Record,
-    sizes: Sizes,
-}
-
-fn read_code(head: &[u8], code: &mut [u8]) -> usize
-    requires { ⌜ 33 ≤ length (now head) ⌝ }
-    ensures { λ r. ⌜ r ≤ length (now (code .entry)) ⌝ }
-{
-    let size = lent(head, 1, code.len());
-    io::read_full(STDIN_FILENO, &mut code[..size]);
-    size
-}
-
-fn read_frame(head: &[u8], frame: &mut [i16]) -> usize
-    requires { ⌜ 33 ≤ length (now head) ⌝ }
-    ensures { λ r. ⌜ r ≤ length (now (frame .entry)) ⌝ }
-{
-    let count = lent(head, 1, frame.len());
-    stream::read_i16(&mut frame[..count]);
-    count
-}
-
-// The code file and the frame after operation 1 or 2. Others change nothing.
-fn read_inputs(head: &[u8], sizes: Sizes, code: &mut [u8], frame: &mut [i16]) -> Sizes
-    requires { ⌜ (33 ≤ length (now head)) × ((sizes .code ≤ length (now code)) × (sizes .frame ≤ length (now frame))) ⌝ }
-    ensures { λ r. ⌜ (r .code ≤ length (now (code .entry))) × (r .frame ≤ length (now (frame .entry))) ⌝ }
-{
-    let operation = head[0];
-    match operation {
-        1 => Sizes {
-            code: read_code(head, code),
-            frame: sizes.frame,
-        },
-        2 => Sizes {
-            code: sizes.code,
-            frame: read_frame(head, frame),
-        },
-        _ => sizes,
-    }
-}
-
-fn step(
-    head: &[u8],
-    state: State,
-    code: &mut [u8],
-    frame: &mut [i16],
-    spins: &mut [i32],
-    copies: &mut [i32],
-    offsets: &mut [i32],
-    multipliers: &mut [u32],
-    masks: &mut [u32],
-    word: &mut [u8],
-    certificate: &mut [u8],
-) -> State
-    requires { ⌜ (33 ≤ length (now head)) × ((state .sizes .code ≤ length (now code)) × (state .sizes .frame ≤ length (now frame))) ⌝ }
-    ensures { λ r. ⌜ (r .sizes .code ≤ length (now (code .entry))) × (r .sizes .frame ≤ length (now (frame .entry))) ⌝ }
-{
-    let before = state.run;
-    let sizes = state.sizes;
-    let size = sizes.code;
-    let count = sizes.frame;
-    let set = set_buffers(
-        head,
-        before,
-        spins,
-        copies,
-        offsets,
-        multipliers,
-        masks,
-        word,
-        certificate,
-    );
-    let run = call(
-        head,
-        set,
-        &code[..size],
-        &frame[..count],
-        spins,
-        copies,
-        offsets,
-        multipliers,
-        masks,
-        word,
-        certificate,
-    );
-    State {
-        run,
-        sizes: read_inputs(head, sizes, code, frame),
-    }
-}
-
-// The budget is a number that no input uses up.
-fn play(
-    code: &mut [u8],
-    frame: &mut [i16],
-    spins: &mut [i32],
-    copies: &mut [i32],
-    offsets: &mut [i32],
-    multipliers: &mut [u32],
-    masks: &mut [u32],
-    word: &mut [u8],
-    certificate: &mut [u8],
-) {
-    let mut state = State {
-        run: Record::fresh(),
-        sizes: Sizes { code: 0, frame: 0 },
-    };
-    let mut left: u64 = 0x1_0000_0000_0000;
-    while 0 < left {
-        let mut head = [0u8; HEAD_LIMIT];
-        if !read_head(&mut head) {
-            return;
-        }
-        state = step(
-            &head,
-            state,
-            code,
-            frame,
-            spins,
-            copies,
-            offsets,
-            multipliers,
-            masks,
-            word,
-            certificate,
-        );
-        left -= 1;
-    }
-}
-
+// A call has begun a line, which ends before the next command is read. The budget is a number that no
+// input uses up.
 fn main() {
     let mut code = [0u8; CODE_LIMIT];
     let mut frame = [0i16; BITS];
@@ -184,15 +50,62 @@ fn main() {
     let mut masks = [0u32; CHECKS];
     let mut word = [0u8; BITS];
     let mut certificate = [0u8; CERTIFICATE];
-    play(
-        &mut code,
-        &mut frame,
-        &mut spins,
-        &mut copies,
-        &mut offsets,
-        &mut multipliers,
-        &mut masks,
-        &mut word,
-        &mut certificate,
-    );
+    let mut run = Record::fresh();
+    let mut size: usize = 0;
+    let mut count: usize = 0;
+    let mut begun = false;
+    let mut left: u64 = 0x1_0000_0000_0000;
+    while 0 < left {
+        left -= 1;
+        end_line(
+            begun,
+            run,
+            &spins,
+            &copies,
+            &offsets,
+            &multipliers,
+            &masks,
+            &word,
+            &certificate,
+        );
+        begun = false;
+        let command = read_command();
+        match command {
+            Command::End => return,
+            Command::Set(fill) => {
+                spins = [fill.spin; BITS];
+                copies = [fill.copy; EDGES];
+                offsets = [fill.offset; EDGES];
+                multipliers = [fill.multiplier; CHECKS];
+                masks = [fill.mask; CHECKS];
+                word = [fill.word; BITS];
+                certificate = [fill.certificate; CERTIFICATE];
+                run = fill.run;
+            }
+            Command::Code => size = whole(read_part(&mut code)),
+            Command::Frame => count = whole(read_i16_part(&mut frame)),
+            Command::Start(lent) => {
+                begun = true;
+                run = start(run, lent, &code[..size], &mut copies, &mut offsets);
+            }
+            Command::Rounds(wanted) => {
+                begun = true;
+                run = rounds(
+                    run,
+                    wanted,
+                    &code[..size],
+                    &frame[..count],
+                    &mut spins,
+                    &mut copies,
+                    &mut offsets,
+                    &mut multipliers,
+                    &mut masks,
+                    &mut word,
+                    &mut certificate,
+                );
+            }
+            Command::Put(element) => put(element, &mut copies, &mut offsets),
+            Command::Unknown => {}
+        }
+    }
 }

@@ -1,15 +1,11 @@
 // A call's line.
 use super::checksum::checksum;
 use decoder::Outcome;
-use libc::STDOUT_FILENO;
 use run::Record;
 use run::Started;
 use run::Status;
+use stream::print;
 use stream::print_number;
-
-fn print(text: &[u8]) {
-    io::write_all(STDOUT_FILENO, text);
-}
 
 // The record of the run after a start: `before` where it is refused.
 pub(crate) fn print_started(answer: Started, before: Record) -> Record {
@@ -42,7 +38,9 @@ fn print_status(status: Status) {
     }
 }
 
-pub(crate) fn print_state(
+// The rest of a call's line, if one has begun.
+pub(crate) fn end_line(
+    begun: bool,
     run: Record,
     spins: &[i32],
     copies: &[i32],
@@ -52,6 +50,9 @@ pub(crate) fn print_state(
     word: &[u8],
     certificate: &[u8],
 ) {
+    if !begun {
+        return;
+    }
     let rounds = run.rounds;
     let status = run.status;
     print_number(b" ", rounds as u64);

@@ -13,6 +13,12 @@ stored TooLong = 0
 stored (Cut n) = n
 stored (Whole n) = n
 
+abbrev pub wholeSize : Part → ℕ
+wholeSize Missing = 0
+wholeSize TooLong = 0
+wholeSize (Cut n) = 0
+wholeSize (Whole n) = n
+
 -- the buffer has room for n elements, keeps its length, and what is past the n stays
 pub record Front {A : Type 0} (n : ℕ) (new old : List A) : Type 0 where
   pub fits : n ≤ length old

@@ -12,7 +12,7 @@ ghost use mir.Syntax.{w16, w32};
 ghost use mir.Val.{toZ};
 ghost use Rattle.rules.specs.Buffers.{over};
 ghost use Rattle.stream.specs.Numbers.{numbersOf, bytesFor, Read, ReadNumbers, ReadFront};
-ghost use Rattle.stream.specs.Parts.{stored, PartRead};
+ghost use Rattle.stream.specs.Parts.{stored, wholeSize, PartRead};
 
 const NUMBERS_AT_ONCE: usize = 4096;
 
@@ -167,6 +167,18 @@ fn part_of(came: usize, size: usize) -> Part
         return Part::Cut(size);
     }
     Part::Whole(size)
+}
+
+// The size of a part that is whole, and 0 of any other.
+pub fn whole(part: Part) -> usize
+    ensures { λ r. ⌜ r ≡ wholeSize part ⌝ }
+{
+    match part {
+        Part::Missing => 0,
+        Part::TooLong => 0,
+        Part::Cut(_) => 0,
+        Part::Whole(size) => size,
+    }
 }
 
 // Reads a part of bytes.

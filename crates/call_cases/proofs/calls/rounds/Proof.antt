@@ -1,33 +1,30 @@
--- `rounds` meets its contract: a part that is lent is as long as the head says. Assumes nothing.
+-- `rounds` meets its contract: the parts that are lent have room. Assumes nothing.
 use native.Mathlib.Omega.{arith}
 use lib.ListN.{length-take}
 use borrow.Author.Needs.{needs}
 use Rattle.call_cases.proofs.calls.rounds.Statement.{statement}
 use Rattle.call_cases.proofs.calls.rounds.Tie as tie
 
-u32-at-requires : tie.Need-u32-at-requires
-u32-at-requires c κs = search needs
+least-requires : tie.Need-least-requires
+least-requires c κs = search needs
 
-lent-requires : tie.Need-lent-requires
-lent-requires c κs = search needs
+least-requires-2 : tie.Need-least-requires-2
+least-requires-2 c κs = search needs
 
-lent-requires-2 : tie.Need-lent-requires-2
-lent-requires-2 c κs = search needs
+least-requires-3 : tie.Need-least-requires-3
+least-requires-3 c κs = search needs
 
-lent-requires-3 : tie.Need-lent-requires-3
-lent-requires-3 c κs = search needs
+least-requires-4 : tie.Need-least-requires-4
+least-requires-4 c κs = search needs
 
-lent-requires-4 : tie.Need-lent-requires-4
-lent-requires-4 c κs = search needs
+least-requires-5 : tie.Need-least-requires-5
+least-requires-5 c κs = search needs
 
-lent-requires-5 : tie.Need-lent-requires-5
-lent-requires-5 c κs = search needs
+least-requires-6 : tie.Need-least-requires-6
+least-requires-6 c κs = search needs
 
-lent-requires-6 : tie.Need-lent-requires-6
-lent-requires-6 c κs = search needs
-
-lent-requires-7 : tie.Need-lent-requires-7
-lent-requires-7 c κs = search needs
+least-requires-7 : tie.Need-least-requires-7
+least-requires-7 c κs = search needs
 
 slice-relend-prefix-rounds : tie.Need-slice-relend-prefix-rounds
 slice-relend-prefix-rounds c = search needs
@@ -105,14 +102,13 @@ pub rounds-spec : {M : Type 1} → statement M
 rounds-spec =
     tie.close
     (tie.spec
-    u32-at-requires
-    lent-requires
-    lent-requires-2
-    lent-requires-3
-    lent-requires-4
-    lent-requires-5
-    lent-requires-6
-    lent-requires-7
+    least-requires
+    least-requires-2
+    least-requires-3
+    least-requires-4
+    least-requires-5
+    least-requires-6
+    least-requires-7
     slice-relend-prefix-rounds
     slice-aggregate-rounds
     slice-relend-prefix-rounds-2

@@ -1,15 +1,15 @@
--- `start` meets its contract: a part that is lent is as long as the head says. Assumes nothing.
+-- `start` meets its contract: the parts that are lent have room. Assumes nothing.
 use native.Mathlib.Omega.{arith}
 use lib.ListN.{length-take}
 use borrow.Author.Needs.{needs}
 use Rattle.call_cases.proofs.calls.start.Statement.{statement}
 use Rattle.call_cases.proofs.calls.start.Tie as tie
 
-lent-requires : tie.Need-lent-requires
-lent-requires c κs = search needs
+least-requires : tie.Need-least-requires
+least-requires c κs = search needs
 
-lent-requires-2 : tie.Need-lent-requires-2
-lent-requires-2 c κs = search needs
+least-requires-2 : tie.Need-least-requires-2
+least-requires-2 c κs = search needs
 
 slice-relend-prefix-start : tie.Need-slice-relend-prefix-start
 slice-relend-prefix-start c = search needs
@@ -42,8 +42,8 @@ pub start-spec : {M : Type 1} → statement M
 start-spec =
     tie.close
     (tie.spec
-    lent-requires
-    lent-requires-2
+    least-requires
+    least-requires-2
     slice-relend-prefix-start
     slice-aggregate-start
     slice-relend-prefix-start-2

@@ -1,12 +1,9 @@
--- `read_code` meets its contract: a part of the buffer is as long as the head says. Assumes nothing.
+-- `read_fields` meets its contract: the part that is lent has room. Assumes nothing.
 use native.Mathlib.Omega.{arith}
 use lib.ListN.{length-take}
 use borrow.Author.Needs.{needs}
-use Rattle.call_cases.proofs.read_code.Statement.{statement}
-use Rattle.call_cases.proofs.read_code.Tie as tie
-
-lent-requires : tie.Need-lent-requires
-lent-requires c κs = search needs
+use Rattle.call_cases.proofs.command.read_fields.Statement.{statement}
+use Rattle.call_cases.proofs.command.read_fields.Tie as tie
 
 slice-relend-prefix-read-full : tie.Need-slice-relend-prefix-read-full
 slice-relend-prefix-read-full c = search needs
@@ -23,11 +20,10 @@ same-length c = search needs
 returns : tie.Need-returns
 returns c = search needs
 
-pub read-code-spec : {M : Type 1} → statement M
-read-code-spec =
+pub read-fields-spec : {M : Type 1} → statement M
+read-fields-spec =
     tie.close
     (tie.spec
-    lent-requires
     slice-relend-prefix-read-full
     slice-aggregate-read-full
     read-full-requires
