@@ -2,7 +2,7 @@
 // all elements as unsigned numbers.
 use std::num::wrapping_add_u64;
 
-const FIRST: u64 = 14695981039346656037;
+pub(crate) const FIRST: u64 = 14695981039346656037;
 
 const HALF: u64 = 0x1_0000_0000;
 
@@ -16,7 +16,7 @@ fn unsigned(x: i32) -> u64 {
     (x as i64 + 0x1_0000_0000) as u64 % HALF
 }
 
-fn with_i32(start: u64, buffer: &[i32]) -> u64 {
+pub(crate) fn with_i32(start: u64, buffer: &[i32]) -> u64 {
     let mut h = start;
     let mut i: usize = 0;
     while i < buffer.len() {
@@ -26,7 +26,7 @@ fn with_i32(start: u64, buffer: &[i32]) -> u64 {
     h
 }
 
-fn with_u32(start: u64, buffer: &[u32]) -> u64 {
+pub(crate) fn with_u32(start: u64, buffer: &[u32]) -> u64 {
     let mut h = start;
     let mut i: usize = 0;
     while i < buffer.len() {
@@ -36,7 +36,7 @@ fn with_u32(start: u64, buffer: &[u32]) -> u64 {
     h
 }
 
-fn with_u8(start: u64, buffer: &[u8]) -> u64 {
+pub(crate) fn with_u8(start: u64, buffer: &[u8]) -> u64 {
     let mut h = start;
     let mut i: usize = 0;
     while i < buffer.len() {
@@ -44,18 +44,4 @@ fn with_u8(start: u64, buffer: &[u8]) -> u64 {
         i += 1;
     }
     h
-}
-
-pub(crate) fn checksum(
-    spins: &[i32],
-    copies: &[i32],
-    offsets: &[i32],
-    multipliers: &[u32],
-    masks: &[u32],
-    word: &[u8],
-    certificate: &[u8],
-) -> u64 {
-    let edges = with_i32(with_i32(with_i32(FIRST, spins), copies), offsets);
-    let cuts = with_u32(with_u32(edges, multipliers), masks);
-    with_u8(with_u8(cuts, word), certificate)
 }

@@ -55,7 +55,6 @@ pub(crate) enum Command {
     Start(Lent),
     Rounds(Wanted),
     Put(Element),
-    Unknown,
 }
 
 // A code file and a frame have their lengths with them.
@@ -142,7 +141,7 @@ fn command_of(operation: u8, fields: &[u8]) -> Command
             index: u32_at(fields, 1),
             value: i32_at(fields, 5),
         }),
-        _ => Command::Unknown,
+        _ => Command::End,
     }
 }
 
@@ -153,7 +152,7 @@ fn read_fields(fields: &mut [u8], size: usize) -> bool
     io::read_full(STDIN_FILENO, &mut fields[..size]) == size
 }
 
-// The end, too, where the fields are cut short.
+// The end, too, where the fields are cut short or the operation is none of these.
 pub(crate) fn read_command() -> Command {
     let mut fields = [0u8; FIELDS_LIMIT];
     if !read_fields(&mut fields, 1) {

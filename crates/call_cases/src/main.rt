@@ -10,8 +10,8 @@
 //     5 put     1 for copies or 2 for offsets; an index and an element
 //
 // A start and a call for rounds get a line: the answer, the record of the run and a checksum of the
-// seven whole buffers. A code file or a frame that is not whole is empty. The end of the input or
-// fields that are cut short end the program.
+// seven whole buffers. A code file or a frame that is not whole is empty. The end of the input, an
+// operation that is none of these or fields that are cut short end the program.
 mod calls;
 mod checksum;
 mod command;
@@ -105,7 +105,6 @@ fn main() {
                 );
             }
             Command::Put(element) => put(element, &mut copies, &mut offsets),
-            Command::Unknown => {}
         }
     }
 }

@@ -1,5 +1,8 @@
 // A call's line.
-use super::checksum::checksum;
+use super::checksum::FIRST;
+use super::checksum::with_i32;
+use super::checksum::with_u8;
+use super::checksum::with_u32;
 use decoder::Outcome;
 use run::Record;
 use run::Started;
@@ -57,15 +60,8 @@ pub(crate) fn end_line(
     let status = run.status;
     print_number(b" ", rounds as u64);
     print_status(status);
-    let sum = checksum(
-        spins,
-        copies,
-        offsets,
-        multipliers,
-        masks,
-        word,
-        certificate,
-    );
-    print_number(b" | ", sum);
+    let edges = with_i32(with_i32(with_i32(FIRST, spins), copies), offsets);
+    let cuts = with_u32(with_u32(edges, multipliers), masks);
+    print_number(b" | ", with_u8(with_u8(cuts, word), certificate));
     print(b"\n");
 }
