@@ -4,6 +4,7 @@ use super::command::Lent;
 use super::command::Wanted;
 use super::print::print_outcome;
 use super::print::print_started;
+use super::print::print_state;
 use run::Record;
 ghost use Prim.Native.Nat.{_≤_};
 
@@ -15,18 +16,37 @@ fn least(wanted: u32, capacity: usize) -> usize
     if capacity < n { capacity } else { n }
 }
 
+// A start, and its line.
 pub(crate) fn start(
-    run: Record,
+    before: Record,
     lent: Lent,
     code: &[u8],
+    spins: &[i32],
     copies: &mut [i32],
     offsets: &mut [i32],
+    multipliers: &[u32],
+    masks: &[u32],
+    word: &[u8],
+    certificate: &[u8],
 ) -> Record {
     let c = least(lent.copies, copies.len());
     let o = least(lent.offsets, offsets.len());
-    print_started(run::start(code, &mut copies[..c], &mut offsets[..o]), run)
+    let started = run::start(code, &mut copies[..c], &mut offsets[..o]);
+    let run = print_started(started, before);
+    print_state(
+        run,
+        spins,
+        copies,
+        offsets,
+        multipliers,
+        masks,
+        word,
+        certificate,
+    );
+    run
 }
 
+// A call for rounds, and its line.
 pub(crate) fn rounds(
     run: Record,
     wanted: Wanted,
@@ -63,6 +83,16 @@ pub(crate) fn rounds(
     let outcome = called.outcome;
     let after = called.run;
     print_outcome(outcome);
+    print_state(
+        after,
+        spins,
+        copies,
+        offsets,
+        multipliers,
+        masks,
+        word,
+        certificate,
+    );
     after
 }
 

@@ -22,7 +22,6 @@ use calls::rounds;
 use calls::start;
 use command::Command;
 use command::read_command;
-use print::end_line;
 use run::Record;
 use stream::read_i16_part;
 use stream::read_part;
@@ -38,8 +37,7 @@ const CHECKS: usize = 2100;
 
 const CERTIFICATE: usize = 20600;
 
-// A call has begun a line, which ends before the next command is read. The budget is a number that no
-// input uses up.
+// The budget is a number that no input uses up.
 fn main() {
     let mut code = [0u8; CODE_LIMIT];
     let mut frame = [0i16; BITS];
@@ -53,22 +51,9 @@ fn main() {
     let mut run = Record::fresh();
     let mut size: usize = 0;
     let mut count: usize = 0;
-    let mut begun = false;
     let mut left: u64 = 0x1_0000_0000_0000;
     while 0 < left {
         left -= 1;
-        end_line(
-            begun,
-            run,
-            &spins,
-            &copies,
-            &offsets,
-            &multipliers,
-            &masks,
-            &word,
-            &certificate,
-        );
-        begun = false;
         let command = read_command();
         match command {
             Command::End => return,
@@ -85,11 +70,20 @@ fn main() {
             Command::Code => size = whole(read_part(&mut code)),
             Command::Frame => count = whole(read_i16_part(&mut frame)),
             Command::Start(lent) => {
-                begun = true;
-                run = start(run, lent, &code[..size], &mut copies, &mut offsets);
+                run = start(
+                    run,
+                    lent,
+                    &code[..size],
+                    &spins,
+                    &mut copies,
+                    &mut offsets,
+                    &multipliers,
+                    &masks,
+                    &word,
+                    &certificate,
+                );
             }
             Command::Rounds(wanted) => {
-                begun = true;
                 run = rounds(
                     run,
                     wanted,

@@ -41,9 +41,8 @@ fn print_status(status: Status) {
     }
 }
 
-// The rest of a call's line, if one has begun.
-pub(crate) fn end_line(
-    begun: bool,
+// The rest of a call's line.
+pub(crate) fn print_state(
     run: Record,
     spins: &[i32],
     copies: &[i32],
@@ -53,9 +52,6 @@ pub(crate) fn end_line(
     word: &[u8],
     certificate: &[u8],
 ) {
-    if !begun {
-        return;
-    }
     let rounds = run.rounds;
     let status = run.status;
     print_number(b" ", rounds as u64);

@@ -9,11 +9,11 @@ use Rattle.case_calls.proofs.main.Statement.{statement}
 use Rattle.case_calls.proofs.main.Tie as tie
 
 abbrev Inv-loop : tie.InvT-loop
-Inv-loop code₀ frame₀ spins₀ copies₀ offsets₀ multipliers₀ masks₀ word₀ certificate₀ run₀ size₀ count₀ begun₀ left₀ code frame spins copies offsets multipliers masks word certificate run size count begun left =
+Inv-loop code₀ frame₀ spins₀ copies₀ offsets₀ multipliers₀ masks₀ word₀ certificate₀ run₀ size₀ count₀ left₀ code frame spins copies offsets multipliers masks word certificate run size count left =
     (Input 30000 size code) × (Input 2100 count frame) × Lengths spins copies offsets multipliers masks word certificate
 
 abbrev μ-loop : tie.MeasureT-loop
-μ-loop code₀ frame₀ spins₀ copies₀ offsets₀ multipliers₀ masks₀ word₀ certificate₀ run₀ size₀ count₀ begun₀ left₀ code frame spins copies offsets multipliers masks word certificate run size count begun left = left
+μ-loop code₀ frame₀ spins₀ copies₀ offsets₀ multipliers₀ masks₀ word₀ certificate₀ run₀ size₀ count₀ left₀ code frame spins copies offsets multipliers masks word certificate run size count left = left
 
 fresh-requires : tie.Need-fresh-requires Inv-loop μ-loop
 fresh-requires c κs = search needs
@@ -23,30 +23,6 @@ loop-holds c = search needs
 
 sub-left : tie.Need-sub-left Inv-loop μ-loop
 sub-left c = search needs
-
-slice-aggregate-end-line : tie.Need-slice-aggregate-end-line Inv-loop μ-loop
-slice-aggregate-end-line c = search needs
-
-slice-aggregate-end-line-2 : tie.Need-slice-aggregate-end-line-2 Inv-loop μ-loop
-slice-aggregate-end-line-2 c = search needs
-
-slice-aggregate-end-line-3 : tie.Need-slice-aggregate-end-line-3 Inv-loop μ-loop
-slice-aggregate-end-line-3 c = search needs
-
-slice-aggregate-end-line-4 : tie.Need-slice-aggregate-end-line-4 Inv-loop μ-loop
-slice-aggregate-end-line-4 c = search needs
-
-slice-aggregate-end-line-5 : tie.Need-slice-aggregate-end-line-5 Inv-loop μ-loop
-slice-aggregate-end-line-5 c = search needs
-
-slice-aggregate-end-line-6 : tie.Need-slice-aggregate-end-line-6 Inv-loop μ-loop
-slice-aggregate-end-line-6 c = search needs
-
-slice-aggregate-end-line-7 : tie.Need-slice-aggregate-end-line-7 Inv-loop μ-loop
-slice-aggregate-end-line-7 c = search needs
-
-end-line-requires : tie.Need-end-line-requires Inv-loop μ-loop
-end-line-requires c κs = search needs
 
 read-command-requires : tie.Need-read-command-requires Inv-loop μ-loop
 read-command-requires c κs = search needs
@@ -61,11 +37,11 @@ enum-known-command : tie.Need-enum-known-command Inv-loop μ-loop
 enum-known-command c = search needs
 
 loop-less : tie.Need-loop-less Inv-loop μ-loop
-loop-less c = omega (arith, c .before .before .before .before .before .before .before .before .before .before .before .before .before .before .before .before .loop-test .taken)
+loop-less c = omega (arith, c .before .before .before .before .before .before .before .before .loop-test .taken)
 
 loop-again : tie.Need-loop-again Inv-loop μ-loop
 loop-again c =
-    let inv = c .before .before .before .before .before .before .before .before .before .before .before .before .before .before .before .before .before .loop .inv in
+    let inv = c .before .before .before .before .before .before .before .before .before .loop .inv in
     (inv .0, inv .1, record { spins = refl; copies = refl; offsets = refl; multipliers = refl; masks = refl; word = refl; certificate = refl })
 
 enum-told-2 : tie.Need-enum-told-2 Inv-loop μ-loop
@@ -85,7 +61,7 @@ loop-less-2 c = search needs
 
 loop-again-2 : tie.Need-loop-again-2 Inv-loop μ-loop
 loop-again-2 c =
-    let inv = c .before .before .before .before .before .before .before .before .before .before .before .before .before .before .before .before .loop .inv in
+    let inv = c .before .before .before .before .before .before .before .before .loop .inv in
     let read = c .before .before .read-part in
     (read-anew (inv .0) (read .kept .0) (omega (arith, whole-within (read .result) (read .ensures))), inv .1, inv .2)
 
@@ -106,7 +82,7 @@ loop-less-3 c = search needs
 
 loop-again-3 : tie.Need-loop-again-3 Inv-loop μ-loop
 loop-again-3 c =
-    let inv = c .before .before .before .before .before .before .before .before .before .before .before .before .before .before .before .before .loop .inv in
+    let inv = c .before .before .before .before .before .before .before .before .loop .inv in
     let read = c .before .before .read-i16-part in
     (inv .0, read-anew (inv .1) (read .kept .0) (omega (arith, whole-within (read .result) (read .ensures))), inv .2)
 
@@ -125,6 +101,21 @@ slice-aggregate-start-2 c = search needs
 slice-aggregate-start-3 : tie.Need-slice-aggregate-start-3 Inv-loop μ-loop
 slice-aggregate-start-3 c = search needs
 
+slice-aggregate-start-4 : tie.Need-slice-aggregate-start-4 Inv-loop μ-loop
+slice-aggregate-start-4 c = search needs
+
+slice-aggregate-start-5 : tie.Need-slice-aggregate-start-5 Inv-loop μ-loop
+slice-aggregate-start-5 c = search needs
+
+slice-aggregate-start-6 : tie.Need-slice-aggregate-start-6 Inv-loop μ-loop
+slice-aggregate-start-6 c = search needs
+
+slice-aggregate-start-7 : tie.Need-slice-aggregate-start-7 Inv-loop μ-loop
+slice-aggregate-start-7 c = search needs
+
+slice-aggregate-start-8 : tie.Need-slice-aggregate-start-8 Inv-loop μ-loop
+slice-aggregate-start-8 c = search needs
+
 start-requires : tie.Need-start-requires Inv-loop μ-loop
 start-requires c κs = search needs
 
@@ -132,7 +123,22 @@ loop-less-4 : tie.Need-loop-less-4 Inv-loop μ-loop
 loop-less-4 c = search needs
 
 loop-again-4 : tie.Need-loop-again-4 Inv-loop μ-loop
-loop-again-4 c = search needs
+loop-again-4 c =
+    let inv = c .before .before .before .before .before .before .before .before .before .before .before .before .before .before .before .before .loop .inv in
+    let kept = c .before .before .start .kept in
+    let lengths = inv .2 in (
+      inv .0,
+      inv .1,
+      record {
+        spins = lengths .spins;
+        copies = kept .1 .1 .1 .1 .0 ∙ lengths .copies;
+        offsets = kept .1 .1 .1 .1 .1 .0 ∙ lengths .offsets;
+        multipliers = lengths .multipliers;
+        masks = lengths .masks;
+        word = lengths .word;
+        certificate = lengths .certificate;
+      },
+    )
 
 enum-known-command-3 : tie.Need-enum-known-command-3 Inv-loop μ-loop
 enum-known-command-3 c = search needs
@@ -174,11 +180,11 @@ rounds-requires : tie.Need-rounds-requires Inv-loop μ-loop
 rounds-requires c κs = search needs
 
 loop-less-5 : tie.Need-loop-less-5 Inv-loop μ-loop
-loop-less-5 c = omega (arith, c .before .before .before .before .before .before .before .before .before .before .before .before .before .before .before .before .before .before .before .before .before .before .before .before .before .before .before .before .before .loop-test .taken)
+loop-less-5 c = omega (arith, c .before .before .before .before .before .before .before .before .before .before .before .before .before .before .before .before .before .before .before .before .before .loop-test .taken)
 
 loop-again-5 : tie.Need-loop-again-5 Inv-loop μ-loop
 loop-again-5 c =
-    let inv = c .before .before .before .before .before .before .before .before .before .before .before .before .before .before .before .before .before .before .before .before .before .before .before .before .before .before .before .before .before .before .loop .inv in
+    let inv = c .before .before .before .before .before .before .before .before .before .before .before .before .before .before .before .before .before .before .before .before .before .before .loop .inv in
     let kept = c .before .before .before .before .before .before .before .rounds .kept in (
       inv .0,
       inv .1,
@@ -223,14 +229,6 @@ main-spec =
     fresh-requires
     loop-holds
     sub-left
-    slice-aggregate-end-line
-    slice-aggregate-end-line-2
-    slice-aggregate-end-line-3
-    slice-aggregate-end-line-4
-    slice-aggregate-end-line-5
-    slice-aggregate-end-line-6
-    slice-aggregate-end-line-7
-    end-line-requires
     read-command-requires
     enum-told
     returns
@@ -254,6 +252,11 @@ main-spec =
     slice-aggregate-start
     slice-aggregate-start-2
     slice-aggregate-start-3
+    slice-aggregate-start-4
+    slice-aggregate-start-5
+    slice-aggregate-start-6
+    slice-aggregate-start-7
+    slice-aggregate-start-8
     start-requires
     loop-less-4
     loop-again-4

@@ -29,6 +29,9 @@ start-requires c κs = search needs
 print-started-requires : tie.Need-print-started-requires
 print-started-requires c κs = search needs
 
+print-state-requires : tie.Need-print-state-requires
+print-state-requires c κs = search needs
+
 same-length : tie.Need-same-length
 same-length c = search needs
 
@@ -50,6 +53,7 @@ start-spec =
     slice-aggregate-start-2
     start-requires
     print-started-requires
+    print-state-requires
     same-length
     same-length-2
     returns)
