@@ -1,4 +1,4 @@
-"""Scripts of kind call_cases: the calls as bytes, and the program that plays them.
+"""Scripts of kind case_calls: the calls as bytes, and the program that plays them.
 
 The program keeps one record and seven buffers of fixed capacity from call to call; a call is
 lent the first so many elements of each.  After a start or a call for rounds one line tells

@@ -15,17 +15,17 @@ import make_damage as damage
 import make_tables as tables
 from make_tables import code_file, u16
 from decoder import answer, parse_code_file
-from kind_calls import call_cases
-from kind_cuts import cut_cases
-from kind_judge import judge_cases
-from kind_reports import report, report_long
+from kind_calls import case_calls
+from kind_cuts import case_cuts
+from kind_judge import case_judge
+from kind_reports import report, case_report
 from prng import Prng
 
 RECORD_LIMIT = 30000
 EDGE_NUMBERS = (0, 1, 2048, 2049, 65535)
 
 
-# --- kind code_files: records of a 32-bit length and a code file -----------------------------
+# --- kind case_code_files: records of a 32-bit length and a code file ------------------------
 
 def shortest_files(rng):
     """All lengths from 0 to 8, with heads in and out of range."""
@@ -134,7 +134,7 @@ def code_file_line(data):
     return f"bits {code.bits} checks {len(code.checks)} edges {code.edges}"
 
 
-def code_files():
+def case_code_files():
     records = code_file_records()
     assert all(len(data) <= RECORD_LIMIT for data in records)
     stream = b"".join(len(data).to_bytes(4, "little") + data for data in records)
@@ -143,8 +143,8 @@ def code_files():
 
 # --- the command line ------------------------------------------------------------------------
 
-KINDS = {"code_files": code_files, "cut_cases": cut_cases, "judge_cases": judge_cases,
-         "call_cases": call_cases, "report": report, "report_long": report_long}
+KINDS = {"case_code_files": case_code_files, "case_cuts": case_cuts, "case_judge": case_judge,
+         "case_calls": case_calls, "report": report, "case_report": case_report}
 
 
 def check_stored(kind, in_path, out_path):

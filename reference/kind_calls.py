@@ -1,4 +1,4 @@
-"""Kind call_cases: starts and calls for rounds on a record and buffers that are carried on.
+"""Kind case_calls: starts and calls for rounds on a record and buffers that are carried on.
 
 Document 01, 'One round' and 'Turned down because of how the run stands'.  The layout of the
 records is that of call_script.py.  Refusal 44 can't be had: the offsets that 43 lets through
@@ -23,6 +23,6 @@ def call_script():
             + spoilt.bad_frames() + spoilt.several_faults(rng) + spoilt.peeled_faults(rng))
 
 
-def call_cases():
+def case_calls():
     script = call_script()
     return b"".join(call.pack() for call in script), lines(play(script))

@@ -1,4 +1,4 @@
-"""Kind cut_cases: the public cut search on a code file, a point and a check number.
+"""Kind case_cuts: the public cut search on a code file, a point and a check number.
 
 Document 01, 'Parity inequalities and the cut search', and the refusals 1-7, 16 and 17.  Each
 record: u32 length and code file, u32 count and spins (i32), u32 check number.
@@ -205,7 +205,7 @@ def cut_line(case):
     return "none" if found is None else found
 
 
-def cut_cases():
+def case_cuts():
     records = cut_records()
     stream = b"".join(block(case.code_file) + counted(case.spins, 4) + u32(case.check_number)
                       for case in records)

@@ -1,4 +1,4 @@
-"""Kind judge_cases: the judge, the syndrome and the agreement on one set of inputs.
+"""Kind case_judge: the judge, the syndrome and the agreement on one set of inputs.
 
 Document 01, 'Certificates', and the refusals 1-9, 15, 10-14 in this order.  Each record: u32
 length and code file, u32 count and frame (i16), u32 length and word, u32 length and
@@ -99,7 +99,7 @@ def judge_line(case):
     return f"{judged} ; {checked} ; {agreed}"
 
 
-def judge_cases():
+def case_judge():
     records = judge_records()
     stream = b"".join(block(case.code_file) + counted(case.frame, 2) + block(case.word)
                       + block(case.certificate) for case in records)

@@ -1,4 +1,4 @@
-"""Kinds report and report_long: standard inputs of the frame report program.
+"""Kinds report and case_report: standard inputs of the frame report program.
 
 Document 01, 'The frame report': a code file, then frames, with nothing between them.
 """
@@ -50,6 +50,6 @@ def long_input():
     return code_file(table) + frames + frame_bytes(hard_frame(rng, table[0], 9, 0))[:-1]
 
 
-def report_long():
+def case_report():
     data = long_input()
     return data, frame_report(data)

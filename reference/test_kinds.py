@@ -75,23 +75,23 @@ def kind_of(text):
     return "number" if text.lstrip("-").isdigit() else text.split()[0]
 
 
-# --- cut_cases and judge_cases ---------------------------------------------------------------
+# --- case_cuts and case_judge ----------------------------------------------------------------
 
-def cut_cases_cover_all(account):
-    account.announce("cut_cases: mask with bit 31")
-    stream, text = kind_cuts.cut_cases()
+def case_cuts_cover_all(account):
+    account.announce("case_cuts: mask with bit 31")
+    stream, text = kind_cuts.case_cuts()
     expect(len(stream) < 1_000_000, "size of IN")
     records = Reader(stream).records(lambda r: (r.block(), r.numbers("i"), r.field("I")))
     said = text.splitlines()
     expect_equal([kind_cuts.cut_line(kind_cuts.CutCase(*one)) for one in records], said, "cuts")
-    expect_covered(account, "cut_cases", map(kind_of, said),
+    expect_covered(account, "case_cuts", map(kind_of, said),
                    ["mask", "none", *refusals(*range(1, 8), 16, 17)])
-    account.add("cut_cases: mask with bit 31",
+    account.add("case_cuts: mask with bit 31",
                 sum(line.startswith("mask") and int(line[5:]) >> 31 for line in said))
 
 
-def judge_cases_cover_all(account):
-    stream, text = kind_judge.judge_cases()
+def case_judge_cover_all(account):
+    stream, text = kind_judge.case_judge()
     expect(len(stream) < 1_500_000, "size of IN")
     records = Reader(stream).records(
         lambda r: (r.block(), r.numbers("h"), list(r.block()), r.block()))
@@ -99,7 +99,7 @@ def judge_cases_cover_all(account):
     expect_equal([kind_judge.judge_line(kind_judge.JudgeCase(*one)) for one in records], said,
                  "verdicts")
     judged, checked, agreed = zip(*(map(kind_of, line.split(" ; ")) for line in said))
-    expect_covered(account, "judge_cases", judged,
+    expect_covered(account, "case_judge", judged,
                    ["broken", "certified", "gap", *refusals(*range(1, 16))])
     expect_covered(account, "syndromes", checked, ["broken", "met", *refusals(*range(1, 8), 15)])
     expect_covered(account, "agreements", agreed, ["number", *refusals(*range(1, 10), 15)])
@@ -119,10 +119,10 @@ def tight_certificates_have_gap_0(account):
         account.add("reduced numbers at 0", reduced.count(0))
 
 
-# --- call_cases ------------------------------------------------------------------------------
+# --- case_calls ------------------------------------------------------------------------------
 
 def read_call(reader):
-    """One record of call_cases, by its first byte."""
+    """One record of case_calls, by its first byte."""
     op = reader.field("B")
     if op == 0:
         *values, status = reader.fields("iiiIIBBIB")
@@ -141,8 +141,8 @@ def read_call(reader):
     return PutEdge({1: "copies", 2: "offsets"}[which], index, value)
 
 
-def call_cases_cover_all(account):
-    stream, text = kind_calls.call_cases()
+def case_calls_cover_all(account):
+    stream, text = kind_calls.case_calls()
     expect(len(stream) < 1_000_000, "size of IN")
     script = kind_calls.call_script()
     expect_equal(Reader(stream).records(read_call), script, "script read back")
@@ -212,7 +212,7 @@ def list_pairs_pair_up(account):
         account.add("paired lines", len(first))
 
 
-# --- report, report_long and the inputs of report_inputs.py ----------------------------------
+# --- report, case_report and the inputs of report_inputs.py ----------------------------------
 
 def stored_reports(account):
     """Document 01's example, and the head of the long one: frames 2 and 3 get one line."""
@@ -251,6 +251,6 @@ def report_inputs_cover_all(account):
                 sum(text.startswith("certified") and int(text.split()[2]) < 0 for text in said))
 
 
-TESTS = [cut_cases_cover_all, judge_cases_cover_all, tight_certificates_have_gap_0,
-         call_cases_cover_all, checksums_by_definition, late_runs_end_late, list_pairs_pair_up,
+TESTS = [case_cuts_cover_all, case_judge_cover_all, tight_certificates_have_gap_0,
+         case_calls_cover_all, checksums_by_definition, late_runs_end_late, list_pairs_pair_up,
          stored_reports, report_inputs_cover_all]

@@ -148,7 +148,7 @@ def generated_files_are_fixed(account):
     account.announce("records read back")
     rng = Prng(0)
     expect_equal([rng.next64(), rng.next64()], [0xE220A8397B1DCDAF, 0x6E789E6AA1B965F4], "Prng(0)")
-    stream, text = generate.code_files()
+    stream, text = generate.case_code_files()
     place, lines = 0, text.splitlines()
     while place < len(stream):
         length, = struct.unpack_from("<I", stream, place)

@@ -39,7 +39,7 @@ REFUSED = [
 
 def stored_files():
     """The code files that the proved code is run on: each has a 32-bit length before it."""
-    data = (ROOT / "crates" / "code_files" / "stdin").read_bytes()
+    data = (ROOT / "crates" / "case_code_files" / "stdin").read_bytes()
     at = 0
     while at < len(data):
         end = at + 4 + int.from_bytes(data[at:at + 4], "little")
@@ -48,7 +48,7 @@ def stored_files():
 
 
 def answer(data):
-    """What the program `code_files` says of a file."""
+    """What the program `case_code_files` says of a file."""
     try:
         n, checks = codefile.read(data)
     except CodeFileRefused as refusal:
@@ -74,7 +74,7 @@ class CodeFile(unittest.TestCase):
         self.assertEqual({number for number, _, _ in REFUSED}, set(range(1, 8)))
 
     def test_the_proved_codes_answers(self):
-        wanted = (ROOT / "crates" / "code_files" / "stdout").read_text().splitlines()
+        wanted = (ROOT / "crates" / "case_code_files" / "stdout").read_text().splitlines()
         self.assertEqual([answer(data) for data in stored_files()], wanted)
         self.assertGreater(len(wanted), 0)
 

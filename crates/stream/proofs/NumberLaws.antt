@@ -1,20 +1,18 @@
--- The numbers that a loop lays over a list one after the other, and what stays past a part that is handed back. Assumes nothing.
+-- The numbers that a loop lays over a list one after the other. Assumes nothing.
 use mathlib.Core.Path.{_≡_, refl, sym, _∙_, ap, ap₂}
-use mathlib.Core.Logic.{inr}
 use mathlib.Core.List.{List, [], _∷_, _++_}
 use Prim.Native.Nat.{ℕ, zero, suc, _+_, _*_, _/_, _≤_, _<_}
 use native.Mathlib.Omega.{arith}
 use native.Mathlib.Nat.{le-of-suc-le-suc}
 use native.Mathlib.Numerals.{add-one}
-use lib.ListN.{length, drop, set, take, length-append}
-use lib.Seq.{length-take-le, drop-at}
+use lib.ListN.{length, drop, set, length-append}
 use lib.IntN.{ℤ}
 use mir.Syntax.{w16}
 use mir.Val.{toZ}
 use Rattle.rules.specs.Bytes.{u16At}
 use Rattle.rules.specs.Buffers.{over}
 use Rattle.rules.proofs.BufferLaws.{past-over}
-use Rattle.stream.specs.Numbers.{numbersOf, Read, ReadNumbers, ReadFront, PartRead}
+use Rattle.stream.specs.Numbers.{numbersOf, ReadNumbers, ReadFront}
 
 pub numbers-length : (bs : List ℕ) (k : ℕ) → length (numbersOf bs k) ≡ k
 unfolding numbersOf
@@ -37,17 +35,6 @@ numbers-more bs i now old v h p e =
     ∙ ap (λ k. set (over (numbersOf bs i) old) k (toZ w16 (u16At bs (2 * i)))) (sym n)
     ∙ over-snoc (numbersOf bs i) old (toZ w16 (u16At bs (2 * i))) (omega arith)
     ∙ ap (λ k. over (numbersOf bs k) old) (sym (add-one i))
-
--- ---- a first part of n elements handed back: the others are as they were
-module _ {A : Type 0} (n : ℕ) (p old : List A) (h : n ≤ length old) (e : length p ≡ length (take n old)) where
-  front-rest : drop n (p ++ drop n old) ≡ drop n old
-  front-rest = drop-at p (drop n old) n (e ∙ length-take-le n old h)
-
-  pub front-part : PartRead n (p ++ drop n old) old
-  front-part = inr (h, front-rest)
-
-pub front-read : (r n : ℕ) (p old : List ℕ) → n ≤ length old → length p ≡ length (take n old) → r ≤ length p → Read r n (p ++ drop n old) old
-front-read r n p old h e k = record { few = omega (arith, length-take-le n old h); rest = front-rest n p old h e }
 
 -- numbers laid over a list: those past them stay
 pub numbers-rest : (r : ℕ) (bs : List ℕ) (new old : List ℤ) → ReadNumbers r bs new old → ReadFront r new old

@@ -1,6 +1,5 @@
 -- Signed 16-bit numbers on a stream, as a frame has them, and what a reader leaves in its buffer. Definitions only. Assumes nothing.
 use mathlib.Core.Path.{_≡_}
-use mathlib.Core.Logic.{_⊎_}
 use mathlib.Core.List.{List, [], _∷_, _++_}
 use Prim.Native.Nat.{ℕ, zero, suc, _*_, _/_, _≤_, min}
 use lib.ListN.{length, drop}
@@ -24,12 +23,8 @@ numbersAtOnce = 2 * maxBits
 abbrev pub bytesFor : ℕ → ℕ
 bytesFor n = 2 * min n numbersAtOnce
 
--- what a record's part answers that is longer than it may be, or cut short: no 32-bit number
-abbrev pub notWhole : ℕ
-notWhole = 4294967296
-
--- r of the bytes are read, and what is past the n that were asked for stays
-pub record Read (r n : ℕ) (new old : List ℕ) : Type 0 where
+-- r of the elements are read, and what is past the n that were asked for stays
+pub record Read {A : Type 0} (r n : ℕ) (new old : List A) : Type 0 where
   pub few : r ≤ n
   pub rest : drop n new ≡ drop n old
 
@@ -42,7 +37,3 @@ pub record ReadNumbers (r : ℕ) (bytes : List ℕ) (new old : List ℤ) : Type 
 pub record ReadFront (r : ℕ) (new old : List ℤ) : Type 0 where
   pub few : r ≤ bytesFor (length old)
   pub rest : drop (r / 2) new ≡ drop (r / 2) old
-
--- a record's part is not whole, or as long as it says, and what is past it stays
-abbrev pub PartRead : {A : Type 0} → ℕ → List A → List A → Type 0
-PartRead r new old = (r ≡ notWhole) ⊎ ((r ≤ length old) × (drop r new ≡ drop r old))

@@ -6,7 +6,7 @@ use libc::STDIN_FILENO;
 use libc::STDOUT_FILENO;
 use limits::MAX_BITS;
 ghost use mathlib.Core.Path.{_≡_};
-ghost use Prim.Native.Nat.{_*_, _≤_, _<_};
+ghost use Prim.Native.Nat.{_+_, _*_, _≤_, _<_};
 ghost use lib.IntN.{pos, natAbs};
 ghost use lib.ListN.{length};
 ghost use lib.Signed.{_≤ℤ_};
@@ -14,7 +14,8 @@ ghost use mir.Syntax.{w16, w32};
 ghost use mir.Val.{toZ};
 ghost use Rattle.rules.specs.Bytes.{u16Limit};
 ghost use Rattle.rules.specs.Buffers.{over};
-ghost use Rattle.stream.specs.Numbers.{numbersOf, numbersAtOnce, bytesFor, notWhole, Read, ReadNumbers, ReadFront, PartRead};
+ghost use Rattle.stream.specs.Numbers.{numbersOf, numbersAtOnce, bytesFor, Read, ReadNumbers, ReadFront};
+ghost use Rattle.stream.specs.Parts.{stored, wholeSize, PartRead};
 
 // How many numbers are read at once: more than a frame or a point has.
 pub const NUMBERS_AT_ONCE: usize = 2 * MAX_BITS;
@@ -24,12 +25,29 @@ const BYTES_AT_ONCE: usize = 2 * NUMBERS_AT_ONCE;
 // The longest code file in a record: longer than any that is accepted.
 pub const CODE_LIMIT: usize = 30000;
 
-// What no 32-bit number is: a part of a record is longer than it may be, or cut short.
-pub const NOT_WHOLE: usize = 0x1_0000_0000;
+// A 32-bit number on the input, or the input's end before its last byte.
+pub enum Number {
+    Missing,
+    Is(u32),
+}
 
-// Writes the label, then n. It prints only, so there is nothing that a contract could say.
+// A part of a record: a 32-bit size and as many elements. Its size is missing, or more than the
+// buffer has room for; or the elements are cut short, or all there.
+pub enum Part {
+    Missing,
+    TooLong,
+    Cut(usize),
+    Whole(usize),
+}
+
+// Writes the text. It prints only, so there is nothing that a contract could say.
+pub fn print(text: &[u8]) {
+    io::write_all(STDOUT_FILENO, text);
+}
+
+// Writes the label, then n; it prints only, too.
 pub fn print_number(label: &[u8], n: u64) {
-    io::write_all(STDOUT_FILENO, label);
+    print(label);
     io::print_decimal(STDOUT_FILENO, n);
 }
 
@@ -40,7 +58,7 @@ fn bare(n: i64) -> u64
     n as u64
 }
 
-// Writes n; it prints only, too. The least number has no opposite of its own type.
+// Writes n. The least number has no opposite of its own type.
 pub fn print_signed(n: i64) {
     if n < 0 {
         print_number(b"-", bare(-(n + 1)) + 1);
@@ -107,15 +125,13 @@ fn signed(n: usize) -> i16
     !((65535 - n) as i16)
 }
 
-// Reads a little-endian number of four bytes; NOT_WHOLE where the input ends before.
-pub fn read_u32() -> usize
-    ensures { λ r. ⌜ r ≤ notWhole ⌝ }
-{
+// Reads a little-endian number. Any may come, so there is nothing that a contract could say.
+pub fn read_u32() -> Number {
     let mut bytes = [0u8; 4];
     if io::read_full(STDIN_FILENO, &mut bytes) < 4 {
-        return NOT_WHOLE;
+        return Number::Missing;
     }
-    u32_of(bytes[0], bytes[1], bytes[2], bytes[3]) as usize
+    Number::Is(u32_of(bytes[0], bytes[1], bytes[2], bytes[3]))
 }
 
 // The number as a signed one: its upper half is negative.
@@ -128,30 +144,89 @@ pub fn i32_of(n: u32) -> i32
     !((4294967295 - n) as i32)
 }
 
-// Reads a part of a record, a 32-bit length and as many bytes, and answers the length.
-pub fn read_part(part: &mut [u8]) -> usize
-    ensures { λ r. ⌜ PartRead r (now (part .exit)) (now (part .entry)) ⌝ }
+// Reads the size of a part, which is whole as far as it is read where there is room for so many.
+fn read_size(room: usize) -> Part
+    ensures { λ r. ⌜ stored r ≤ room ⌝ }
 {
-    let size = read_u32();
-    if part.len() < size {
-        return NOT_WHOLE;
+    let number = read_u32();
+    let Number::Is(n) = number else {
+        return Part::Missing;
+    };
+    let size = n as usize;
+    if room < size {
+        return Part::TooLong;
     }
-    if io::read_full(STDIN_FILENO, &mut part[..size]) < size {
-        return NOT_WHOLE;
-    }
-    size
+    Part::Whole(size)
 }
 
-// Reads a 32-bit count and as many numbers, at most 4,096, and answers the count.
-pub fn read_i16_part(numbers: &mut [i16]) -> usize
+// The part of that size of which so many elements came.
+fn part_of(came: usize, size: usize) -> Part
+    ensures { λ r. ⌜ stored r ≡ size ⌝ }
+{
+    if came < size {
+        return Part::Cut(size);
+    }
+    Part::Whole(size)
+}
+
+// The size of a part that is whole, and 0 of any other.
+pub fn whole(part: Part) -> usize
+    ensures { λ r. ⌜ r ≡ wholeSize part ⌝ }
+{
+    match part {
+        Part::Missing => 0,
+        Part::TooLong => 0,
+        Part::Cut(_) => 0,
+        Part::Whole(size) => size,
+    }
+}
+
+// Reads a part of bytes.
+pub fn read_part(part: &mut [u8]) -> Part
+    ensures { λ r. ⌜ PartRead r (now (part .exit)) (now (part .entry)) ⌝ }
+{
+    let stated = read_size(part.len());
+    let Part::Whole(size) = stated else {
+        return stated;
+    };
+    part_of(read_first(part, size), size)
+}
+
+// Reads a part of 16-bit numbers, of which at most 4,096 come.
+pub fn read_i16_part(numbers: &mut [i16]) -> Part
     ensures { λ r. ⌜ PartRead r (now (numbers .exit)) (now (numbers .entry)) ⌝ }
 {
-    let count = read_u32();
-    if numbers.len() < count {
-        return NOT_WHOLE;
+    let stated = read_size(numbers.len());
+    let Part::Whole(size) = stated else {
+        return stated;
+    };
+    part_of(read_i16(&mut numbers[..size]) / 2, size)
+}
+
+// Reads a part of 32-bit numbers.
+pub fn read_i32_part(numbers: &mut [i32]) -> Part
+    ensures { λ r. ⌜ PartRead r (now (numbers .exit)) (now (numbers .entry)) ⌝ }
+{
+    let stated = read_size(numbers.len());
+    let Part::Whole(size) = stated else {
+        return stated;
+    };
+    part_of(read_each(numbers, size), size)
+}
+
+// Reads one number after the other, and answers how many came.
+fn read_each(numbers: &mut [i32], size: usize) -> usize
+    requires { ⌜ size ≤ length (now numbers) ⌝ }
+    ensures { λ r. ⌜ Read r size (now (numbers .exit)) (now (numbers .entry)) ⌝ }
+{
+    let mut i: usize = 0;
+    while i < size {
+        let number = read_u32();
+        let Number::Is(n) = number else {
+            return i;
+        };
+        numbers[i] = i32_of(n);
+        i += 1;
     }
-    if read_i16(&mut numbers[..count]) < 2 * count {
-        return NOT_WHOLE;
-    }
-    count
+    size
 }

@@ -2,7 +2,7 @@
 use native.Mathlib.Omega.{arith}
 use lib.ListN.{length-take}
 use borrow.Author.Needs.{needs}
-use Rattle.stream.proofs.NumberLaws.{front-read}
+use Rattle.stream.proofs.PartLaws.{front-read}
 use Rattle.stream.proofs.read_first.Statement.{statement}
 use Rattle.stream.proofs.read_first.Tie as tie
 
@@ -20,9 +20,8 @@ same-length c = search needs
 
 returns : tie.Need-returns
 returns c =
-    let args = c .before .before .before .before .before .args in
     let read = c .before .before .read-full in
-    front-read (read .result) (args .size) (read .last .1 .0) (args .bytes .now) (search needs) (read .kept .1 .0) (read .ensures .0)
+    front-read _ (read .last .1 .0) _ (search needs) (read .kept .1 .0) (read .result) (read .ensures .0)
 
 pub read-first-spec : {M : Type 1} → statement M
 read-first-spec =

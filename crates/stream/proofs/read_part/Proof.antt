@@ -1,53 +1,38 @@
--- `read_part` meets its contract: a part of the buffer is as long as the record says. Assumes nothing.
-use mathlib.Core.Path.{refl}
-use mathlib.Core.Logic.{inl}
-use native.Mathlib.Omega.{arith}
-use lib.ListN.{length-take}
+-- `read_part` meets its contract: the first elements are read, as many as the part says. Assumes nothing.
 use borrow.Author.Needs.{needs}
-use Rattle.stream.proofs.NumberLaws.{front-part}
+use Rattle.stream.proofs.PartLaws.{whole-fits, front-stored}
 use Rattle.stream.proofs.read_part.Statement.{statement}
 use Rattle.stream.proofs.read_part.Tie as tie
 
-read-u32-requires : tie.Need-read-u32-requires
-read-u32-requires c κs = search needs
+read-size-requires : tie.Need-read-size-requires
+read-size-requires c κs = search needs
+
+enum-known-stated : tie.Need-enum-known-stated
+enum-known-stated c = search needs
 
 returns : tie.Need-returns
-returns c = inl refl
+returns c = search needs
 
-slice-relend-prefix-read-full : tie.Need-slice-relend-prefix-read-full
-slice-relend-prefix-read-full c = search needs
+read-first-requires : tie.Need-read-first-requires
+read-first-requires c κs = search whole-fits
 
-slice-aggregate-read-full : tie.Need-slice-aggregate-read-full
-slice-aggregate-read-full c = simp length-take (omega arith)
-
-read-full-requires : tie.Need-read-full-requires
-read-full-requires c κs = search needs
+part-of-requires : tie.Need-part-of-requires
+part-of-requires c κs = search needs
 
 same-length : tie.Need-same-length
 same-length c = search needs
 
 returns-2 : tie.Need-returns-2
-returns-2 c = inl refl
-
-same-length-2 : tie.Need-same-length-2
-same-length-2 c = search needs
-
-returns-3 : tie.Need-returns-3
-returns-3 c =
-    let args = c .before .before .before .before .before .before .before .before .args in
-    let read = c .before .before .before .read-full in
-    front-part (c .before .before .before .before .before .before .read-u32 .result) (read .last .1 .0) (args .part .now) (search needs) (read .kept .1 .0)
+returns-2 c = search (front-stored, whole-fits)
 
 pub read-part-spec : {M : Type 1} → statement M
 read-part-spec =
     tie.close
     (tie.spec
-    read-u32-requires
+    read-size-requires
+    enum-known-stated
     returns
-    slice-relend-prefix-read-full
-    slice-aggregate-read-full
-    read-full-requires
+    read-first-requires
+    part-of-requires
     same-length
-    returns-2
-    same-length-2
-    returns-3)
+    returns-2)
