@@ -7,6 +7,7 @@ use cut::clip;
 ghost use mathlib.Core.Path.{_≡_};
 ghost use Prim.Native.Nat.{_≤_};
 ghost use lib.ListN.{length};
+ghost use lib.IntN.{_+ℤ_};
 ghost use Rattle.integers.specs.Linear.{Within};
 ghost use Rattle.integers.specs.Sum.{AllWithin};
 ghost use Rattle.rules.specs.Limits.{unit, offsetLimit, stepLimit, valueLimit};
@@ -24,7 +25,15 @@ pub struct Entry {
     pub mask: u32,
 }
 
-// v = spin + y, in the offsets' place.
+// "v = spin + y"
+fn value(spin: i32, offset: i32) -> i32
+    requires { ⌜ (Within unit spin) × (Within offsetLimit offset) ⌝ }
+    ensures { λ r. ⌜ r ≡ spin +ℤ offset ⌝ }
+{
+    spin + offset
+}
+
+// The values of a check's members, in the offsets' place.
 fn add_spins(spins: &[i32], members: &[u16], offsets: &mut [i32])
     requires { ⌜ (length (now offsets) ≡ length (now members)) × Below (length (now spins)) (now members) × AllWithin 4096 (now spins) × AllWithin offsetLimit (now offsets) ⌝ }
     ensures { λ _. ⌜ now (offsets .exit) ≡ values (at (now (spins .entry))) (now (members .entry)) (now (offsets .entry)) ⌝ }
@@ -32,7 +41,7 @@ fn add_spins(spins: &[i32], members: &[u16], offsets: &mut [i32])
     let mut i = 0;
     while i < members.len() {
         let m = members[i] as usize;
-        offsets[i] = spins[m] + offsets[i];
+        offsets[i] = value(spins[m], offsets[i]);
         i += 1;
     }
 }

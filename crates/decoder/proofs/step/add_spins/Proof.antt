@@ -1,21 +1,21 @@
--- `add_spins` meets its contract: the first i places hold the values, the others still the offsets. Assumes nothing.
+-- `add_spins` meets its contract: the first i places hold their values, and the others still the offsets. Assumes nothing.
 use mathlib.Core.Path.{_≡_, sym, _∙_, ap, ap₂, subst}
 use Prim.Native.Nat.{_-_, _≤_, _<_}
 use native.Mathlib.Omega.{arith}
 use lib.ListN.{length, getD}
 use lib.IntN.{pos, _+ℤ_}
 use mir.Syntax.{w32}
-use mir.Val.{SFits, toZ, ofZ}
+use mir.Val.{toZ, ofZ}
 use mir.Facts.{toZ-ofZ}
-use Rattle.rules.specs.Limits.{offsetLimit}
+use Rattle.integers.specs.Linear.{Within}
 use Rattle.integers.specs.Machine.{fit}
+use Rattle.rules.specs.Limits.{unit, offsetLimit}
 use Rattle.rules.specs.Table.{at}
 use Rattle.rules.specs.Round.{values}
 use Rattle.rules.proofs.Optimal.{within-at}
 use Rattle.rules.proofs.Duality.{below-at}
 use Rattle.decoder.proofs.FillLaws.{fill, fill-none, fill-length, fill-at, fill-more, fill-all}
 use Rattle.decoder.proofs.ValueLaws.{values-length, values-at}
-use Rattle.decoder.proofs.MoveLaws.{value-fits}
 use Rattle.decoder.proofs.step.add_spins.Statement.{statement}
 use Rattle.decoder.proofs.step.add_spins.Tie as tie
 
@@ -28,13 +28,13 @@ abbrev μ-loop : tie.MeasureT-loop
 loop-holds : tie.Need-loop-holds Inv-loop μ-loop
 loop-holds c = (omega arith, sym (fill-none _ _))
 
-same : (c : tie.At-loop Inv-loop μ-loop) → length (values (at (c .before .args .spins .now)) (c .before .args .members .now) (c .before .args .offsets .now)) ≡ length (c .before .args .offsets .now)
-same c = values-length (at (c .before .args .spins .now)) (c .before .args .members .now) (c .before .args .offsets .now) ∙ sym (c .before .pre .0)
+same : (c : tie.At-loop Inv-loop μ-loop) → let a = c .before .before .args in length (values (at (a .spins .now)) (a .members .now) (a .offsets .now)) ≡ length (a .offsets .now)
+same c = let a = c .before .before .args in values-length (at (a .spins .now)) (a .members .now) (a .offsets .now) ∙ sym (c .before .before .pre .0)
 
-long : (c : tie.At-loop Inv-loop μ-loop) → length (c .loop .offsets) ≡ length (c .before .args .offsets .now)
+long : (c : tie.At-loop Inv-loop μ-loop) → length (c .loop .offsets) ≡ length (c .before .before .args .offsets .now)
 long c = ap length (c .loop .inv .1) ∙ fill-length (c .loop .i) _ _
 
-old : (c : tie.At-loop Inv-loop μ-loop) → at (c .loop .offsets) (c .loop .i) ≡ at (c .before .args .offsets .now) (c .loop .i)
+old : (c : tie.At-loop Inv-loop μ-loop) → at (c .loop .offsets) (c .loop .i) ≡ at (c .before .before .args .offsets .now) (c .loop .i)
 old c = ap (λ l. at l (c .loop .i)) (c .loop .inv .1) ∙ fill-at (c .loop .i) _ _ (pos 0)
 
 mul-m : tie.Need-mul-m Inv-loop μ-loop
@@ -44,44 +44,42 @@ shared-slice-read-m : tie.Need-shared-slice-read-m Inv-loop μ-loop
 shared-slice-read-m c = omega arith
 
 cast-m : tie.Need-cast-m Inv-loop μ-loop
-cast-m c = omega (arith, c .shared-slice-known .given (c .before .before .loop .i))
+cast-m c = omega (arith, c .shared-slice-known2 .given (c .before .before .loop .i))
 
-mul-offsets : tie.Need-mul-offsets Inv-loop μ-loop
-mul-offsets c = omega (arith, c .shared-slice-known .given (c .before .before .loop .i))
+mul-value : tie.Need-mul-value Inv-loop μ-loop
+mul-value c = omega (arith, c .shared-slice-known2 .given (c .before .before .loop .i))
 
-shared-slice-copy-out-offsets : tie.Need-shared-slice-copy-out-offsets Inv-loop μ-loop
-shared-slice-copy-out-offsets c =
-    let a = c .before .before .before .args in
-    below-at (length (a .spins .now)) (a .members .now) (c .before .before .loop .i) (omega arith) (c .before .before .before .pre .1)
+shared-slice-copy-out-value : tie.Need-shared-slice-copy-out-value Inv-loop μ-loop
+shared-slice-copy-out-value c =
+    let a = c .before .before .before .before .args in
+    below-at (length (a .spins .now)) (a .members .now) (c .before .before .loop .i) (omega arith) (c .before .before .before .before .pre .1)
 
-mul-offsets-2 : tie.Need-mul-offsets-2 Inv-loop μ-loop
-mul-offsets-2 c = omega arith
+mul-value-2 : tie.Need-mul-value-2 Inv-loop μ-loop
+mul-value-2 c = omega arith
 
-slice-copy-out-offsets : tie.Need-slice-copy-out-offsets Inv-loop μ-loop
-slice-copy-out-offsets c = omega (arith, long (c .before .before .before), c .before .before .before .before .pre .0)
+slice-copy-out-value : tie.Need-slice-copy-out-value Inv-loop μ-loop
+slice-copy-out-value c = omega (arith, long (c .before .before .before), c .before .before .before .before .before .pre .0)
 
-sum-is : (c : tie.After-offsets2 Inv-loop μ-loop)
-    → toZ w32 (ofZ w32 (at (c .before .before .before .before .before .args .spins .now) (getD (c .before .before .before .before .before .args .members .now) (c .before .before .before .before .loop .i) 0)))
-    +ℤ toZ w32 (ofZ w32 (at (c .before .before .before .before .loop .offsets) (c .before .before .before .before .loop .i)))
-    ≡ at (c .before .before .before .before .before .args .spins .now) (getD (c .before .before .before .before .before .args .members .now) (c .before .before .before .before .loop .i) 0)
-    +ℤ at (c .before .before .before .before .before .args .offsets .now) (c .before .before .before .before .loop .i)
-sum-is c =
-    let a = c .before .before .before .before .before .args in
-    let l = c .before .before .before .before .loop in
-    ap₂ _+ℤ_ (toZ-ofZ (fit w32 (at (a .spins .now) (getD (a .members .now) (l .i) 0)) (c .before .offsets .given)))
-    (toZ-ofZ (fit w32 (at (l .offsets) (l .i)) (c .offsets2 .given)) ∙ old (c .before .before .before .before))
+-- the two numbers, as they were read
+spin-is : (c : tie.After-value-arg Inv-loop μ-loop) → let l = c .before .before .before in let a = l .before .before .args in let x = at (a .spins .now) (getD (a .members .now) (l .loop .i) 0) in toZ w32 (ofZ w32 x) ≡ x
+spin-is c = toZ-ofZ (fit w32 _ (c .value-arg .given))
 
-add-offsets : tie.Need-add-offsets Inv-loop μ-loop
-add-offsets c =
-    let start = c .before .before .before .before .before in
-    let l = c .before .before .before .before .loop in
-    subst (SFits w32) (sym (sum-is c)) (value-fits _ _ (within-at 4096 (start .args .spins .now) (start .pre .2) (getD (start .args .members .now) (l .i) 0)) (within-at offsetLimit (start .args .offsets .now) (start .pre .3) (l .i)))
+offset-is : (c : tie.After-value-arg2 Inv-loop μ-loop) → let l = c .before .before .before .before in toZ w32 (ofZ w32 (at (l .loop .offsets) (l .loop .i))) ≡ at (l .before .before .args .offsets .now) (l .loop .i)
+offset-is c = toZ-ofZ (fit w32 _ (c .value-arg2 .given)) ∙ old (c .before .before .before .before)
+
+value-requires : tie.Need-value-requires Inv-loop μ-loop
+value-requires c κs =
+    let start = c .before .before .before .before .before .before in
+    let l = c .before .before .before .before .loop in (
+      subst (Within unit) (sym (spin-is (c .before))) (within-at unit (start .args .spins .now) (start .pre .2) (getD (start .args .members .now) (l .i) 0)),
+      subst (Within offsetLimit) (sym (offset-is c)) (within-at offsetLimit (start .args .offsets .now) (start .pre .3) (l .i)),
+    )
 
 mul-t16 : tie.Need-mul-t16 Inv-loop μ-loop
 mul-t16 c = omega arith
 
 slice-set-from-offsets : tie.Need-slice-set-from-offsets Inv-loop μ-loop
-slice-set-from-offsets c = omega (arith, long (c .before .before .before .before), c .before .before .before .before .before .pre .0)
+slice-set-from-offsets c = omega (arith, long (c .before .before .before .before .before), c .before .before .before .before .before .before .before .pre .0)
 
 add-i : tie.Need-add-i Inv-loop μ-loop
 add-i c = omega arith
@@ -91,20 +89,21 @@ loop-less c = omega arith
 
 loop-again : tie.Need-loop-again Inv-loop μ-loop
 loop-again c =
-    let at-loop = c .before .before .before .before in
-    let a = at-loop .before .args in
+    let at-loop = c .before .before .before .before .before in
+    let a = at-loop .before .before .args in
     let l = at-loop .loop in
-    let inside : l .i < length (a .members .now) = omega arith in (
+    let inside : l .i < length (a .members .now) = omega arith in
+    let is = toZ-ofZ (fit w32 (c .value .result) (c .value .ok)) ∙ c .value .ensures ∙ ap₂ _+ℤ_ (spin-is (c .before .before)) (offset-is (c .before)) in (
       omega arith,
-      fill-more (l .i) _ _ _ _ (pos 0) (omega (arith, same at-loop, at-loop .before .pre .0))
-          (toZ-ofZ (add-offsets c) ∙ sum-is c ∙ sym (values-at (at (a .spins .now)) (a .members .now) (a .offsets .now) (l .i) inside)) (l .inv .1),
+      fill-more (l .i) _ _ _ _ (pos 0) (omega (arith, same at-loop, at-loop .before .before .pre .0))
+          (is ∙ sym (values-at (at (a .spins .now)) (a .members .now) (a .offsets .now) (l .i) inside)) (l .inv .1),
     )
 
 same-length : tie.Need-same-length Inv-loop μ-loop
 same-length c = long (c .before)
 
 returns : tie.Need-returns Inv-loop μ-loop
-returns c = c .before .loop .inv .1 ∙ fill-all (c .before .loop .i) _ _ (same (c .before)) (omega (arith, c .before .before .pre .0))
+returns c = c .before .loop .inv .1 ∙ fill-all (c .before .loop .i) _ _ (same (c .before)) (omega (arith, c .before .before .before .pre .0))
 
 pub add-spins-spec : {M : Type 1} → statement M
 add-spins-spec =
@@ -116,11 +115,11 @@ add-spins-spec =
     mul-m
     shared-slice-read-m
     cast-m
-    mul-offsets
-    shared-slice-copy-out-offsets
-    mul-offsets-2
-    slice-copy-out-offsets
-    add-offsets
+    mul-value
+    shared-slice-copy-out-value
+    mul-value-2
+    slice-copy-out-value
+    value-requires
     mul-t16
     slice-set-from-offsets
     add-i
