@@ -65,8 +65,11 @@ abbrev totalOf : List ℕ → ℕ
 totalOf [] = 0
 totalOf (d ∷ ds) = d + totalOf ds
 
-contents-read : (f : List ℕ) (j s : ℕ) (ds rest : List ℕ) → Holds f (contentsEnd j) (contentNumbers s ds ++ rest) → s + totalOf ds < u16Limit
-    → (contents f j (length ds) ≡ contentsOf s ds) × Holds f (contentsEnd (j + length ds)) rest
+-- the contents from entry j on are read, and then the rest
+abbrev ContentsRead : List ℕ → ℕ → ℕ → List ℕ → List ℕ → Type 0
+ContentsRead f j s ds rest = (contents f j (length ds) ≡ contentsOf s ds) × Holds f (contentsEnd (j + length ds)) rest
+
+contents-read : (f : List ℕ) (j s : ℕ) (ds rest : List ℕ) → Holds f (contentsEnd j) (contentNumbers s ds ++ rest) → s + totalOf ds < u16Limit → ContentsRead f j s ds rest
 unfolding contents
 contents-read f j s [] rest h k = (refl, move f (contentsEnd j) (contentsEnd (j + 0)) rest (ap contentsEnd (sym (add-zero j))) h)
 contents-read f j s (d ∷ ds) rest h k =
@@ -75,7 +78,8 @@ contents-read f j s (d ∷ ds) rest h k =
     let on = contents-read f (j + 1) (s + d) ds rest (move f (contentsEnd j + 2 + 2) (contentsEnd (j + 1)) (contentNumbers (s + d) ds ++ rest) (four j) past) (later s d (totalOf ds) k) in
     let first = here16 f (contentsEnd j) s (d ∷ contentNumbers (s + d) ds ++ rest) h (start s d (totalOf ds) k) in
     let second = ap (u16At f) (six j) ∙ here16 f (contentsEnd j + 2) d (contentNumbers (s + d) ds ++ rest) count (inner s d (totalOf ds) k) in
-    (ap₂ (λ e es. e ∷ es) (ap₂ (λ x y. record { start = x; count = y }) first second) (on .0), move f (contentsEnd (j + 1 + length ds)) (contentsEnd (j + suc (length ds))) rest (ap contentsEnd (shift j (length ds))) (on .1))
+    let entry : contentAt f j ≡ record { start = s; count = d } = ap₂ (λ x y. record { start = x; count = y }) first second in
+    (ap₂ _∷_ entry (on .0), move f (contentsEnd (j + 1 + length ds)) (contentsEnd (j + suc (length ds))) rest (ap contentsEnd (shift j (length ds))) (on .1))
   where
     four : (j : ℕ) → contentsEnd j + 2 + 2 ≡ contentsEnd (j + 1)
     four j = omega arith
@@ -204,7 +208,8 @@ module _ (t : Table) (sound : Sound t) where
 
   bodies-are : tableAt f n m .checks ≡ cs
   bodies-are = ap (bodies f (contentsEnd m)) (read .0)
-      ∙ bodies-read f (contentsEnd m) 0 cs (move f (contentsEnd (0 + m)) (contentsEnd m) (edges cs) (ap contentsEnd (zero-add m)) (read .1)) (all-wider n cs (omega (arith, sound .bits .1)) (sound .below))
+      ∙ bodies-read f (contentsEnd m) 0 cs (move f (contentsEnd (0 + m)) (contentsEnd m) (edges cs) (ap contentsEnd (zero-add m)) (read .1))
+      (all-wider n cs (omega (arith, sound .bits .1)) (sound .below))
 
   edges-are : totalCount (contents f 0 m) ≡ edgesOf t
   edges-are = ap totalCount (read .0) ∙ total-is 0 cs
@@ -215,9 +220,11 @@ module _ (t : Table) (sound : Sound t) where
   pub file-accepted : codeFile f ≡ gives t
   unfolding codeFile fileOf
   file-accepted =
-      let ranges = ap₂ _&&_ (range-pass 1 maxBits n (sound .bits)) (range-pass 1 maxChecks m (omega (arith, sound .checks .0, counts-length cs), omega (arith, sound .checks .1, counts-length cs))) in
+      let many : (1 ≤ m) × (m ≤ maxChecks) = (omega (arith, sound .checks .0, counts-length cs), omega (arith, sound .checks .1, counts-length cs)) in
+      let ranges = ap₂ _&&_ (range-pass 1 maxBits n (sound .bits)) (range-pass 1 maxChecks m many) in
       let starts = ap (startsRight 0) (read .0) ∙ starts-pass 0 (counts cs) in
       let edges-few : totalCount (contents f 0 m) ≤ maxEdges = omega (arith, edges-are, sound .few) in
+      let standing = bits-pass (λ i. degreeOf i (edges cs)) 0 n (λ j h. sound .standing j (omega arith)) in
       ap₂ (fileOf f) bits-are checks-are
       ∙ must-true (leb 4 (length f)) headerShort _ (le-leb 4 (length f) (omega (arith, long)))
       ∙ must-true (inRange 1 maxBits n && inRange 1 maxChecks m) sizeRange _ ranges
@@ -226,5 +233,5 @@ module _ (t : Table) (sound : Sound t) where
       ∙ must-true (startsRight 0 (contents f 0 m) && leb (totalCount (contents f 0 m)) maxEdges) startWrong _ (ap₂ _&&_ starts (le-leb (totalCount (contents f 0 m)) maxEdges edges-few))
       ∙ must-true (eqb (length f) (fileLength m (totalCount (contents f 0 m)))) lengthWrong _ (eq-eqb (length f) (fileLength m (totalCount (contents f 0 m))) (omega (arith, long, edges-are)))
       ∙ must-true (membersRight n (tableAt f n m .checks)) memberWrong _ (ap (membersRight n) bodies-are ∙ members-pass n cs (sound .below) (sound .ascending))
-      ∙ must-true (bitsRight (λ i. degreeOf i (edges (tableAt f n m .checks))) 0 n) bitDegree _ (ap (λ c. bitsRight (λ i. degreeOf i (edges c)) 0 n) bodies-are ∙ bits-pass (λ i. degreeOf i (edges cs)) 0 n (λ j h. sound .standing j (omega arith)))
+      ∙ must-true (bitsRight (λ i. degreeOf i (edges (tableAt f n m .checks))) 0 n) bitDegree _ (ap (λ c. bitsRight (λ i. degreeOf i (edges c)) 0 n) bodies-are ∙ standing)
       ∙ ap (λ c. gives (record { bits = n; checks = c })) bodies-are

@@ -43,13 +43,15 @@ empty : (l : List ℕ) → length l ≡ 2 * 0 → l ≡ []
 empty [] e = refl
 empty (x ∷ l) e = absurd (omega arith)
 
-bytes-back : (f : List ℕ) (a k : ℕ) → Below 256 (drop a f) → length (drop a f) ≡ 2 * k → drop a f ≡ bytes16 (numbersAt f a k)
+abbrev Back : List ℕ → ℕ → ℕ → Type 0
+Back f a k = Below 256 (drop a f) → length (drop a f) ≡ 2 * k → drop a f ≡ bytes16 (numbersAt f a k)
+
+bytes-back : (f : List ℕ) (a k : ℕ) → Back f a k
 unfolding numbersAt u16At
 bytes-back f a zero b e = empty (drop a f) e
 bytes-back f a (suc k) b e = go (drop a f) refl b e (bytes-back f (a + 2) k)
   where
-    go : (l : List ℕ) → drop a f ≡ l → Below 256 l → length l ≡ 2 * suc k → (Below 256 (drop (a + 2) f) → length (drop (a + 2) f) ≡ 2 * k → drop (a + 2) f ≡ bytes16 (numbersAt f (a + 2) k))
-        → l ≡ bytes16 (u16At f a ∷ numbersAt f (a + 2) k)
+    go : (l : List ℕ) → drop a f ≡ l → Below 256 l → length l ≡ 2 * suc k → Back f (a + 2) k → l ≡ bytes16 (u16At f a ∷ numbersAt f (a + 2) k)
     go [] p b e on = absurd (none k e)
     go (x ∷ []) p b e on = absurd (uneven k e)
     go (x ∷ y ∷ l) p b e on =

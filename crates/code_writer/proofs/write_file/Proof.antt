@@ -39,9 +39,10 @@ returns c =
     let contents = c .before .before .before .before .before .before .write-contents in
     let checks = c .before .before .before .before .before .before .before .before .before .before .put162 in
     let bits = c .before .before .before .before .before .before .before .before .before .before .before .before .before .before .put16 in
-    let first = bits .ensures ∙ ap (λ n. sets old 0 (le16 n)) (c .before .before .before .before .before .before .before .before .before .before .before .before .before .before .before .wide .ensures .0) in
-    file-all old (bits .last .0) (checks .last .0) (contents .last .1 .0) (members .last .1 .1 .0) (start .args .counts .now) (start .args .members .now) (start .args .bits)
-    (start .pre .2) first (checks .ensures) (contents .ensures) (members .ensures)
+    let number = c .before .before .before .before .before .before .before .before .before .before .before .before .before .before .before .wide in
+    let first = bits .ensures ∙ ap (λ n. sets old 0 (le16 n)) (number .ensures .0) in
+    file-all (start .args .bits) (start .args .counts .now) (start .args .members .now) old (start .pre .2)
+    (bits .last .0) (checks .last .0) first (checks .ensures) (contents .last .1 .0) (members .last .1 .1 .0) (contents .ensures) (members .ensures)
 
 pub write-file-spec : {M : Type 1} → statement M
 write-file-spec =
