@@ -79,46 +79,25 @@ print-state-requires : tie.Need-print-state-requires
 print-state-requires c κs = search needs
 
 same-length : tie.Need-same-length
-same-length c =
-    let call = c .before .before .before .before .before .before .before .before .before .before .before .before .before .before .before .before .before .before .before .before .before .rounds in
-    let lent = c .before .before .before .before .before .before .before .before .before .before .before .before .before .before .before .before .before .before .before .before .before .before .before .before .before .before .before .before .before .before .before .before .before .before .before .least .result in
-    length-front (c .before .before .before .before .before .before .before .before .before .before .before .before .before .before .before .before .before .before .before .before .before .before .before .before .before .before .before .before .before .before .before .before .before .before .before .before .before .before .before .before .before .args .spins .now) (call .last .1 .1 .1 .1 .0) lent (call .kept .1 .1 .1 .1 .0)
+same-length c = search length-front
 
 same-length-2 : tie.Need-same-length-2
-same-length-2 c =
-    let call = c .before .before .before .before .before .before .before .before .before .before .before .before .before .before .before .before .before .before .before .before .before .rounds in
-    let lent = c .before .before .before .before .before .before .before .before .before .before .before .before .before .before .before .before .before .before .before .before .before .before .before .before .before .before .before .before .before .before .before .before .before .before .least2 .result in
-    length-front (c .before .before .before .before .before .before .before .before .before .before .before .before .before .before .before .before .before .before .before .before .before .before .before .before .before .before .before .before .before .before .before .before .before .before .before .before .before .before .before .before .before .args .copies .now) (call .last .1 .1 .1 .1 .1 .0) lent (call .kept .1 .1 .1 .1 .1 .0)
+same-length-2 c = search length-front
 
 same-length-3 : tie.Need-same-length-3
-same-length-3 c =
-    let call = c .before .before .before .before .before .before .before .before .before .before .before .before .before .before .before .before .before .before .before .before .before .rounds in
-    let lent = c .before .before .before .before .before .before .before .before .before .before .before .before .before .before .before .before .before .before .before .before .before .before .before .before .before .before .before .before .before .before .before .before .before .least3 .result in
-    length-front (c .before .before .before .before .before .before .before .before .before .before .before .before .before .before .before .before .before .before .before .before .before .before .before .before .before .before .before .before .before .before .before .before .before .before .before .before .before .before .before .before .before .args .offsets .now) (call .last .1 .1 .1 .1 .1 .1 .0) lent (call .kept .1 .1 .1 .1 .1 .1 .0)
+same-length-3 c = search length-front
 
 same-length-4 : tie.Need-same-length-4
-same-length-4 c =
-    let call = c .before .before .before .before .before .before .before .before .before .before .before .before .before .before .before .before .before .before .before .before .before .rounds in
-    let lent = c .before .before .before .before .before .before .before .before .before .before .before .before .before .before .before .before .before .before .before .before .before .before .before .before .before .before .before .before .before .before .before .before .least4 .result in
-    length-front (c .before .before .before .before .before .before .before .before .before .before .before .before .before .before .before .before .before .before .before .before .before .before .before .before .before .before .before .before .before .before .before .before .before .before .before .before .before .before .before .before .before .args .multipliers .now) (call .last .1 .1 .1 .1 .1 .1 .1 .0) lent (call .kept .1 .1 .1 .1 .1 .1 .1 .0)
+same-length-4 c = search length-front
 
 same-length-5 : tie.Need-same-length-5
-same-length-5 c =
-    let call = c .before .before .before .before .before .before .before .before .before .before .before .before .before .before .before .before .before .before .before .before .before .rounds in
-    let lent = c .before .before .before .before .before .before .before .before .before .before .before .before .before .before .before .before .before .before .before .before .before .before .before .before .before .before .before .before .before .before .before .least5 .result in
-    length-front (c .before .before .before .before .before .before .before .before .before .before .before .before .before .before .before .before .before .before .before .before .before .before .before .before .before .before .before .before .before .before .before .before .before .before .before .before .before .before .before .before .before .args .masks .now) (call .last .1 .1 .1 .1 .1 .1 .1 .1 .0) lent (call .kept .1 .1 .1 .1 .1 .1 .1 .1 .0)
+same-length-5 c = search length-front
 
 same-length-6 : tie.Need-same-length-6
-same-length-6 c =
-    let call = c .before .before .before .before .before .before .before .before .before .before .before .before .before .before .before .before .before .before .before .before .before .rounds in
-    let lent = c .before .before .before .before .before .before .before .before .before .before .before .before .before .before .before .before .before .before .before .before .before .before .before .before .before .before .before .before .before .before .least6 .result in
-    length-front (c .before .before .before .before .before .before .before .before .before .before .before .before .before .before .before .before .before .before .before .before .before .before .before .before .before .before .before .before .before .before .before .before .before .before .before .before .before .before .before .before .before .args .word .now) (call .last .1 .1 .1 .1 .1 .1 .1 .1 .1 .0) lent (call .kept .1 .1 .1 .1 .1 .1 .1 .1 .1 .0)
+same-length-6 c = search length-front
 
 same-length-7 : tie.Need-same-length-7
-same-length-7 c =
-    let call = c .before .before .before .before .before .before .before .before .before .before .before .before .before .before .before .before .before .before .before .before .before .rounds in
-    let lent = c .before .before .before .before .before .before .before .before .before .before .before .before .before .before .before .before .before .before .before .before .before .before .before .before .before .before .before .before .before .least7 .result in
-    length-front (c .before .before .before .before .before .before .before .before .before .before .before .before .before .before .before .before .before .before .before .before .before .before .before .before .before .before .before .before .before .before .before .before .before .before .before .before .before .before .before .before .before .args .certificate .now) (call .last .1 .1 .1 .1 .1 .1 .1 .1 .1 .1 .0) lent (call .kept .1 .1 .1 .1 .1 .1 .1 .1 .1 .1 .0)
+same-length-7 c = search length-front
 
 returns : tie.Need-returns
 returns c = search needs
