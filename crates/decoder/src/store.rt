@@ -10,9 +10,9 @@ pub(crate) fn store(numbers: &mut [u32], at: usize, x: u32)
     numbers[at] = x;
 }
 
-pub(crate) fn store_signed(numbers: &mut [i32], at: usize, x: i32)
-    requires { ⌜ at < length (now numbers) ⌝ }
-    ensures { λ _. ⌜ now (numbers .exit) ≡ set (now (numbers .entry)) at x ⌝ }
+pub(crate) fn store_signed(signed: &mut [i32], at: usize, x: i32)
+    requires { ⌜ at < length (now signed) ⌝ }
+    ensures { λ _. ⌜ now (signed .exit) ≡ set (now (signed .entry)) at x ⌝ }
 {
-    numbers[at] = x;
+    signed[at] = x;
 }
