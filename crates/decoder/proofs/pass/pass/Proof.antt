@@ -1,99 +1,71 @@
 -- `pass` meets its contract: j checks are done, and the lists of the others are as they came. Assumes nothing.
-use mathlib.Core.Path.{_≡_}
+use mathlib.Core.Path.{_≡_, refl}
 use Prim.Native.Nat.{_+_, _-_, _<_}
 use native.Mathlib.Omega.{arith}
-use lib.ListN.{length}
+use lib.ListN.{length, getD}
+use borrow.Author.Needs.{needs}
 use Rattle.rules.specs.Table.{at}
-use Rattle.decoder.specs.Layout.{checksFrom}
-use Rattle.decoder.proofs.CheckLaws.{starts-long}
-use Rattle.decoder.proofs.PassingLaws.{Passing, passing-first, passing-long, passing-last, one-fits, passing-next}
+use Rattle.decoder.specs.Passed.{Passed}
+use Rattle.decoder.proofs.PassingLaws.{Passing, one-more, start-first, passing-first, passing-long, passing-last, one-fits, passing-next}
 use Rattle.decoder.proofs.pass.pass.Statement.{statement}
 use Rattle.decoder.proofs.pass.pass.Tie as tie
 
 abbrev Inv-loop : tie.InvT-loop
-Inv-loop starts members spins copies₀ offsets₀ multipliers₀ masks₀ j₀ copies offsets multipliers masks j =
-    Passing (at spins) starts members (record { copies = copies₀; offsets = offsets₀; multipliers = multipliers₀; masks = masks₀ })
-    (record { copies = copies; offsets = offsets; multipliers = multipliers; masks = masks }) j
+Inv-loop starts members spins z₀ y₀ bs₀ ks₀ j₀ a₀ z y bs ks j a =
+    let first : Passed = record { copies = z₀; offsets = y₀; multipliers = bs₀; masks = ks₀ } in
+    Passing (at spins) starts members first (record { copies = z; offsets = y; multipliers = bs; masks = ks }) j × (a ≡ getD starts j 0)
 
 abbrev μ-loop : tie.MeasureT-loop
-μ-loop starts members spins copies₀ offsets₀ multipliers₀ masks₀ j₀ copies offsets multipliers masks j = length starts - j
+μ-loop starts members spins z₀ y₀ bs₀ ks₀ j₀ a₀ z y bs ks j a = length starts - j
 
 loop-holds : tie.Need-loop-holds Inv-loop μ-loop
-loop-holds c =
-    let start = c .before .before .before .before in
-    let a = start .args in
-    passing-first (a .starts .now) (a .members .now) (a .spins .now) (a .copies .now) (a .offsets .now) (a .multipliers .now) (a .masks .now) (length (a .spins .now)) (start .pre)
-
-one-more : (c : tie.At-loop Inv-loop μ-loop) → length (c .before .before .before .before .before .args .starts .now) ≡ length (checksFrom (c .before .before .before .before .before .args .starts .now) (c .before .before .before .before .before .args .members .now)) + 1
-one-more c =
-    let start = c .before .before .before .before .before in
-    starts-long (length (start .args .spins .now)) (start .args .starts .now) (start .args .members .now) (start .pre .holds)
+loop-holds c = (passing-first (c .before .before .before .before .pre), start-first (c .before .before .before .before .pre))
 
 add-loop : tie.Need-add-loop Inv-loop μ-loop
-add-loop c = omega (arith, one-more c, c .loop .inv .few)
+add-loop c = omega (arith, one-more (c .before .before .before .before .before .pre), c .loop .inv .0 .few)
+
+add-e : tie.Need-add-e Inv-loop μ-loop
+add-e c = search needs
+
+mul-e : tie.Need-mul-e Inv-loop μ-loop
+mul-e c = search needs
+
+shared-slice-read-e : tie.Need-shared-slice-read-e Inv-loop μ-loop
+shared-slice-read-e c = search needs
+
+cast-e : tie.Need-cast-e Inv-loop μ-loop
+cast-e c = omega (arith, c .shared-slice-known3 .given (c .before .before .loop .j + 1))
 
 pass-one-requires : tie.Need-pass-one-requires Inv-loop μ-loop
 pass-one-requires c κs =
-    let inside = c .before .before .before .before in
-    let at-loop = inside .before in
-    let start = at-loop .before .before .before .before .before in
-    let a = start .args in
-    let l = at-loop .loop in
-    let h : l .j < length (checksFrom (a .starts .now) (a .members .now)) = omega (arith, one-more at-loop, inside .loop-test .taken) in (
-      inside .loop-test .taken,
-      one-fits (a .starts .now) (a .members .now) (a .spins .now) (a .copies .now) (a .offsets .now) (a .multipliers .now) (a .masks .now) (length (a .spins .now)) (start .pre)
-          (l .j) (record { copies = l .copies; offsets = l .offsets; multipliers = l .multipliers; masks = l .masks }) (l .inv) h,
-    )
+    let i = c .before .before .before .before .before .before .loop .inv in
+    one-fits (c .before .before .before .before .before .before .before .before .before .before .before .pre) (i .0) (omega (arith, one-more (c .before .before .before .before .before .before .before .before .before .before .before .pre), c .before .before .before .before .before .loop-test .taken)) (i .1)
 
 add-j : tie.Need-add-j Inv-loop μ-loop
-add-j c =
-    let inside = c .before .before .before .before .before .before .before .before .before .before .before in
-    omega (arith, one-more (inside .before), inside .loop-test .taken, inside .before .loop .inv .few)
+add-j c = omega (arith, one-more (c .before .before .before .before .before .before .before .before .before .before .before .before .before .before .before .before .before .before .pre), c .before .before .before .before .before .before .before .before .before .before .before .before .loop-test .taken, c .before .before .before .before .before .before .before .before .before .before .before .before .before .loop .inv .0 .few)
 
 loop-less : tie.Need-loop-less Inv-loop μ-loop
-loop-less c = omega (arith, c .before .before .before .before .before .before .before .before .before .before .before .loop-test .taken)
+loop-less c = omega (arith, c .before .before .before .before .before .before .before .before .before .before .before .before .loop-test .taken)
 
 loop-again : tie.Need-loop-again Inv-loop μ-loop
 loop-again c =
-    let done = c .before .before .before .before .before .before in
-    let inside = done .before .before .before .before .before in
-    let at-loop = inside .before in
-    let start = at-loop .before .before .before .before .before in
-    let a = start .args in
-    let l = at-loop .loop in
-    let h : l .j < length (checksFrom (a .starts .now) (a .members .now)) = omega (arith, one-more at-loop, inside .loop-test .taken) in
-    passing-next (a .starts .now) (a .members .now) (a .spins .now) (a .copies .now) (a .offsets .now) (a .multipliers .now) (a .masks .now) (length (a .spins .now)) (start .pre)
-    (l .j) (record { copies = l .copies; offsets = l .offsets; multipliers = l .multipliers; masks = l .masks }) (l .inv) h (done .pass-one .ensures)
-
-long : (c : tie.At-loop Inv-loop μ-loop)
-    → (length (c .loop .copies) ≡ length (c .before .before .before .before .before .args .copies .now)) × (length (c .loop .offsets) ≡ length (c .before .before .before .before .before .args .offsets .now))
-    × (length (c .loop .multipliers) ≡ length (c .before .before .before .before .before .args .multipliers .now)) × (length (c .loop .masks) ≡ length (c .before .before .before .before .before .args .masks .now))
-long c =
-    let start = c .before .before .before .before .before in
-    let a = start .args in
-    passing-long (a .starts .now) (a .members .now) (a .spins .now) (a .copies .now) (a .offsets .now) (a .multipliers .now) (a .masks .now) (length (a .spins .now)) (start .pre)
-    (c .loop .j) (record { copies = c .loop .copies; offsets = c .loop .offsets; multipliers = c .loop .multipliers; masks = c .loop .masks }) (c .loop .inv)
+    let i = c .before .before .before .before .before .before .before .before .before .before .before .before .before .loop .inv in
+    (passing-next (c .before .before .before .before .before .before .before .before .before .before .before .before .before .before .before .before .before .before .pre) (i .0) (omega (arith, one-more (c .before .before .before .before .before .before .before .before .before .before .before .before .before .before .before .before .before .before .pre), c .before .before .before .before .before .before .before .before .before .before .before .before .loop-test .taken)) (i .1) (c .before .before .before .before .before .before .pass-one .ensures), refl)
 
 same-length : tie.Need-same-length Inv-loop μ-loop
-same-length c = long (c .before) .0
+same-length c = passing-long (c .before .before .before .before .before .before .pre) (c .before .loop .inv .0) .0
 
 same-length-2 : tie.Need-same-length-2 Inv-loop μ-loop
-same-length-2 c = long (c .before) .1
+same-length-2 c = passing-long (c .before .before .before .before .before .before .pre) (c .before .loop .inv .0) .1
 
 same-length-3 : tie.Need-same-length-3 Inv-loop μ-loop
-same-length-3 c = long (c .before) .2
+same-length-3 c = passing-long (c .before .before .before .before .before .before .pre) (c .before .loop .inv .0) .2
 
 same-length-4 : tie.Need-same-length-4 Inv-loop μ-loop
-same-length-4 c = long (c .before) .3
+same-length-4 c = passing-long (c .before .before .before .before .before .before .pre) (c .before .loop .inv .0) .3
 
 returns : tie.Need-returns Inv-loop μ-loop
-returns c =
-    let start = c .before .before .before .before .before .before in
-    let a = start .args in
-    let l = c .before .loop in
-    passing-last (a .starts .now) (a .members .now) (a .spins .now) (a .copies .now) (a .offsets .now) (a .multipliers .now) (a .masks .now) (length (a .spins .now)) (start .pre)
-    (l .j) (record { copies = l .copies; offsets = l .offsets; multipliers = l .multipliers; masks = l .masks }) (l .inv)
-    (omega (arith, one-more (c .before), c .loop-test .left))
+returns c = passing-last (c .before .before .before .before .before .before .pre) (c .before .loop .inv .0) (omega (arith, one-more (c .before .before .before .before .before .before .pre), c .loop-test .left))
 
 pub pass-spec : {M : Type 1} → statement M
 pass-spec =
@@ -103,6 +75,10 @@ pass-spec =
     μ-loop
     loop-holds
     add-loop
+    add-e
+    mul-e
+    shared-slice-read-e
+    cast-e
     pass-one-requires
     add-j
     loop-less

@@ -1,34 +1,12 @@
 -- `pass_one` meets its contract: the check's step on its parts, put back. Assumes nothing.
 use mathlib.Core.Path.{refl, _∙_, ap}
-use Prim.Native.Nat.{_+_}
-use lib.ListN.{getD}
 use borrow.Author.Needs.{needs}
 use Rattle.decoder.specs.Stepped.{Stepped}
+use Rattle.decoder.specs.Passed.{Passed}
 use Rattle.decoder.specs.Parts.{part, splice, placed, onePassed}
 use Rattle.decoder.proofs.PassingLaws.{passed-eq}
 use Rattle.decoder.proofs.pass.pass_one.Statement.{statement}
 use Rattle.decoder.proofs.pass.pass_one.Tie as tie
-
-mul-a : tie.Need-mul-a
-mul-a c = search needs
-
-shared-slice-read-a : tie.Need-shared-slice-read-a
-shared-slice-read-a c = search needs
-
-cast-a : tie.Need-cast-a
-cast-a c = search needs
-
-add-e : tie.Need-add-e
-add-e c = search needs
-
-mul-e : tie.Need-mul-e
-mul-e c = search needs
-
-shared-slice-read-e : tie.Need-shared-slice-read-e
-shared-slice-read-e c = search needs
-
-cast-e : tie.Need-cast-e
-cast-e c = search needs
 
 mul-step : tie.Need-mul-step
 mul-step c = search needs
@@ -68,13 +46,13 @@ part-step-end-3 c = search needs
 
 step-requires : tie.Need-step-requires
 unfolding part
-step-requires c κs = c .before .before .before .before .before .before .before .before .before .pre .1 .step
+step-requires c κs = c .before .before .before .before .before .before .pre .step
 
 store-requires : tie.Need-store-requires
-store-requires c κs = c .before .before .before .before .before .before .before .before .before .before .before .before .before .pre .1 .multiplierThere
+store-requires c κs = c .before .before .before .before .before .before .before .before .before .before .pre .multiplierThere
 
 store-requires-2 : tie.Need-store-requires-2
-store-requires-2 c κs = c .before .before .before .before .before .before .before .before .before .before .before .before .before .before .before .before .before .pre .1 .maskThere
+store-requires-2 c κs = c .before .before .before .before .before .before .before .before .before .before .before .before .before .before .pre .maskThere
 
 same-length : tie.Need-same-length
 same-length c = search needs
@@ -91,22 +69,14 @@ same-length-4 c = search needs
 returns : tie.Need-returns
 unfolding onePassed part splice
 returns c =
-    let a = c .before .before .before .before .before .before .before .before .before .before .before .before .before .before .before .before .before .before .before .before .args in
-    passed-eq refl refl (c .before .before .before .before .before .before .store .ensures) (c .before .before .store2 .ensures)
-    ∙ ap (λ (t : Stepped). placed (a .j) (getD (a .starts .now) (a .j) 0) (getD (a .starts .now) (a .j + 1) 0) t
-    (record { copies = a .copies .now; offsets = a .offsets .now; multipliers = a .multipliers .now; masks = a .masks .now })) (c .before .before .before .before .before .before .before .before .before .before .step .ensures)
+    let a = c .before .before .before .before .before .before .before .before .before .before .before .before .before .before .before .before .before .args in
+    let came : Passed = record { copies = a .copies .now; offsets = a .offsets .now; multipliers = a .multipliers .now; masks = a .masks .now } in
+    passed-eq refl refl (c .before .before .before .before .before .before .store .ensures) (c .before .before .store2 .ensures) ∙ ap (λ (t : Stepped). placed (a .j) (a .a) (a .e) t came) (c .before .before .before .before .before .before .before .before .before .before .step .ensures)
 
 pub pass-one-spec : {M : Type 1} → statement M
 pass-one-spec =
     tie.close
     (tie.spec
-    mul-a
-    shared-slice-read-a
-    cast-a
-    add-e
-    mul-e
-    shared-slice-read-e
-    cast-e
     mul-step
     sub-step
     part-step-start
