@@ -23,7 +23,9 @@ use Rattle.decoder.specs.Layout.{checksFrom, tableOf, Holds}
 use Rattle.decoder.specs.Spins.{SpinsFit}
 use Rattle.decoder.specs.Passed.{Passed, PassFits, passed, passedOf}
 use Rattle.decoder.specs.Closing.{AllUpTo, GapFits}
-use Rattle.decoder.specs.Found.{found, closing, statusBy, recordBy}
+use Rattle.run.specs.Ending.{closing, statusBy, recordBy}
+use Rattle.run.proofs.EndingLaws.{counted-next}
+use Rattle.decoder.specs.Found.{found}
 use Rattle.decoder.specs.Rounds.{Given, inner, looped, filled, roundsFrom, Ready}
 use Rattle.decoder.proofs.LayoutLaws.{members-below, members-fit}
 use Rattle.decoder.proofs.ExactLaws.{over-exact, state-exact}
@@ -48,7 +50,7 @@ wide-all a b (x ∷ xs) h w = (one x (w .0), wide-all a b xs h (w .1))
 offsets-low : (k : ℕ) → k < roundLimit → offsetPerRound * k ≤ offsetLimit
 offsets-low k h = omega arith
 
-module _ (l : List ℤ) (ss ms ds : List ℕ) (r : Run) (g : Given (length l) l ss ms ds) (h : Ready l ss ms r) where
+module _ {l : List ℤ} {ss ms ds : List ℕ} {r : Run} (g : Given (length l) l ss ms ds) (h : Ready l ss ms r) where
   t : Table
   t = tableOf (length l) ss ms
 
@@ -100,7 +102,7 @@ module _ (l : List ℤ) (ss ms ds : List ℕ) (r : Run) (g : Given (length l) l 
   })
 
   -- after step 1
-  module _ (s : List ℤ) (e : s ≡ firstOf (length (r .buffers .spins)) (spin unit ms l (record { copies = r .buffers .copies; offsets = r .buffers .offsets }))) where
+  module _ {s : List ℤ} (e : s ≡ firstOf (length (r .buffers .spins)) (spin unit ms l (record { copies = r .buffers .copies; offsets = r .buffers .offsets }))) where
     e' : s ≡ firstOf (length l) (spin unit ms l (record { copies = r .buffers .copies; offsets = r .buffers .offsets }))
     e' = e ∙ ap (λ n. firstOf n (spin unit ms l (record { copies = r .buffers .copies; offsets = r .buffers .offsets }))) spins-long
 
@@ -124,7 +126,7 @@ module _ (l : List ℤ) (ss ms ds : List ℕ) (r : Run) (g : Given (length l) l 
     spins-is = e' ∙ spins-are (length l) l ss ms (g .holds) _
 
     -- after steps 2 and 3
-    module _ (p : Passed) (f : p ≡ passed (at s) (checksFrom ss ms) (r .buffers .offsets)) where
+    module _ {p : Passed} (f : p ≡ passed (at s) (checksFrom ss ms) (r .buffers .offsets)) where
       pass-is : p ≡ passedOf d
       unfolding d t st
       pass-is = passed-is (length l) l ss ms (g .holds) (record { copies = r .buffers .copies; offsets = r .buffers .offsets }) s p e' f
@@ -150,7 +152,7 @@ module _ (l : List ℤ) (ss ms ds : List ℕ) (r : Run) (g : Given (length l) l 
       }
 
       -- after step 4
-      module _ (o : Option ℤ) (q : Progress) (i : o ≡ found l (checksFrom ss ms) s (p .multipliers) (p .masks)) (j : q ≡ recordBy o (r .progress)) where
+      module _ {o : Option ℤ} {q : Progress} (i : o ≡ found l (checksFrom ss ms) s (p .multipliers) (p .masks)) (j : q ≡ recordBy o (r .progress)) where
         found-is : o ≡ foundIn t l d
         unfolding t
         found-is = i ∙ ap₂ (λ x y. found l (checksFrom ss ms) x (y .multipliers) (y .masks)) spins-is pass-is
@@ -158,6 +160,7 @@ module _ (l : List ℤ) (ss ms ds : List ℕ) (r : Run) (g : Given (length l) l 
         record-is : q ≡ record { rounds = suc (r .progress .rounds); status = statusAt (suc (r .progress .rounds)) (d .word) }
         unfolding d
         record-is = j ∙ ap (λ x. recordBy x (r .progress)) found-is
+            ∙ ap (λ k. record { rounds = k; status = statusBy (closing (foundIn t l d)) k }) (counted-next (r .progress .rounds) early)
             ∙ ap (λ x. record { rounds = suc (r .progress .rounds); status = x })
             (status-by (suc (r .progress .rounds)) (closing (foundIn t l (round t l st))) (negatives (round t l st .spins)) ∙ ap (statusAt (suc (r .progress .rounds))) (round-closed t l st))
 

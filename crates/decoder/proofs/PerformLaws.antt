@@ -25,7 +25,7 @@ use Rattle.rules.proofs.Runs.{coming, Safe, Kept, iterate-kept, held-start, ite
 use Rattle.rules.proofs.Lends.{iterate-lend}
 use Rattle.writing.specs.Written.{certificateFrom}
 use Rattle.decoder.specs.Layout.{checksFrom, tableOf, Holds}
-use Rattle.decoder.specs.Found.{closing}
+use Rattle.run.specs.Ending.{closing}
 use Rattle.decoder.specs.Rounds.{Given, looped, filled, roundsFrom, Steady, Ready}
 use Rattle.decoder.specs.Finished.{Ending, finished, FinishFits, PartsFit}
 use Rattle.decoder.proofs.ClosingLaws.{certificate-from}
@@ -59,7 +59,7 @@ module _ (v : Status) (s : List ℤ) (bs ks w c : List ℕ) where
   finish-certified w' c' e f g = ap₂ (λ x y. record { word = x; certificate = y }) f g ∙ ap (λ x. finished x s bs ks (record { word = w; certificate = c })) (sym e)
 
 -- ---- the call
-module _ (n m e : ℕ) (l : List ℤ) (ss ms : List ℕ) (r : Run) (h : PartsFit n m e l ss ms r) where
+module _ {n m e : ℕ} {l : List ℤ} {ss ms : List ℕ} {r : Run} (h : PartsFit n m e l ss ms r) where
   abbrev t : Table
   t = tableOf n (take (m + 1) ss) (take e ms)
 
@@ -97,7 +97,7 @@ module _ (n m e : ℕ) (l : List ℤ) (ss ms : List ℕ) (r : Run) (h : PartsFit
     safe = record { copies = part-safe .copies; offsets = part-safe .offsets; early = part-safe .early };
   })
 
-  module _ (wanted : ℕ) (x : Run) (f : x ≡ roundsFrom wanted l (take (m + 1) ss) (take e ms) (looped (lend (needsBy n m e) r))) where
+  module _ (wanted : ℕ) {x : Run} (f : x ≡ roundsFrom wanted l (take (m + 1) ss) (take e ms) (looped (lend (needsBy n m e) r))) where
     -- the whole run after the rounds
     abbrev end : Run
     end = iterate t l wanted r
@@ -118,19 +118,28 @@ module _ (n m e : ℕ) (l : List ℤ) (ss ms : List ℕ) (r : Run) (h : PartsFit
     back b new p = ap₂ _++_ p (ap (λ k. drop (k b) (the b (r .buffers))) needs-are ∙ sym (past b .rest) ∙ ap (λ k. drop (k b) (the b (end .buffers))) (sym needs-are))
         ∙ take-append-drop (needsBy n m e b) (the b (end .buffers))
 
-    pub spins-back : x .buffers .spins ++ drop n (r .buffers .spins) ≡ end .buffers .spins
+    abbrev spinsNow : List ℤ
+    spinsNow = x .buffers .spins ++ drop n (r .buffers .spins)
+
+    abbrev multipliersNow : List ℕ
+    multipliersNow = x .buffers .multipliers ++ drop m (r .buffers .multipliers)
+
+    abbrev masksNow : List ℕ
+    masksNow = x .buffers .masks ++ drop m (r .buffers .masks)
+
+    spins-back : spinsNow ≡ end .buffers .spins
     spins-back = back spins (x .buffers .spins) (ap (λ q. q .buffers .spins) rounds-are)
 
-    pub copies-back : x .buffers .copies ++ drop e (r .buffers .copies) ≡ end .buffers .copies
+    copies-back : x .buffers .copies ++ drop e (r .buffers .copies) ≡ end .buffers .copies
     copies-back = back copies (x .buffers .copies) (ap (λ q. q .buffers .copies) rounds-are)
 
-    pub offsets-back : x .buffers .offsets ++ drop e (r .buffers .offsets) ≡ end .buffers .offsets
+    offsets-back : x .buffers .offsets ++ drop e (r .buffers .offsets) ≡ end .buffers .offsets
     offsets-back = back offsets (x .buffers .offsets) (ap (λ q. q .buffers .offsets) rounds-are)
 
-    pub multipliers-back : x .buffers .multipliers ++ drop m (r .buffers .multipliers) ≡ end .buffers .multipliers
+    multipliers-back : multipliersNow ≡ end .buffers .multipliers
     multipliers-back = back multipliers (x .buffers .multipliers) (ap (λ q. q .buffers .multipliers) rounds-are)
 
-    pub masks-back : x .buffers .masks ++ drop m (r .buffers .masks) ≡ end .buffers .masks
+    masks-back : masksNow ≡ end .buffers .masks
     masks-back = back masks (x .buffers .masks) (ap (λ q. q .buffers .masks) rounds-are)
 
     -- ---- the end
@@ -140,94 +149,95 @@ module _ (n m e : ℕ) (l : List ℤ) (ss ms : List ℕ) (r : Run) (h : PartsFit
     room : (b : Buffer) → needsBy n m e b ≤ length (the b (end .buffers))
     room b = subst (λ k. needsBy n m e b ≤ k) (sym (ap (λ k. k b) end-sizes)) (h .room b)
 
-    pub finish-fits : (s : List ℤ) (bs ks : List ℕ) → s ≡ end .buffers .spins → bs ≡ end .buffers .multipliers → ks ≡ end .buffers .masks
-        → FinishFits (take n s) (take m bs) (take m ks) (r .buffers .word) (r .buffers .certificate)
-    finish-fits s bs ks p q i = record {
+    pub finish-fits : FinishFits (take n spinsNow) (take m multipliersNow) (take m masksNow) (r .buffers .word) (r .buffers .certificate)
+    finish-fits = record {
       few = subst (λ k. k ≤ maxChecks) (sym masks-long) (h .few);
-      alike = front m bs (end .buffers .multipliers) q (room multipliers) ∙ sym masks-long;
-      word = subst (λ k. k ≤ length (r .buffers .word)) (sym (front n s (end .buffers .spins) p (room spins))) (h .room word);
+      alike = front m multipliersNow (end .buffers .multipliers) multipliers-back (room multipliers) ∙ sym masks-long;
+      word = subst (λ k. k ≤ length (r .buffers .word)) (sym (front n spinsNow (end .buffers .spins) spins-back (room spins))) (h .room word);
       certificate = subst (λ k. certificateLength k ≤ length (r .buffers .certificate)) (sym masks-long) (h .room certificate);
     }
       where
-        masks-long : length (take m ks) ≡ m
-        masks-long = front m ks (end .buffers .masks) i (room masks)
+        masks-long : length (take m masksNow) ≡ m
+        masks-long = front m masksNow (end .buffers .masks) masks-back (room masks)
 
     -- what the last round wrote is what the end writes
-    module _ (s : List ℤ) (bs ks : List ℕ) (p : s ≡ end .buffers .spins) (q : bs ≡ end .buffers .multipliers) (i : ks ≡ end .buffers .masks) where
-      kept : Kept t l (r .buffers) end
-      kept = iterate-kept t l wanted r (h .runs)
+    kept : Kept t l (r .buffers) end
+    kept = iterate-kept t l wanted r (h .runs)
 
-      old : Ending
-      old = record { word = r .buffers .word; certificate = r .buffers .certificate }
+    abbrev new : Ending
+    new = record { word = end .buffers .word; certificate = end .buffers .certificate }
 
-      untouched : (end .progress .status ≡ certified → ⊥) → old ≡ record { word = end .buffers .word; certificate = end .buffers .certificate }
-      unfolding old
-      untouched f = let u = kept .stays f in ap₂ (λ w c. record { word = w; certificate = c }) (sym (u .word)) (sym (u .certificate))
+    abbrev old : Ending
+    old = record { word = r .buffers .word; certificate = r .buffers .certificate }
 
-      module _ (c : end .progress .status ≡ certified) where
-        last : Run
-        last = kept .ends c .last
+    -- what a call that stands so leaves in word and certificate
+    abbrev ended : Status → Ending
+    ended v = finished v (take n spinsNow) (take m multipliersNow) (take m masksNow) old
 
-        d : Round
-        d = coming t l last
+    untouched : (end .progress .status ≡ certified → ⊥) → old ≡ new
+    untouched f = let u = kept .stays f in ap₂ (λ w c. record { word = w; certificate = c }) (sym (u .word)) (sym (u .certificate))
 
-        sized : Sized t d
-        unfolding d
-        sized = round-sized t l (stateIn t (last .buffers))
+    module _ (c : end .progress .status ≡ certified) where
+      last : Run
+      last = kept .ends c .last
 
-        is : end ≡ moved last d
-        unfolding d last
-        is = kept .ends c .same
+      d : Round
+      d = coming t l last
 
-        by : d .word ≡ some (kept .ends c .word)
-        unfolding d last
-        by = kept .ends c .by
+      sized : Sized t d
+      unfolding d
+      sized = round-sized t l (stateIn t (last .buffers))
 
-        last-spins : take n s ≡ d .spins
-        last-spins = ap (take n) (p ∙ ap (λ x. x .buffers .spins) is) ∙ take-over n (d .spins) (last .buffers .spins) (sized .spins)
+      is : end ≡ moved last d
+      unfolding d last
+      is = kept .ends c .same
 
-        last-multipliers : take m bs ≡ multipliersOf (d .entries)
-        last-multipliers = ap (take m) (q ∙ ap (λ x. x .buffers .multipliers) is) ∙ take-over m (multipliersOf (d .entries)) (last .buffers .multipliers) (sized .multipliers ∙ sym (h .checks))
+      by : d .word ≡ some (kept .ends c .word)
+      unfolding d last
+      by = kept .ends c .by
 
-        last-masks : take m ks ≡ masksOf (d .entries)
-        last-masks = ap (take m) (i ∙ ap (λ x. x .buffers .masks) is) ∙ take-over m (masksOf (d .entries)) (last .buffers .masks) (sized .masks ∙ sym (h .checks))
+      last-spins : take n spinsNow ≡ d .spins
+      last-spins = ap (take n) (spins-back ∙ ap (λ x. x .buffers .spins) is) ∙ take-over n (d .spins) (last .buffers .spins) (sized .spins)
 
-        keep-some : {A : Type 0} (b : Bool) (a c : A) → keep b a ≡ some c → a ≡ c
-        keep-some true a c e = some-inj a c e
-        keep-some false a c e = absurd (none≢some e)
+      last-multipliers : take m multipliersNow ≡ multipliersOf (d .entries)
+      last-multipliers = ap (take m) (multipliers-back ∙ ap (λ x. x .buffers .multipliers) is) ∙ take-over m (multipliersOf (d .entries)) (last .buffers .multipliers) (sized .multipliers ∙ sym (h .checks))
 
-        last-word : negatives (take n s) ≡ kept .ends c .word
-        unfolding d last
-        last-word = ap negatives last-spins ∙ keep-some (closing (foundIn t l d)) (negatives (d .spins)) (kept .ends c .word) (round-closed t l (stateIn t (last .buffers)) ∙ by)
+      last-masks : take m masksNow ≡ masksOf (d .entries)
+      last-masks = ap (take m) (masks-back ∙ ap (λ x. x .buffers .masks) is) ∙ take-over m (masksOf (d .entries)) (last .buffers .masks) (sized .masks ∙ sym (h .checks))
 
-        last-certificate : certificateFrom (take m bs) (take m ks) ≡ certificateOf (d .entries)
-        unfolding d last
-        last-certificate = ap₂ certificateFrom last-multipliers last-masks ∙ certificate-from (t .checks) (d .entries) (round-proper t l (stateIn t (last .buffers)))
+      keep-some : {A : Type 0} (b : Bool) (a c : A) → keep b a ≡ some c → a ≡ c
+      keep-some true a c e = some-inj a c e
+      keep-some false a c e = absurd (none≢some e)
 
-        wrote : finished certified (take n s) (take m bs) (take m ks) old ≡ record { word = end .buffers .word; certificate = end .buffers .certificate }
-        unfolding old last
-        wrote = ap₂ (λ w c. record { word = w; certificate = c })
-            (ap₂ (λ w o. over (bytesOf w) o) last-word (sym (kept .before c .word)) ∙ ap (λ o. overBy (wordLeft o) (last .buffers .word)) (sym by) ∙ ap (λ x. x .buffers .word) (sym is))
-            (ap₂ over last-certificate (sym (kept .before c .certificate)) ∙ ap (λ o. overBy (certificateLeft o (d .entries)) (last .buffers .certificate)) (sym by) ∙ ap (λ x. x .buffers .certificate) (sym is))
+      last-word : negatives (take n spinsNow) ≡ kept .ends c .word
+      unfolding d last
+      last-word = ap negatives last-spins ∙ keep-some (closing (foundIn t l d)) (negatives (d .spins)) (kept .ends c .word) (round-closed t l (stateIn t (last .buffers)) ∙ by)
 
-      pub finish-law : (g : Ending) → g ≡ finished (x .progress .status) (take n s) (take m bs) (take m ks) (record { word = r .buffers .word; certificate = r .buffers .certificate })
-          → g ≡ record { word = end .buffers .word; certificate = end .buffers .certificate }
-      unfolding old
-      finish-law g j = j ∙ ap (λ y. finished (y .progress .status) (take n s) (take m bs) (take m ks) old) rounds-are ∙ go (end .progress .status) refl
-        where
-          go : (v : Status) → end .progress .status ≡ v → finished v (take n s) (take m bs) (take m ks) old ≡ record { word = end .buffers .word; certificate = end .buffers .certificate }
-          go running e = untouched (λ c. running≢certified (sym e ∙ c))
-          go certified e = wrote e
-          go spent e = untouched (λ c. spent≢certified (sym e ∙ c))
+      last-certificate : certificateFrom (take m multipliersNow) (take m masksNow) ≡ certificateOf (d .entries)
+      unfolding d last
+      last-certificate = ap₂ certificateFrom last-multipliers last-masks ∙ certificate-from (t .checks) (d .entries) (round-proper t l (stateIn t (last .buffers)))
 
-    pub performed : (g : Ending) → g ≡ record { word = end .buffers .word; certificate = end .buffers .certificate }
-        → record {
-          progress = x .progress;
-          buffers = lent (x .buffers .spins ++ drop n (r .buffers .spins)) (x .buffers .copies ++ drop e (r .buffers .copies)) (x .buffers .offsets ++ drop e (r .buffers .offsets))
-              (x .buffers .multipliers ++ drop m (r .buffers .multipliers)) (x .buffers .masks ++ drop m (r .buffers .masks)) (g .word) (g .certificate);
-        }
+      wrote : ended certified ≡ new
+      unfolding last
+      wrote = ap₂ (λ w c. record { word = w; certificate = c })
+          (ap₂ (λ w o. over (bytesOf w) o) last-word (sym (kept .before c .word)) ∙ ap (λ o. overBy (wordLeft o) (last .buffers .word)) (sym by) ∙ ap (λ x. x .buffers .word) (sym is))
+          (ap₂ over last-certificate (sym (kept .before c .certificate)) ∙ ap (λ o. overBy (certificateLeft o (d .entries)) (last .buffers .certificate)) (sym by) ∙ ap (λ x. x .buffers .certificate) (sym is))
+
+    ended-right : ended (x .progress .status) ≡ new
+    ended-right = ap (λ y. ended (y .progress .status)) rounds-are ∙ go (end .progress .status) refl
+      where
+        go : (v : Status) → end .progress .status ≡ v → ended v ≡ new
+        go running e = untouched (λ c. running≢certified (sym e ∙ c))
+        go certified e = wrote e
+        go spent e = untouched (λ c. spent≢certified (sym e ∙ c))
+
+    pub performed : {g : Ending} → g ≡ ended (x .progress .status) → record {
+      progress = x .progress;
+      buffers = lent spinsNow (x .buffers .copies ++ drop e (r .buffers .copies)) (x .buffers .offsets ++ drop e (r .buffers .offsets)) multipliersNow masksNow
+          (g .word) (g .certificate);
+    }
         ≡ iterate (tableOf n (take (m + 1) ss) (take e ms)) l wanted r
-    performed g j = λ i. record {
+    performed j = λ i. record {
       progress = rounds-are i .progress;
-      buffers = lent (spins-back i) (copies-back i) (offsets-back i) (multipliers-back i) (masks-back i) (j i .word) (j i .certificate);
+      buffers = lent (spins-back i) (copies-back i) (offsets-back i) (multipliers-back i) (masks-back i) ((j ∙ ended-right) i .word) ((j ∙ ended-right) i .certificate);
     }

@@ -23,7 +23,8 @@ use Rattle.rules.proofs.Runs.{spin-within}
 use Rattle.decoder.specs.Layout.{checksFrom, tableOf, Holds}
 use Rattle.decoder.specs.Passed.{Passed, passedBy, passedOf, passed}
 use Rattle.decoder.specs.Closing.{metBy, rowsFrom}
-use Rattle.decoder.specs.Found.{found, closing}
+use Rattle.run.specs.Ending.{closing}
+use Rattle.decoder.specs.Found.{found}
 use Rattle.decoder.proofs.PlaceLaws.{first-at}
 use Rattle.decoder.proofs.SpinLaws.{pass-same, candidate-same}
 use Rattle.decoder.proofs.ClosingLaws.{rows-from, candidate-negatives}

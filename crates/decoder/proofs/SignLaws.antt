@@ -17,14 +17,6 @@ use Rattle.writing.proofs.SetsLaws.{drop-next, drop-end}
 use Rattle.decoder.specs.Closing.{metBy}
 use Rattle.decoder.specs.Candidate.{noZero}
 
-pub is-zero : (x : ℤ) → x ≡ pos 0 → isZero x ≡ true
-is-zero x e = ap isZero e
-
-pub not-zero : (x : ℤ) → (x ≡ pos 0 → ⊥) → isZero x ≡ false
-not-zero (pos zero) f = absurd (f refl)
-not-zero (pos (suc n)) f = refl
-not-zero (negsuc n) f = refl
-
 -- the parity of the negative numbers, one more
 pub flip-negative : (b : Bool) (x : ℤ) → x <ℤ pos 0 → not b ≡ b ⊕ isNeg x
 flip-negative b x h = sym (⊕-true b) ∙ ap (λ t. b ⊕ t) (sym (below-zero x h))

@@ -4,22 +4,16 @@ use super::gap::gap_of;
 use super::pass::pass;
 use super::spins::find_spins;
 use run::Record;
-use run::Status;
+use run::ending::Found;
+use run::ending::record_after;
 ghost use mathlib.Core.Path.{_≡_};
-ghost use Prim.Native.Nat.{_+_, _<_};
 ghost use lib.ListN.{length};
-ghost use Rattle.rules.specs.Round.{isZero};
-ghost use Rattle.run.specs.Reply.{statusOf, progressOf};
+ghost use Rattle.run.specs.Reply.{progressOf};
+ghost use Rattle.run.specs.Ending.{foundOf};
 ghost use Rattle.decoder.specs.Layout.{checksFrom};
 ghost use Rattle.decoder.specs.Closing.{GapFits};
-ghost use Rattle.decoder.specs.Found.{foundOf, found, closing, statusBy, recordBy};
+ghost use Rattle.decoder.specs.Found.{found};
 ghost use Rattle.decoder.specs.Rounds.{Given, Ready, inner, roundsFrom};
-
-// What step 4 finds: no candidate that meets all checks, or one, with its gap.
-pub enum Found {
-    Nothing,
-    Codeword(i64),
-}
 
 // Step 4: the candidate of the spins, held to the checks and to this round's multipliers.
 pub(crate) fn find_word(
@@ -37,48 +31,6 @@ pub(crate) fn find_word(
         return Found::Nothing;
     }
     Found::Codeword(gap_of(frame, starts, members, spins, multipliers, masks))
-}
-
-fn is_zero(gap: i64) -> bool
-    ensures { λ r. ⌜ r ≡ isZero gap ⌝ }
-{
-    if gap == 0 {
-        return true;
-    }
-    false
-}
-
-// "Gap 0 ends the run as certified."
-pub(crate) fn closes(what: Found) -> bool
-    ensures { λ r. ⌜ r ≡ closing (foundOf what) ⌝ }
-{
-    match what {
-        Found::Nothing => false,
-        Found::Codeword(gap) => is_zero(gap),
-    }
-}
-
-// How the run stands after so many rounds, the last of which has found this.
-pub(crate) fn status_after(rounds: u32, what: Found) -> Status
-    ensures { λ r. ⌜ statusOf r ≡ statusBy (closing (foundOf what)) rounds ⌝ }
-{
-    if closes(what) {
-        return Status::Certified;
-    }
-    if Record::ROUND_LIMIT <= rounds {
-        return Status::Spent;
-    }
-    Status::Running
-}
-
-// The run's record after one round more.
-pub(crate) fn record_after(run: Record, what: Found) -> Record
-    requires { ⌜ run .rounds < 1024 ⌝ }
-    ensures { λ r. ⌜ progressOf r ≡ recordBy (foundOf what) (progressOf run) ⌝ }
-{
-    let rounds = run.rounds + 1;
-    let status = status_after(rounds, what);
-    Record { rounds, status }
 }
 
 // The next round of a running run, on buffers of exactly the stated lengths.

@@ -3,3 +3,4 @@ pub mod StartLaws
 pub mod BoundsLaws
 pub mod AdmitLaws
 pub mod ViewLaws
+pub mod EndingLaws

@@ -1,2 +1,3 @@
 pub mod Reply
 pub mod Admitted
+pub mod Ending

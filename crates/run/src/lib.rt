@@ -2,6 +2,7 @@
 // "Turned down because of how the run stands").
 mod bounds;
 mod clear;
+pub mod ending;
 mod refusals;
 
 use clear::clear_first;

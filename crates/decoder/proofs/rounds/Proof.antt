@@ -22,7 +22,7 @@ slice-aggregate-admit-2 : tie.Need-slice-aggregate-admit-2
 slice-aggregate-admit-2 c = search needs
 
 admit-requires : tie.Need-admit-requires
-admit-requires c κs = search needs
+admit-requires c κs = tt
 
 enum-known-answer : tie.Need-enum-known-answer
 enum-known-answer c = search needs
@@ -40,7 +40,7 @@ perform-requires : tie.Need-perform-requires
 perform-requires c κs = admitted-fit _ _ _ _ _ _ _ _ _ _ _ (told _ _ _ _ _ _ _ _ _ _ _ _ _ _ (c .before .before .before .before .before .before .before .before .before .before .answer2 .given .1) (lent-lengths _ _ _ _ _ _ _) (c .before .before .before .before .before .before .before .before .before .before .before .before .before .before .admit .ensures)) starts-room members-room
 
 outcome-of-requires : tie.Need-outcome-of-requires
-outcome-of-requires c κs = search needs
+outcome-of-requires c κs = tt
 
 same-length : tie.Need-same-length
 same-length c = refl

@@ -4,7 +4,7 @@ use mathlib.Core.Bool.{not, _&&_, and-true, and-false}
 use mir.Syntax.{w32}
 use mir.Val.{ofZ}
 use Rattle.integers.specs.Machine.{eq-lit}
-use Rattle.decoder.proofs.SignLaws.{is-zero, not-zero}
+use Rattle.run.proofs.EndingLaws.{is-zero, not-zero}
 use Rattle.decoder.proofs.candidate.decided.Statement.{statement}
 use Rattle.decoder.proofs.candidate.decided.Tie as tie
 

@@ -1,20 +1,28 @@
 -- `do_round` meets its contract. Assumes nothing.
-use borrow.Author.Needs.{needs}
-use Rattle.decoder.proofs.DoLaws.{early, spins-fit, pass-fits, gap-fits, done-law}
+use Rattle.decoder.proofs.DoLaws.{spins-fit, pass-fits, gap-fits, done-law}
 use Rattle.decoder.proofs.round.do_round.Statement.{statement}
 use Rattle.decoder.proofs.round.do_round.Tie as tie
 
+-- the call's beginning, seen from after step 1
+abbrev begun : tie.After-find-spins → tie.Start
+begun c = c .before .before .before .before .before .before .before .before .before
+
 find-spins-requires : tie.Need-find-spins-requires
-find-spins-requires c κs = let pre = c .before .before .before .before .before .before .before .before .pre in spins-fit _ _ _ _ _ (pre .0) (pre .1)
+find-spins-requires c κs = spins-fit (c .before .before .before .before .before .before .before .before .pre .0) (c .before .before .before .before .before .before .before .before .pre .1)
 
 pass-requires : tie.Need-pass-requires
-pass-requires c κs = let pre = c .before .before .before .before .before .before .before .before .before .before .before .before .before .before .before .pre in pass-fits _ _ _ _ _ (pre .0) (pre .1) _ (c .before .before .before .before .before .before .find-spins .ensures)
+pass-requires c κs =
+    let one = c .before .before .before .before .before .before in
+    pass-fits (begun one .pre .0) (begun one .pre .1) (one .find-spins .ensures)
 
 find-word-requires : tie.Need-find-word-requires
-find-word-requires c κs = let pre = c .before .before .before .before .before .before .before .before .before .before .before .before .before .before .before .before .before .before .before .before .before .before .before .before .before .pre in gap-fits _ _ _ _ _ (pre .0) (pre .1) _ (c .before .before .before .before .before .before .before .before .before .before .before .before .before .before .before .before .find-spins .ensures) _ (c .before .before .before .before .before .before .before .before .before .pass .ensures)
+find-word-requires c κs =
+    let two = c .before .before .before .before .before .before .before .before .before in
+    let one = c .before .before .before .before .before .before .before .before .before .before .before .before .before .before .before .before in
+    gap-fits (begun one .pre .0) (begun one .pre .1) (one .find-spins .ensures) (two .pass .ensures)
 
 record-after-requires : tie.Need-record-after-requires
-record-after-requires c κs = let pre = c .before .before .before .before .before .before .before .before .before .before .before .before .before .before .before .before .before .before .before .before .before .before .before .before .before .before .pre in early _ _ _ _ _ (pre .0) (pre .1)
+record-after-requires c κs = tt
 
 same-length : tie.Need-same-length
 same-length c = c .before .before .before .before .before .before .before .before .before .before .before .before .before .before .before .before .before .before .find-spins .kept .1 .1 .1 .1 .1 .0
@@ -32,7 +40,10 @@ same-length-5 : tie.Need-same-length-5
 same-length-5 c = c .before .before .before .before .before .before .before .before .before .before .before .pass .kept .1 .1 .1 .1 .1 .1 .0
 
 returns : tie.Need-returns
-returns c = let pre = c .before .before .before .before .before .before .before .before .before .before .before .before .before .before .before .before .before .before .before .before .before .before .before .before .before .before .before .pre in done-law _ _ _ _ _ (pre .0) (pre .1) _ (c .before .before .before .before .before .before .before .before .before .before .before .before .before .before .before .before .before .before .find-spins .ensures) _ (c .before .before .before .before .before .before .before .before .before .before .before .pass .ensures) _ _ (c .before .find-word .ensures) (c .record-after .ensures)
+returns c =
+    let two = c .before .before .before .before .before .before .before .before .before .before .before in
+    let one = c .before .before .before .before .before .before .before .before .before .before .before .before .before .before .before .before .before .before in
+    done-law (begun one .pre .0) (begun one .pre .1) (one .find-spins .ensures) (two .pass .ensures) (c .before .find-word .ensures) (c .record-after .ensures)
 
 pub do-round-spec : {M : Type 1} → statement M
 do-round-spec =

@@ -3,9 +3,9 @@ use mathlib.Core.Path.{sym, ap}
 use mir.Syntax.{w64}
 use mir.Val.{ofZ}
 use Rattle.integers.specs.Machine.{eq-lit}
-use Rattle.decoder.proofs.SignLaws.{is-zero, not-zero}
-use Rattle.decoder.proofs.round.is_zero.Statement.{statement}
-use Rattle.decoder.proofs.round.is_zero.Tie as tie
+use Rattle.run.proofs.EndingLaws.{is-zero, not-zero}
+use Rattle.run.proofs.ending.is_zero.Statement.{statement}
+use Rattle.run.proofs.ending.is_zero.Tie as tie
 
 returns : tie.Need-returns
 returns c = sym (is-zero (c .before .args .gap) (eq-lit (c .before .fits .gap) (c .if1 .taken)))

@@ -6,9 +6,9 @@ use mir.Facts.{toZ-ofZ}
 use borrow.Author.Needs.{needs}
 use Rattle.integers.specs.Machine.{fit}
 use Rattle.rules.specs.Round.{isZero}
-use Rattle.decoder.specs.Found.{foundOf, closing}
-use Rattle.decoder.proofs.round.closes.Statement.{statement}
-use Rattle.decoder.proofs.round.closes.Tie as tie
+use Rattle.run.specs.Ending.{foundOf, closing}
+use Rattle.run.proofs.ending.closes.Statement.{statement}
+use Rattle.run.proofs.ending.closes.Tie as tie
 
 enum-told : tie.Need-enum-told
 enum-told c = search needs

@@ -5,9 +5,9 @@ use borrow.Author.Tests.{le-leb, lt-leb, not-false}
 use borrow.Author.Needs.{needs}
 use Rattle.rules.specs.Limits.{roundLimit}
 use Rattle.rules.specs.Run.{running, spent}
-use Rattle.decoder.specs.Found.{statusBy}
-use Rattle.decoder.proofs.round.status_after.Statement.{statement}
-use Rattle.decoder.proofs.round.status_after.Tie as tie
+use Rattle.run.specs.Ending.{statusBy}
+use Rattle.run.proofs.ending.status_after.Statement.{statement}
+use Rattle.run.proofs.ending.status_after.Tie as tie
 
 closes-requires : tie.Need-closes-requires
 closes-requires c κs = search needs
