@@ -10,9 +10,9 @@ use lib.IntN.{ℤ, pos}
 use borrow.Author.Tests.{eq-eqb, ne-eqb}
 use Rattle.rules.specs.Limits.{maxChecks, maxDegree, sizeLimit, stepLimit}
 use Rattle.rules.specs.Bound.{Row}
-use Rattle.rules.specs.Scatter.{rowOf, EachWithin, Put}
+use Rattle.rules.specs.Scatter.{rowOf, EachWithin, Put, Adds}
 use Rattle.rules.proofs.Duality.{Below}
-use Rattle.rules.proofs.BoundLaws.{Adds, none-adds, row-adds, scaled-once}
+use Rattle.rules.proofs.BoundLaws.{none-adds, row-adds, frame-within}
 use Rattle.writing.proofs.SetsLaws.{drop-next, drop-end}
 use Rattle.decoder.specs.Layout.{checksFrom, Holds}
 use Rattle.decoder.specs.Closing.{withRow, rowsFrom, rowsLeft, AllUpTo, RowFits, RowsFit, GapFits}
@@ -109,10 +109,10 @@ module _ {ss ms bs ks : List ℕ} {ls : List ℤ} (f : RowsFit ss ms bs ks ls) (
 
 -- ---- the end of a round
 pub rows-fit : {n : ℕ} {l s : List ℤ} {ss ms bs ks : List ℕ} → GapFits n l s ss ms bs ks → RowsFit ss ms bs ks l
-rows-fit {l = l} {ss = ss} {ms = ms} f = record {
+rows-fit {ss = ss} {ms = ms} f = record {
   holds = subst (λ m. Holds m ss ms) (sym (f .frameLong)) (f .holds);
   multipliersLong = f .multipliersLong;
   masksLong = f .masksLong;
   multipliers = f .multipliers;
-  sizes = record { place = λ i. scaled-once l (f .frame) i .size };
+  sizes = frame-within (f .frame);
 }

@@ -11,7 +11,8 @@ use lib.IntN.{ℤ}
 use Rattle.integers.specs.Sum.{AllWithin}
 use Rattle.rules.specs.Limits.{frameLimit, maxDegree, maxMultiplier, scaledLimit, sizeLimit, stepLimit}
 use Rattle.rules.specs.Parity.{meets}
-use Rattle.rules.specs.Bound.{Row}
+use Rattle.rules.specs.Cut.{negatives}
+use Rattle.rules.specs.Bound.{Row, bound, gap}
 use Rattle.rules.specs.Scatter.{rowOf, EachWithin}
 use Rattle.rules.proofs.Duality.{Below}
 use Rattle.decoder.specs.Layout.{checksFrom, Holds}
@@ -38,6 +39,13 @@ rowsOn ss ms bs ks = rowsFrom (checksFrom ss ms) bs ks
 
 abbrev pub rowsLeft : List ℕ → List ℕ → List ℕ → List ℕ → ℕ → List Row
 rowsLeft ss ms bs ks j = rowsFrom (drop j (checksFrom ss ms)) (drop j bs) (drop j ks)
+
+-- their bound and their gap, of the word with ones at negative spins, at scale 1
+abbrev pub boundOn : List ℤ → List ℕ → List ℕ → List ℕ → List ℕ → ℤ
+boundOn l ss ms bs ks = bound (length l) 1 l (rowsOn ss ms bs ks)
+
+abbrev pub gapOn : List ℤ → List ℤ → List ℕ → List ℕ → List ℕ → List ℕ → ℤ
+gapOn l s ss ms bs ks = gap (length s) 1 l (rowsOn ss ms bs ks) (negatives s)
 
 -- every multiplier is at most 8,388,608
 abbrev pub AllUpTo : ℕ → List ℕ → Type 0

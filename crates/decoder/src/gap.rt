@@ -14,10 +14,8 @@ ghost use Rattle.rules.specs.Limits.{maxBits, maxDegree, maxMultiplier, frameSi
 ghost use Rattle.rules.specs.Table.{at};
 ghost use Rattle.rules.specs.Parity.{turn, side, agreement};
 ghost use Rattle.rules.specs.Cut.{isNeg, negatives};
-ghost use Rattle.rules.specs.Bound.{bound, gap};
 ghost use Rattle.rules.specs.Scatter.{scatterRow, rowOf, priceOf, EachWithin, Put, AllPut};
-ghost use Rattle.rules.proofs.Duality.{Below};
-ghost use Rattle.decoder.specs.Closing.{withRow, rowsOn, RowFits, RowsFit, GapFits};
+ghost use Rattle.decoder.specs.Closing.{withRow, rowsOn, boundOn, gapOn, RowFits, RowsFit, GapFits};
 
 // A number with a member's weight: the multiplier b, added where the mask's lowest bit is 1 and subtracted where it is 0.
 fn weighted(x: i64, b: u32, mask: u32) -> i64
@@ -175,8 +173,7 @@ fn bound_of(
     numbers: &mut [i64],
 ) -> i64
     requires { ⌜ RowsFit (now starts) (now members) (now multipliers) (now masks) (now frame) × (length (now numbers) ≡ length (now frame)) ⌝ }
-    ensures { λ r. ⌜ (r ≡ bound (length (now (frame .entry))) 1 (now (frame .entry))
-        (rowsOn (now (starts .entry)) (now (members .entry)) (now (multipliers .entry)) (now (masks .entry)))) × Within boundLimit r ⌝ }
+    ensures { λ r. ⌜ (r ≡ boundOn (now (frame .entry)) (now (starts .entry)) (now (members .entry)) (now (multipliers .entry)) (now (masks .entry))) × Within boundLimit r ⌝ }
 {
     load(frame, numbers);
     let prices = add_rows(starts, members, multipliers, masks, numbers);
@@ -193,8 +190,7 @@ pub(crate) fn gap_of(
     masks: &[u32],
 ) -> i64
     requires { ⌜ GapFits (length (now spins)) (now frame) (now spins) (now starts) (now members) (now multipliers) (now masks) ⌝ }
-    ensures { λ r. ⌜ r ≡ gap (length (now (spins .entry))) 1 (now (frame .entry))
-        (rowsOn (now (starts .entry)) (now (members .entry)) (now (multipliers .entry)) (now (masks .entry))) (negatives (now (spins .entry))) ⌝ }
+    ensures { λ r. ⌜ r ≡ gapOn (now (frame .entry)) (now (spins .entry)) (now (starts .entry)) (now (members .entry)) (now (multipliers .entry)) (now (masks .entry)) ⌝ }
 {
     let mut numbers = [0i64; MAX_BITS];
     let n = frame.len();

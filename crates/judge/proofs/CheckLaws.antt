@@ -1,6 +1,6 @@
 -- The bits of a word, and its parity checks as the loop goes over them. Assumes nothing.
 use mathlib.Core.Path.{_≡_, refl, sym, _∙_, ap}
-use mathlib.Core.Bool.{Bool, true, false, not, cond}
+use mathlib.Core.Bool.{Bool, true, false, cond}
 use mathlib.Core.List.{List, [], _∷_}
 use mathlib.Core.Option.{some, none}
 use Prim.Native.Nat.{ℕ, zero, suc, _+_, _-_, _≤_, _<_}
@@ -8,20 +8,11 @@ use native.Mathlib.Omega.{arith}
 use native.Mathlib.Nat.{sub-eq-zero-of-le}
 use native.Mathlib.Numerals.{add-one}
 use lib.ListN.{getD}
-use borrow.Author.Tests.{eq-eqb, ne-eqb}
 use Rattle.integers.specs.Count.{left-more}
 use Rattle.rules.specs.Table.{bit, bitsAt}
-use Rattle.rules.specs.Parity.{_⊕_, odd, firstBroken}
+use Rattle.rules.specs.Parity.{odd, firstBroken}
 use Rattle.rules.specs.Input.{bitOfByte, bitsOf}
-use Rattle.rules.proofs.Signs.{⊕-zero, ⊕-true}
 use Rattle.table.specs.Held.{partAt, partsFrom}
-
--- ---- one bit
-pub flips : (s : Bool) (b : ℕ) → b ≡ 1 → not s ≡ s ⊕ bitOfByte b
-flips s b e = sym (⊕-true s) ∙ ap (λ x. s ⊕ x) (sym (eq-eqb b 1 e))
-
-pub stays : (s : Bool) (b : ℕ) → (b ≡ 1 → ⊥) → s ≡ s ⊕ bitOfByte b
-stays s b f = sym (⊕-zero s) ∙ ap (λ x. s ⊕ x) (sym (ne-eqb b 1 f))
 
 pub bits-at : (w : List ℕ) (i : ℕ) → bit (bitsOf w) i ≡ bitOfByte (getD w i 0)
 bits-at [] zero = refl

@@ -8,10 +8,9 @@ use lib.ListN.{length, getD, take, drop}
 use lib.IntN.{ℤ}
 use Rattle.integers.specs.Count.{left-more}
 use Rattle.rules.specs.Limits.{maxDegree}
-use Rattle.rules.specs.Bound.{Row}
-use Rattle.rules.specs.Scatter.{rowOf, Put}
+use Rattle.rules.specs.Scatter.{rowOf, Put, Adds}
 use Rattle.rules.specs.Certificate.{Item, itemAt, itemsAt}
-use Rattle.rules.proofs.BoundLaws.{Adds, row-adds}
+use Rattle.rules.proofs.BoundLaws.{row-adds}
 use Rattle.table.specs.Held.{partAt, Part}
 use Rattle.table.proofs.HeldLaws.{part-length}
 use Rattle.judge.specs.Rows.{rowIn, rowsIn, rowsLeft, Placed}

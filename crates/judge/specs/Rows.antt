@@ -1,10 +1,14 @@
 -- A certificate's rows as the code reads them (document 01, "Certificates"). Definitions only. Assumes nothing.
+use mathlib.Core.Path.{_≡_}
 use mathlib.Core.List.{List, [], _∷_}
 use Prim.Native.Nat.{ℕ, _-_, _≤_, _<_}
-use Rattle.rules.specs.Limits.{maxMultiplier}
-use Rattle.rules.specs.Bound.{Row}
+use lib.ListN.{length}
+use lib.IntN.{ℤ}
+use Rattle.rules.specs.Limits.{maxBits, maxScale, maxMultiplier}
+use Rattle.rules.specs.Input.{bitsOf}
+use Rattle.rules.specs.Bound.{Row, bound, gap}
 use Rattle.rules.specs.Scatter.{rowOf}
-use Rattle.rules.specs.Certificate.{Item, itemAt, itemsAt}
+use Rattle.rules.specs.Certificate.{Item, itemAt, itemsAt, entriesOf, scaleOf, itemsOf}
 use Rattle.table.specs.Held.{partAt, Part}
 use Rattle.judge.specs.Refusals.{Long}
 
@@ -28,3 +32,14 @@ pub record Placed (n : ℕ) (starts members : List ℕ) (i : Item) : Type 0 wher
 pub record AllPlaced (n : ℕ) (starts members bs : List ℕ) (q : ℕ) : Type 0 where
   pub long : Long bs q
   pub each : (k : ℕ) → k < q → Placed n starts members (itemAt bs q k)
+
+-- ---- the bound and the gap of a certificate's rows
+abbrev pub boundIn : List ℕ → List ℕ → List ℤ → List ℕ → ℕ → ℕ → ℤ
+boundIn starts members l bs q scale = bound (length l) scale l (rowsIn starts members (itemsAt bs q 0 q))
+
+abbrev pub gapIn : List ℕ → List ℕ → List ℤ → List ℕ → List ℕ → ℤ
+gapIn starts members l w bs = gap (length l) (scaleOf bs) l (rowsIn starts members (itemsOf bs)) (bitsOf w)
+
+abbrev pub Weighable : List ℕ → List ℕ → List ℤ → List ℕ → List ℕ → Type 0
+Weighable starts members l w bs =
+    (length w ≡ length l) × (length l ≤ maxBits) × (scaleOf bs ≤ maxScale) × AllPlaced (length l) starts members bs (entriesOf bs)

@@ -20,13 +20,11 @@ ghost use Rattle.integers.specs.Sum.{sumTo};
 ghost use Rattle.rules.specs.Limits.{maxBits, maxDegree, maxScale, maxMultiplier, frameSize, scaledLimit, sizeLimit, boundLimit};
 ghost use Rattle.rules.specs.Table.{at};
 ghost use Rattle.rules.specs.Parity.{side};
-ghost use Rattle.rules.specs.Input.{bitsOf};
-ghost use Rattle.rules.specs.Bound.{bound, gap};
 ghost use Rattle.rules.specs.Scatter.{scatterRow, rowOf, priceOf, EachWithin, Scaled, Put, AllPut};
-ghost use Rattle.rules.specs.Certificate.{itemAt, itemsAt, entriesOf, scaleOf, itemsOf};
+ghost use Rattle.rules.specs.Certificate.{itemAt, itemsAt};
 ghost use Rattle.rules.proofs.Duality.{Below};
 ghost use Rattle.judge.specs.Refusals.{Listed};
-ghost use Rattle.judge.specs.Rows.{rowIn, rowsIn, Placed, AllPlaced};
+ghost use Rattle.judge.specs.Rows.{rowIn, rowsIn, Placed, AllPlaced, boundIn, gapIn, Weighable};
 
 // "S times l."
 pub(crate) fn times(scale: usize, x: i64) -> i64
@@ -39,7 +37,7 @@ pub(crate) fn times(scale: usize, x: i64) -> i64
 // The reduced numbers before any entry.
 pub(crate) fn scale_frame(reduced: &mut [i64], frame: &[i16], scale: usize)
     requires { ⌜ (length (now reduced) ≡ length (now frame)) × (scale ≤ maxScale) ⌝ }
-    ensures { λ _. ⌜ ((i : ℕ) → i < length (now (frame .entry)) → Scaled scale (now (frame .entry)) (now (reduced .exit)) i) ⌝ }
+    ensures { λ _. ⌜ ((i : ℕ) → i < length (now (frame .entry)) → Scaled scale (now (frame .entry)) i (at (now (reduced .exit)) i)) ⌝ }
 {
     let mut i: usize = 0;
     while i < frame.len() {
@@ -162,8 +160,7 @@ pub(crate) fn bound_of(
 ) -> i64
     requires { ⌜ (length (now reduced) ≡ length (now frame)) × (length (now frame) ≤ maxBits) × (scale ≤ maxScale)
         × AllPlaced (length (now frame)) (now starts) (now members) (now bytes) q ⌝ }
-    ensures { λ r. ⌜ (r ≡ bound (length (now (frame .entry))) scale (now (frame .entry)) (rowsIn (now (starts .entry)) (now (members .entry)) (itemsAt (now (bytes .entry)) q 0 q)))
-        × Within boundLimit r ⌝ }
+    ensures { λ r. ⌜ (r ≡ boundIn (now (starts .entry)) (now (members .entry)) (now (frame .entry)) (now (bytes .entry)) q scale) × Within boundLimit r ⌝ }
 {
     scale_frame(reduced, frame, scale);
     let price = put_entries(reduced, starts, members, bytes, q);
@@ -178,10 +175,8 @@ pub(crate) fn gap_of(
     word: &[u8],
     bytes: &[u8],
 ) -> i64
-    requires { ⌜ (length (now word) ≡ length (now frame)) × (length (now frame) ≤ maxBits) × (scaleOf (now bytes) ≤ maxScale)
-        × AllPlaced (length (now frame)) (now starts) (now members) (now bytes) (entriesOf (now bytes)) ⌝ }
-    ensures { λ r. ⌜ r ≡ gap (length (now (frame .entry))) (scaleOf (now (bytes .entry))) (now (frame .entry))
-        (rowsIn (now (starts .entry)) (now (members .entry)) (itemsOf (now (bytes .entry)))) (bitsOf (now (word .entry))) ⌝ }
+    requires { ⌜ Weighable (now starts) (now members) (now frame) (now word) (now bytes) ⌝ }
+    ensures { λ r. ⌜ r ≡ gapIn (now (starts .entry)) (now (members .entry)) (now (frame .entry)) (now (word .entry)) (now (bytes .entry)) ⌝ }
 {
     let q = u16_at(bytes, 0);
     let scale = u16_at(bytes, 2);

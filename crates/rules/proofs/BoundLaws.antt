@@ -21,7 +21,7 @@ use Rattle.rules.specs.Table.{at}
 use Rattle.rules.specs.Parity.{side, agreement}
 use Rattle.rules.specs.Mask.{setOf}
 use Rattle.rules.specs.Bound.{Row, weights, pull, price, reduced, bound, gap}
-use Rattle.rules.specs.Scatter.{scatter, scatterRow, scatterRows, rowOf, priceOf, EachWithin, Scaled, MembersPut, Put, RowsPut, AllPut}
+use Rattle.rules.specs.Scatter.{scatter, scatterRow, scatterRows, rowOf, priceOf, EachWithin, Scaled, MembersPut, Put, Adds, RowsPut, AllPut}
 use Rattle.rules.proofs.Masks.{set-length}
 use Rattle.rules.proofs.ScatterLaws.{rows-length, rows-pull}
 
@@ -56,40 +56,32 @@ put-within : {m n : ℕ} {ls : List ℤ} {w : ℤ} (i : ℕ) → Within n w → 
 put-within {m} {n} {ls} {w} i hw h = record { place = set-at m (m + n) ls i (at ls i +ℤ w) (le-add-right m n) (within-add m n (at ls i) w (h .place i) hw) (h .place) }
 
 -- ---- a frame
--- one number more: "S times l"
-module _ {s : ℕ} {l r : List ℤ} {i : ℕ} {x : ℤ} (hi : i < length r) (e : x ≡ pos s *ℤ at l i) (w : Within scaledLimit x) (h : (j : ℕ) → j < i → Scaled s l r j) where
-  here : (j : ℕ) → j ≡ i → Scaled s l (set r i x) j
-  here j p =
-      let same : at (set r i x) j ≡ x = ap (at (set r i x)) p ∙ getD-set-same r i x (pos 0) hi in
-      record { value = same ∙ e ∙ ap (λ k. pos s *ℤ at l k) (sym p); size = subst (Within scaledLimit) (sym same) w }
+-- one number more
+pub scaled-more : {s : ℕ} {l : List ℤ} (r : List ℤ) {i : ℕ} {x : ℤ} → i < length r → Scaled s l i x → ((j : ℕ) → j < i → Scaled s l j (at r j)) → (j : ℕ) → j < i + 1 → Scaled s l j (at (set r i x) j)
+scaled-more {s} {l} r {i} {x} hi w h j hj = go (ℕ-discrete j i)
+  where
+    before : (j ≡ i → ⊥) → j < i
+    before f = omega arith
 
-  there : (j : ℕ) → (j ≡ i → ⊥) → Scaled s l r j → Scaled s l (set r i x) j
-  there j f k =
-      let same : at (set r i x) j ≡ at r j = getD-set-other r i j x (pos 0) f in
-      record { value = same ∙ k .value; size = subst (Within scaledLimit) (sym same) (k .size) }
-
-  pub scaled-more : (j : ℕ) → j < i + 1 → Scaled s l (set r i x) j
-  scaled-more j hj = go (ℕ-discrete j i)
-    where
-      before : (j ≡ i → ⊥) → j < i
-      before f = omega arith
-
-      go : Dec (j ≡ i) → Scaled s l (set r i x) j
-      go (yes p) = here j p
-      go (no f) = there j f (h j (before f))
+    go : Dec (j ≡ i) → Scaled s l j (at (set r i x) j)
+    go (yes e) = subst (λ k. Scaled s l k (at (set r i x) k)) (sym e) (subst (Scaled s l i) (sym (getD-set-same r i x (pos 0) hi)) w)
+    go (no f) = subst (Scaled s l j) (sym (getD-set-other r i j x (pos 0) f)) (h j (before f))
 
 pub once : (x : ℤ) → x ≡ pos 1 *ℤ x
 once x = simp ring (omega arithZ)
 
 -- a frame within its limits is itself at scale 1
-frame-at : (l : List ℤ) → AllWithin frameLimit l → (i : ℕ) → Within scaledLimit (at l i)
-frame-at [] h zero = within-zero scaledLimit
-frame-at [] h (suc i) = within-zero scaledLimit
-frame-at (x ∷ l) h zero = within-wider frameLimit scaledLimit x (omega arith) (h .0)
-frame-at (x ∷ l) h (suc i) = frame-at l (h .1) i
+pub frame-within : {l : List ℤ} → AllWithin frameLimit l → EachWithin scaledLimit l
+frame-within {l} h = record { place = go l h }
+  where
+    go : (l : List ℤ) → AllWithin frameLimit l → (i : ℕ) → Within scaledLimit (at l i)
+    go [] h zero = within-zero scaledLimit
+    go [] h (suc i) = within-zero scaledLimit
+    go (x ∷ l) h zero = within-wider frameLimit scaledLimit x (omega arith) (h .0)
+    go (x ∷ l) h (suc i) = go l (h .1) i
 
-pub scaled-once : (l : List ℤ) → AllWithin frameLimit l → (i : ℕ) → Scaled 1 l l i
-scaled-once l h i = record { value = once (at l i); size = frame-at l h i }
+pub scaled-once : {l : List ℤ} → EachWithin scaledLimit l → (i : ℕ) → i < length l → Scaled 1 l i (at l i)
+scaled-once {l} h i k = record { value = once (at l i); size = h .place i }
 
 -- ---- a check's members
 module _ {ms : List ℕ} {b mask : ℕ} where
@@ -117,11 +109,6 @@ module _ {ms : List ℕ} {b mask : ℕ} where
         }
 
 -- ---- rows
--- what some rows add to a number at most, and their price: no more than one row
-pub record Adds (rs : List Row) : Type 0 where
-  pub sizes : (m : ℕ) (ls : List ℤ) → EachWithin m ls → EachWithin (m + rowLimit) (scatterRows rs ls)
-  pub sum : Within rowLimit (price rs)
-
 pub none-adds : Adds []
 none-adds = record { sizes = λ m ls h. each-wider (omega arith) h; sum = within-zero rowLimit }
 
@@ -198,7 +185,7 @@ module _ {rows : List Row} {ls₀ : List ℤ} {k : ℕ} {left : List Row} {ls : 
 
 -- ---- the bound: the sum of sizes and the sum of prices; and the gap
 -- r₀ is the frame scaled, r with all rows
-module _ (s : ℕ) (l : List ℤ) {r₀ r : List ℤ} {rs : List Row} {x t : ℤ} (long : length r₀ ≡ length l) (h : (i : ℕ) → i < length l → Scaled s l r₀ i) (p : Put rs r₀ r t) where
+module _ (s : ℕ) (l : List ℤ) {r₀ r : List ℤ} {rs : List Row} {x t : ℤ} (long : length r₀ ≡ length l) (h : (i : ℕ) → i < length l → Scaled s l i (at r₀ i)) (p : Put rs r₀ r t) where
   pub bound-is : x ≡ sumTo (length l) (λ i. abs (at r i)) → x +ℤ t ≡ bound (length l) s l rs
   unfolding bound reduced
   bound-is e =

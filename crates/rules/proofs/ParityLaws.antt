@@ -8,7 +8,14 @@ use lib.ListN.{length, getD, drop, drop-of-length-le}
 use lib.Seq.{drop-cons}
 use Rattle.rules.specs.Table.{bit, bitsAt}
 use Rattle.rules.specs.Parity.{_⊕_, odd, meets}
-use Rattle.rules.proofs.Signs.{⊕-assoc, ⊕-zero}
+use Rattle.rules.proofs.Signs.{⊕-assoc, ⊕-zero, ⊕-true}
+
+-- a bit of a sum modulo 2
+pub flips : (s : Bool) {b : Bool} → b ≡ true → not s ≡ s ⊕ b
+flips s e = sym (⊕-true s) ∙ ap (λ x. s ⊕ x) (sym e)
+
+pub stays : (s : Bool) {b : Bool} → b ≡ false → s ≡ s ⊕ b
+stays s e = sym (⊕-zero s) ∙ ap (λ x. s ⊕ x) (sym e)
 
 -- t is the parity of the members before k, u with member k
 module _ (w : List Bool) (ms : List ℕ) (k : ℕ) (t : Bool) where

@@ -34,10 +34,10 @@ priceOf b d = pos b *ℤ (pos d -ℤ pos 2)
 pub record EachWithin (n : ℕ) (ls : List ℤ) : Type 0 where
   pub place : (i : ℕ) → Within n (at ls i)
 
--- number i before any row: "S times l"
-pub record Scaled (s : ℕ) (l r : List ℤ) (i : ℕ) : Type 0 where
-  pub value : at r i ≡ pos s *ℤ at l i
-  pub size : Within scaledLimit (at r i)
+-- x is number i before any row: "S times l"
+pub record Scaled (s : ℕ) (l : List ℤ) (i : ℕ) (x : ℤ) : Type 0 where
+  pub value : x ≡ pos s *ℤ at l i
+  pub size : Within scaledLimit x
 
 -- the first k members are done: what is left of the mask, on the members from k on, makes of the numbers ls what the row makes of ls₀
 pub record MembersPut (ms : List ℕ) (b mask : ℕ) (ls₀ : List ℤ) (k left : ℕ) (ls : List ℤ) : Type 0 where
@@ -49,6 +49,11 @@ pub record MembersPut (ms : List ℕ) (b mask : ℕ) (ls₀ : List ℤ) (k left 
 pub record Put (rs : List Row) (ls new : List ℤ) (x : ℤ) : Type 0 where
   pub numbers : new ≡ scatterRows rs ls
   pub prices : x ≡ price rs
+
+-- they add no more to a number than one row may, and cost no more
+pub record Adds (rs : List Row) : Type 0 where
+  pub sizes : (m : ℕ) (ls : List ℤ) → EachWithin m ls → EachWithin (m + rowLimit) (scatterRows rs ls)
+  pub sum : Within rowLimit (price rs)
 
 -- k steps, of one row or none, are done: the rows that are left make of the numbers ls and the sum t of prices what all rows make of ls₀ and 0
 pub record RowsPut (rows : List Row) (ls₀ : List ℤ) (k : ℕ) (left : List Row) (ls : List ℤ) (t : ℤ) : Type 0 where

@@ -13,7 +13,7 @@ use Rattle.integers.specs.Signed64.{sized, plus-fits, plus-reads}
 use Rattle.rules.specs.Limits.{maxBits, sizeLimit}
 use Rattle.rules.specs.Table.{at}
 use Rattle.rules.specs.Scatter.{Put}
-use Rattle.rules.proofs.BoundLaws.{once, bound-is}
+use Rattle.rules.proofs.BoundLaws.{scaled-once, bound-is}
 use Rattle.decoder.specs.Closing.{rowsOn, RowsFit}
 use Rattle.decoder.proofs.gap.bound_of.Statement.{statement}
 use Rattle.decoder.proofs.gap.bound_of.Tie as tie
@@ -52,7 +52,7 @@ returns c =
     let long : length new ≡ length l = omega arith in
     let total = sizes .ensures .0 ∙ ap (λ n. sumTo n (λ i. abs (at new i))) long in
     let loaded = subst (λ z. Put rows z new (put .result)) (c .before .before .before .before .before .before .load .ensures) (put .ensures .put) in (
-      sum ∙ bound-is 1 l refl (λ i h. record { value = once (at l i); size = start .pre .0 .sizes .place i }) loaded total,
+      sum ∙ bound-is 1 l refl (scaled-once (start .pre .0 .sizes)) loaded total,
       sized sum (within-add (maxBits * sizeLimit) sizeLimit (sizes .result) (put .result) (sizes .ensures .1) (put .ensures .sum)) .1,
     )
 

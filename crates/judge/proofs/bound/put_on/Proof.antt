@@ -6,7 +6,6 @@ use lib.Dec.{eqb}
 use lib.IntN.{_+ℤ_}
 use lib.ListN.{length, getD}
 use mir.Syntax.{w64}
-use borrow.Author.Needs.{needs}
 use Rattle.integers.specs.Machine.{fit}
 use Rattle.integers.specs.Signed64.{sized, plus-fits, plus-reads}
 use Rattle.rules.specs.Table.{at}

@@ -19,7 +19,7 @@ use Rattle.judge.proofs.bound.scale_frame.Statement.{statement}
 use Rattle.judge.proofs.bound.scale_frame.Tie as tie
 
 abbrev Inv-loop : tie.InvT-loop
-Inv-loop reduced₀ frame scale i₀ reduced i = (i ≤ length frame) × (length reduced ≡ length reduced₀) × ((j : ℕ) → j < i → Scaled scale frame reduced j)
+Inv-loop reduced₀ frame scale i₀ reduced i = (i ≤ length frame) × (length reduced ≡ length reduced₀) × ((j : ℕ) → j < i → Scaled scale frame j (at reduced j))
 
 abbrev μ-loop : tie.MeasureT-loop
 μ-loop reduced₀ frame scale i₀ reduced i = length frame - i
@@ -65,7 +65,8 @@ loop-again c =
     let read = taken ∙ wide .ensures .0 ∙ toZ-ofZ (fit w16 x (c .before .before .wide-arg .given)) in
     let product = toZ-ofZ (fit w64 (c .times .result) (c .times .ok)) ∙ c .times .ensures .0 in
     let small = within-* maxScale frameSize (pos (args .scale)) _ (pos-within maxScale (args .scale) (start .pre .1)) (sized taken (wide .ensures .1) .1) in
-    (omega arith, search needs, scaled-more inside (product ∙ ap (λ z. pos (args .scale) *ℤ z) read) (sized product small .1) (loop .inv .2))
+    let value = product ∙ ap (λ z. pos (args .scale) *ℤ z) read in
+    (omega arith, search needs, scaled-more (loop .reduced) inside (record { value = value; size = sized product small .1 }) (loop .inv .2))
 
 same-length : tie.Need-same-length Inv-loop μ-loop
 same-length c = c .before .loop .inv .1
