@@ -18,6 +18,7 @@ use Rattle.rules.specs.Mask.{maskOf, setOf}
 use Rattle.rules.specs.Cut.{negatives, keep}
 use Rattle.rules.specs.Step.{Entry, inactive, active}
 use Rattle.rules.specs.Bound.{rowsOf}
+use Rattle.rules.specs.Scatter.{rowOf}
 use Rattle.rules.specs.Round.{candidate}
 use Rattle.rules.specs.Certificate.{cutsIn, contentBytes, bodyBytes, certificateOf}
 use Rattle.rules.specs.Buffers.{multipliersOf, masksOf}
@@ -29,7 +30,6 @@ use Rattle.cut.proofs.MaskLaws.{odd-some}
 use Rattle.writing.specs.Written.{cutsFrom, contentsFrom, bodiesFrom, certificateFrom}
 use Rattle.decoder.specs.Closing.{withRow, rowsFrom}
 use Rattle.decoder.specs.Candidate.{noZero}
-use Rattle.decoder.specs.Room.{rowOf}
 use Rattle.decoder.proofs.SignLaws.{candidate-is}
 
 -- ---- an odd set has a mask that is not 0

@@ -18,12 +18,9 @@ pub mod LayoutLaws
 pub mod PassLaws
 pub mod PassingLaws
 pub mod SignLaws
-pub mod CandidateLaws
 pub mod CheckLaws
 pub mod QuotientLaws
-pub mod RoomLaws
 pub mod GapLaws
-pub mod BoundLaws
 pub mod ClosingLaws
 pub mod RoundLaws
 pub mod DoLaws

@@ -1,28 +1,17 @@
--- Negative spins: the parity of their number, the word with ones at them, and the candidate. Assumes nothing.
-use mathlib.Core.Path.{_≡_, refl, sym, _∙_, ap}
+-- Negative spins: the word with ones at them, and the candidate. Assumes nothing.
+use mathlib.Core.Path.{_≡_, refl, _∙_, ap}
 use mathlib.Core.Bool.{Bool, true, false, not, _&&_}
 use mathlib.Core.List.{List, [], _∷_}
 use Prim.Native.Nat.{ℕ, zero, suc, _+_, _<_, _≤_}
 use lib.ListN.{length, drop}
 use lib.IntN.{ℤ, pos, negsuc}
-use lib.Signed.{_<ℤ_}
-use Rattle.integers.specs.Linear.{_⩽_}
 use Rattle.rules.specs.Table.{at, bit}
-use Rattle.rules.specs.Parity.{_⊕_, meets}
+use Rattle.rules.specs.Parity.{meets}
 use Rattle.rules.specs.Cut.{isNeg, negatives, keep}
 use Rattle.rules.specs.Round.{bitOf, join, candidate, isZero}
-use Rattle.rules.proofs.Signs.{⊕-zero, ⊕-true}
-use Rattle.writing.proofs.WordLaws.{below-zero, from-zero}
 use Rattle.writing.proofs.SetsLaws.{drop-next, drop-end}
 use Rattle.decoder.specs.Closing.{metBy}
 use Rattle.decoder.specs.Candidate.{noZero}
-
--- the parity of the negative numbers, one more
-pub flip-negative : (b : Bool) (x : ℤ) → x <ℤ pos 0 → not b ≡ b ⊕ isNeg x
-flip-negative b x h = sym (⊕-true b) ∙ ap (λ t. b ⊕ t) (sym (below-zero x h))
-
-pub flip-other : (b : Bool) (x : ℤ) → pos 0 ⩽ x → b ≡ b ⊕ isNeg x
-flip-other b x h = sym (⊕-zero b) ∙ ap (λ t. b ⊕ t) (sym (from-zero x h))
 
 -- ---- the word with ones at negative spins
 pub negatives-at : (ss : List ℤ) (i : ℕ) → bit (negatives ss) i ≡ isNeg (at ss i)

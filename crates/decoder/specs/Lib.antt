@@ -7,7 +7,6 @@ pub mod Parts
 pub mod Passed
 pub mod Candidate
 pub mod Closing
-pub mod Room
 pub mod Found
 pub mod Rounds
 pub mod Finished

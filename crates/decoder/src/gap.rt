@@ -3,40 +3,35 @@ use super::common::COMMON_DEGREE;
 use limits::MAX_BITS;
 ghost use mathlib.Core.Path.{_≡_};
 ghost use mathlib.Core.List.{[]};
-ghost use Prim.Native.Nat.{_+_, _≤_, _%_};
+ghost use Prim.Native.Nat.{_+_, _*_, _≤_, _%_};
 ghost use lib.Dec.{eqb};
 ghost use lib.ListN.{length};
-ghost use lib.IntN.{pos, natAbs, _+ℤ_, _-ℤ_, _*ℤ_};
-ghost use Rattle.rules.specs.Limits.{priceLimit, reducedLimit, stepLimit};
+ghost use lib.IntN.{pos, _+ℤ_};
 ghost use Rattle.integers.specs.Linear.{Within};
 ghost use Rattle.integers.specs.Product.{abs};
 ghost use Rattle.integers.specs.Sum.{sumTo};
+ghost use Rattle.rules.specs.Limits.{maxBits, maxDegree, maxMultiplier, frameSize, rowLimit, sizeLimit, boundLimit};
 ghost use Rattle.rules.specs.Table.{at};
 ghost use Rattle.rules.specs.Parity.{turn, side, agreement};
-ghost use Rattle.rules.specs.Mask.{setOf};
 ghost use Rattle.rules.specs.Cut.{isNeg, negatives};
-ghost use Rattle.rules.specs.Bound.{weights, price, bound, gap};
-ghost use Rattle.rules.proofs.Duality.{Below};
-ghost use Rattle.decoder.specs.Layout.{checksFrom};
-ghost use Rattle.decoder.specs.Closing.{withRow, rowsFrom, GapFits};
-ghost use Rattle.rules.specs.Scatter.{scatter, scatterRows};
-ghost use Rattle.decoder.specs.Room.{rowOf, Room, RowsFit};
+ghost use Rattle.rules.specs.Scatter.{scatterRow, rowOf, priceOf, EachWithin, Put, AllPut};
+ghost use Rattle.decoder.specs.Closing.{withRow, rowsOn, boundOn, gapOn, RowFits, RowsFit, GapFits};
 
 // A number with a member's weight: the multiplier b, added where the mask's lowest bit is 1 and subtracted where it is 0.
-fn weighted(x: i32, b: u32, mask: u32) -> i32
-    requires { ⌜ (natAbs x + stepLimit ≤ reducedLimit) × (b ≤ stepLimit) ⌝ }
+fn weighted(x: i64, b: u32, mask: u32) -> i64
+    requires { ⌜ Within (sizeLimit + rowLimit) x × (b ≤ maxMultiplier) ⌝ }
     ensures { λ r. ⌜ r ≡ x +ℤ side (eqb (mask % 2) 1) (pos b) ⌝ }
 {
     if mask % 2 == 1 {
-        return x + b as i32;
+        return x + b as i64;
     }
-    x - b as i32
+    x - b as i64
 }
 
 // A check's weights, scattered to its members.
-fn add_row_of(members: &[u16], b: u32, mask: u32, numbers: &mut [i32])
-    requires { ⌜ (b ≤ stepLimit) × Below (length (now numbers)) (now members) × Room (now members) (now numbers) ⌝ }
-    ensures { λ _. ⌜ now (numbers .exit) ≡ scatter (now (members .entry)) (weights b (setOf (length (now (members .entry))) mask)) (now (numbers .entry)) ⌝ }
+fn add_row_of(members: &[u16], b: u32, mask: u32, numbers: &mut [i64])
+    requires { ⌜ RowFits b (now members) (now numbers) ⌝ }
+    ensures { λ _. ⌜ now (numbers .exit) ≡ scatterRow (rowOf (now (members .entry)) b mask) (now (numbers .entry)) ⌝ }
 {
     let mut rest = mask;
     let mut k: usize = 0;
@@ -49,9 +44,9 @@ fn add_row_of(members: &[u16], b: u32, mask: u32, numbers: &mut [i32])
 }
 
 // The same, with the common degree by itself.
-fn add_row(members: &[u16], b: u32, mask: u32, numbers: &mut [i32])
-    requires { ⌜ (b ≤ stepLimit) × Below (length (now numbers)) (now members) × Room (now members) (now numbers) ⌝ }
-    ensures { λ _. ⌜ now (numbers .exit) ≡ scatter (now (members .entry)) (weights b (setOf (length (now (members .entry))) mask)) (now (numbers .entry)) ⌝ }
+fn add_row(members: &[u16], b: u32, mask: u32, numbers: &mut [i64])
+    requires { ⌜ RowFits b (now members) (now numbers) ⌝ }
+    ensures { λ _. ⌜ now (numbers .exit) ≡ scatterRow (rowOf (now (members .entry)) b mask) (now (numbers .entry)) ⌝ }
 {
     if members.len() == COMMON_DEGREE {
         add_row_of(&members[..COMMON_DEGREE], b, mask, numbers);
@@ -62,17 +57,16 @@ fn add_row(members: &[u16], b: u32, mask: u32, numbers: &mut [i32])
 
 // A check's multiplier times (d - 2).
 fn price_of(b: u32, d: usize) -> i64
-    requires { ⌜ (b ≤ stepLimit) × (d ≤ 32) ⌝ }
-    ensures { λ r. ⌜ (r ≡ pos b *ℤ (pos d -ℤ pos 2)) × Within priceLimit r ⌝ }
+    requires { ⌜ (b ≤ maxMultiplier) × (d ≤ maxDegree) ⌝ }
+    ensures { λ r. ⌜ r ≡ priceOf b d ⌝ }
 {
     (b as i64) * (d as i64 - 2)
 }
 
 // A check's row, if its mask is not 0: its weights are scattered, and its price is returned.
-fn add_check(members: &[u16], b: u32, mask: u32, numbers: &mut [i32]) -> i64
-    requires { ⌜ (b ≤ stepLimit) × (length (now members) ≤ 32) × Below (length (now numbers)) (now members) × Room (now members) (now numbers) ⌝ }
-    ensures { λ r. ⌜ (now (numbers .exit) ≡ scatterRows (withRow (eqb mask 0) (rowOf (now (members .entry)) b mask) []) (now (numbers .entry)))
-        × (r ≡ price (withRow (eqb mask 0) (rowOf (now (members .entry)) b mask) [])) × Within priceLimit r ⌝ }
+fn add_check(members: &[u16], b: u32, mask: u32, numbers: &mut [i64]) -> i64
+    requires { ⌜ RowFits b (now members) (now numbers) ⌝ }
+    ensures { λ r. ⌜ Put (withRow (eqb mask 0) (rowOf (now (members .entry)) b mask) []) (now (numbers .entry)) (now (numbers .exit)) r ⌝ }
 {
     if mask == 0 {
         return 0;
@@ -87,11 +81,10 @@ fn add_rows(
     members: &[u16],
     multipliers: &[u32],
     masks: &[u32],
-    numbers: &mut [i32],
+    numbers: &mut [i64],
 ) -> i64
     requires { ⌜ RowsFit (now starts) (now members) (now multipliers) (now masks) (now numbers) ⌝ }
-    ensures { λ r. ⌜ (now (numbers .exit) ≡ scatterRows (rowsFrom (checksFrom (now (starts .entry)) (now (members .entry))) (now (multipliers .entry)) (now (masks .entry))) (now (numbers .entry)))
-        × (r ≡ price (rowsFrom (checksFrom (now (starts .entry)) (now (members .entry))) (now (multipliers .entry)) (now (masks .entry)))) × Within 1099511627776 r ⌝ }
+    ensures { λ r. ⌜ AllPut (rowsOn (now (starts .entry)) (now (members .entry)) (now (multipliers .entry)) (now (masks .entry))) (now (numbers .entry)) (now (numbers .exit)) r ⌝ }
 {
     let mut sum: i64 = 0;
     let mut j: usize = 0;
@@ -104,19 +97,20 @@ fn add_rows(
     sum
 }
 
-fn size(x: i32) -> i64
-    ensures { λ r. ⌜ (r ≡ abs x) × Within 2147483648 r ⌝ }
+fn size(x: i64) -> i64
+    requires { ⌜ Within sizeLimit x ⌝ }
+    ensures { λ r. ⌜ (r ≡ abs x) × Within sizeLimit r ⌝ }
 {
     if x < 0 {
-        return -(x as i64);
+        return -x;
     }
-    x as i64
+    x
 }
 
 // The sum of the sizes.
-fn sum_sizes(numbers: &[i32]) -> i64
-    requires { ⌜ length (now numbers) ≤ 2048 ⌝ }
-    ensures { λ r. ⌜ (r ≡ sumTo (length (now (numbers .entry))) (λ i. abs (at (now (numbers .entry)) i))) × Within 4398046511104 r ⌝ }
+fn sum_sizes(numbers: &[i64]) -> i64
+    requires { ⌜ (length (now numbers) ≤ maxBits) × EachWithin sizeLimit (now numbers) ⌝ }
+    ensures { λ r. ⌜ (r ≡ sumTo (length (now (numbers .entry))) (λ i. abs (at (now (numbers .entry)) i))) × Within (maxBits * sizeLimit) r ⌝ }
 {
     let mut sum: i64 = 0;
     let mut i: usize = 0;
@@ -127,14 +121,14 @@ fn sum_sizes(numbers: &[i32]) -> i64
     sum
 }
 
-fn wide(x: i16) -> i32
+fn wide(x: i16) -> i64
     ensures { λ r. ⌜ r ≡ x ⌝ }
 {
-    x as i32
+    x as i64
 }
 
 // The frame's numbers, to begin with.
-fn load(frame: &[i16], numbers: &mut [i32])
+fn load(frame: &[i16], numbers: &mut [i64])
     requires { ⌜ length (now frame) ≡ length (now numbers) ⌝ }
     ensures { λ _. ⌜ now (numbers .exit) ≡ now (frame .entry) ⌝ }
 {
@@ -147,7 +141,7 @@ fn load(frame: &[i16], numbers: &mut [i32])
 
 // A frame's number, negated under a negative spin.
 fn turned(x: i16, spin: i32) -> i64
-    ensures { λ r. ⌜ (r ≡ turn (isNeg spin) x) × Within 32768 r ⌝ }
+    ensures { λ r. ⌜ (r ≡ turn (isNeg spin) x) × Within frameSize r ⌝ }
 {
     if spin < 0 {
         return -(x as i64);
@@ -157,8 +151,8 @@ fn turned(x: i16, spin: i32) -> i64
 
 // The agreement of the word with ones at negative spins.
 fn agreed(frame: &[i16], spins: &[i32]) -> i64
-    requires { ⌜ (length (now frame) ≡ length (now spins)) × (length (now spins) ≤ 2048) ⌝ }
-    ensures { λ r. ⌜ (r ≡ agreement (length (now (spins .entry))) (now (frame .entry)) (negatives (now (spins .entry)))) × Within 67108864 r ⌝ }
+    requires { ⌜ (length (now frame) ≡ length (now spins)) × (length (now spins) ≤ maxBits) ⌝ }
+    ensures { λ r. ⌜ (r ≡ agreement (length (now (spins .entry))) (now (frame .entry)) (negatives (now (spins .entry)))) × Within (maxBits * frameSize) r ⌝ }
 {
     let mut sum: i64 = 0;
     let mut i: usize = 0;
@@ -176,10 +170,10 @@ fn bound_of(
     members: &[u16],
     multipliers: &[u32],
     masks: &[u32],
-    numbers: &mut [i32],
+    numbers: &mut [i64],
 ) -> i64
     requires { ⌜ RowsFit (now starts) (now members) (now multipliers) (now masks) (now frame) × (length (now numbers) ≡ length (now frame)) ⌝ }
-    ensures { λ r. ⌜ (r ≡ bound (length (now (frame .entry))) 1 (now (frame .entry)) (rowsFrom (checksFrom (now (starts .entry)) (now (members .entry))) (now (multipliers .entry)) (now (masks .entry)))) × Within 5497558138880 r ⌝ }
+    ensures { λ r. ⌜ (r ≡ boundOn (now (frame .entry)) (now (starts .entry)) (now (members .entry)) (now (multipliers .entry)) (now (masks .entry))) × Within boundLimit r ⌝ }
 {
     load(frame, numbers);
     let prices = add_rows(starts, members, multipliers, masks, numbers);
@@ -196,9 +190,9 @@ pub(crate) fn gap_of(
     masks: &[u32],
 ) -> i64
     requires { ⌜ GapFits (length (now spins)) (now frame) (now spins) (now starts) (now members) (now multipliers) (now masks) ⌝ }
-    ensures { λ r. ⌜ r ≡ gap (length (now (spins .entry))) 1 (now (frame .entry)) (rowsFrom (checksFrom (now (starts .entry)) (now (members .entry))) (now (multipliers .entry)) (now (masks .entry))) (negatives (now (spins .entry))) ⌝ }
+    ensures { λ r. ⌜ r ≡ gapOn (now (frame .entry)) (now (spins .entry)) (now (starts .entry)) (now (members .entry)) (now (multipliers .entry)) (now (masks .entry)) ⌝ }
 {
-    let mut numbers = [0i32; MAX_BITS];
+    let mut numbers = [0i64; MAX_BITS];
     let n = frame.len();
     let least = bound_of(
         frame,

@@ -6,4 +6,5 @@ pub mod Division
 pub mod Clip
 pub mod Sum
 pub mod Machine
+pub mod Signed64
 pub mod Examples

@@ -1,50 +1,24 @@
--- The parity checks as the loops go over them: a check's members, then the checks. Assumes nothing.
-use mathlib.Core.Path.{_≡_, refl, sym, _∙_, ap, ap₂}
-use mathlib.Core.Bool.{Bool, true, false, not, cond}
+-- The bits of a word, and its parity checks as the loop goes over them. Assumes nothing.
+use mathlib.Core.Path.{_≡_, refl, sym, _∙_, ap}
+use mathlib.Core.Bool.{Bool, true, false, cond}
 use mathlib.Core.List.{List, [], _∷_}
 use mathlib.Core.Option.{some, none}
 use Prim.Native.Nat.{ℕ, zero, suc, _+_, _-_, _≤_, _<_}
 use native.Mathlib.Omega.{arith}
 use native.Mathlib.Nat.{sub-eq-zero-of-le}
 use native.Mathlib.Numerals.{add-one}
-use lib.ListN.{length, getD, drop, drop-of-length-le}
-use lib.Seq.{drop-cons}
-use borrow.Author.Tests.{eq-eqb, ne-eqb}
+use lib.ListN.{getD}
 use Rattle.integers.specs.Count.{left-more}
 use Rattle.rules.specs.Table.{bit, bitsAt}
-use Rattle.rules.specs.Parity.{_⊕_, odd, firstBroken}
+use Rattle.rules.specs.Parity.{odd, firstBroken}
 use Rattle.rules.specs.Input.{bitOfByte, bitsOf}
-use Rattle.rules.proofs.Signs.{⊕-assoc, ⊕-zero, ⊕-true}
 use Rattle.table.specs.Held.{partAt, partsFrom}
-
--- ---- one bit
-pub flips : (s : Bool) (b : ℕ) → b ≡ 1 → not s ≡ s ⊕ bitOfByte b
-flips s b e = sym (⊕-true s) ∙ ap (λ x. s ⊕ x) (sym (eq-eqb b 1 e))
-
-pub stays : (s : Bool) (b : ℕ) → (b ≡ 1 → ⊥) → s ≡ s ⊕ bitOfByte b
-stays s b f = sym (⊕-zero s) ∙ ap (λ x. s ⊕ x) (sym (ne-eqb b 1 f))
 
 pub bits-at : (w : List ℕ) (i : ℕ) → bit (bitsOf w) i ≡ bitOfByte (getD w i 0)
 bits-at [] zero = refl
 bits-at [] (suc i) = refl
 bits-at (b ∷ w) zero = refl
 bits-at (b ∷ w) (suc i) = bits-at w i
-
--- ---- a check
-module _ (word ms : List ℕ) (k : ℕ) (s : Bool) where
-  -- s is the sum modulo 2 of the first k members' bits
-  pub odd-more : (r : Bool) → k < length ms → r ≡ s ⊕ bitOfByte (getD word (getD ms k 0) 0) → s ⊕ odd (bitsAt (bitsOf word) (drop k ms)) ≡ odd (bitsAt (bitsOf word) ms)
-      → r ⊕ odd (bitsAt (bitsOf word) (drop (k + 1) ms)) ≡ odd (bitsAt (bitsOf word) ms)
-  odd-more r h e i =
-      let b = bitOfByte (getD word (getD ms k 0) 0) in
-      let rest = odd (bitsAt (bitsOf word) (drop (k + 1) ms)) in
-      let next : odd (bitsAt (bitsOf word) (drop k ms)) ≡ b ⊕ rest =
-      ap (λ l. odd (bitsAt (bitsOf word) l)) (drop-cons ms k 0 h)
-      ∙ ap₂ (λ x n. x ⊕ odd (bitsAt (bitsOf word) (drop n ms))) (bits-at word (getD ms k 0)) (sym (add-one k)) in
-      ap (λ x. x ⊕ rest) e ∙ ⊕-assoc s b rest ∙ ap (λ x. s ⊕ x) (sym next) ∙ i
-
-  pub odd-end : length ms ≤ k → s ⊕ odd (bitsAt (bitsOf word) (drop k ms)) ≡ odd (bitsAt (bitsOf word) ms) → s ≡ odd (bitsAt (bitsOf word) ms)
-  odd-end h i = sym (⊕-zero s) ∙ ap (λ l. s ⊕ odd (bitsAt (bitsOf word) l)) (sym (drop-of-length-le ms h)) ∙ i
 
 -- ---- the checks
 module _ (starts members : List ℕ) (m j : ℕ) where

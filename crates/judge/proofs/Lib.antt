@@ -1,4 +1,3 @@
-pub mod SignedLaws
 pub mod CheckLaws
 pub mod RefusalLaws
 pub mod RowLaws

@@ -1,55 +1,28 @@
--- A certificate's rows as the code reads them, put on the reduced numbers one after the other, and the limits within which the sums stay (document 01,
--- "Certificates"). Definitions only. Assumes nothing.
+-- A certificate's rows as the code reads them (document 01, "Certificates"). Definitions only. Assumes nothing.
 use mathlib.Core.Path.{_≡_}
 use mathlib.Core.List.{List, [], _∷_}
-use Prim.Native.Nat.{ℕ, _+_, _*_, _≤_, _<_}
+use Prim.Native.Nat.{ℕ, _-_, _≤_, _<_}
 use lib.ListN.{length}
-use lib.IntN.{ℤ, pos, _-ℤ_, _*ℤ_}
-use Rattle.integers.specs.Linear.{Within}
-use Rattle.rules.specs.Limits.{maxBits, maxDegree, maxEntries, maxScale, maxMultiplier}
-use Rattle.rules.specs.Table.{at}
-use Rattle.rules.specs.Mask.{setOf}
-use Rattle.rules.specs.Bound.{Row}
-use Rattle.rules.specs.Certificate.{Item, itemAt}
+use lib.IntN.{ℤ}
+use Rattle.rules.specs.Limits.{maxBits, maxScale, maxMultiplier}
+use Rattle.rules.specs.Input.{bitsOf}
+use Rattle.rules.specs.Bound.{Row, bound, gap}
+use Rattle.rules.specs.Scatter.{rowOf}
+use Rattle.rules.specs.Certificate.{Item, itemAt, itemsAt, entriesOf, scaleOf, itemsOf}
 use Rattle.table.specs.Held.{partAt, Part}
 use Rattle.judge.specs.Refusals.{Long}
 
--- ---- limits: of a 16-bit number, of it times the scale, of what one entry adds, of a reduced number or the sum of prices, and of the bound
-abbrev pub frameSize : ℕ
-frameSize = 32768
-
-abbrev pub scaledLimit : ℕ
-scaledLimit = maxScale * frameSize
-
-abbrev pub rowLimit : ℕ
-rowLimit = maxDegree * maxMultiplier
-
-abbrev pub sizeLimit : ℕ
-sizeLimit = scaledLimit + rowLimit * maxEntries
-
-abbrev pub boundLimit : ℕ
-boundLimit = (maxBits + 1) * sizeLimit
-
--- reduced number i before any row: "S times l"
-pub record Scaled (s : ℕ) (l r : List ℤ) (i : ℕ) : Type 0 where
-  pub value : at r i ≡ pos s *ℤ at l i
-  pub size : Within scaledLimit (at r i)
-
 -- ---- the rows
 abbrev pub rowIn : List ℕ → List ℕ → Item → Row
-rowIn starts members i = record {
-  members = partAt starts members (i .check);
-  multiplier = i .multiplier;
-  set = setOf (length (partAt starts members (i .check))) (i .mask);
-}
+rowIn starts members i = rowOf (partAt starts members (i .check)) (i .multiplier) (i .mask)
 
 abbrev pub rowsIn : List ℕ → List ℕ → List Item → List Row
 rowsIn starts members [] = []
 rowsIn starts members (i ∷ is) = rowIn starts members i ∷ rowsIn starts members is
 
--- "each multiplier times (d − 2)", of one
-abbrev pub rowPrice : Row → ℤ
-rowPrice r = pos (r .multiplier) *ℤ (pos (length (r .members)) -ℤ pos 2)
+-- the rows of the entries from entry k on, of q
+abbrev pub rowsLeft : List ℕ → List ℕ → List ℕ → ℕ → ℕ → List Row
+rowsLeft starts members bs q k = rowsIn starts members (itemsAt bs q k (q - k))
 
 -- ---- what the code relies on at an entry that is not refused, and at all q
 pub record Placed (n : ℕ) (starts members : List ℕ) (i : Item) : Type 0 where
@@ -59,3 +32,14 @@ pub record Placed (n : ℕ) (starts members : List ℕ) (i : Item) : Type 0 wher
 pub record AllPlaced (n : ℕ) (starts members bs : List ℕ) (q : ℕ) : Type 0 where
   pub long : Long bs q
   pub each : (k : ℕ) → k < q → Placed n starts members (itemAt bs q k)
+
+-- ---- the bound and the gap of a certificate's rows
+abbrev pub boundIn : List ℕ → List ℕ → List ℤ → List ℕ → ℕ → ℕ → ℤ
+boundIn starts members l bs q scale = bound (length l) scale l (rowsIn starts members (itemsAt bs q 0 q))
+
+abbrev pub gapIn : List ℕ → List ℕ → List ℤ → List ℕ → List ℕ → ℤ
+gapIn starts members l w bs = gap (length l) (scaleOf bs) l (rowsIn starts members (itemsOf bs)) (bitsOf w)
+
+abbrev pub Weighable : List ℕ → List ℕ → List ℤ → List ℕ → List ℕ → Type 0
+Weighable starts members l w bs =
+    (length w ≡ length l) × (length l ≤ maxBits) × (scaleOf bs ≤ maxScale) × AllPlaced (length l) starts members bs (entriesOf bs)

@@ -9,24 +9,22 @@ use super::sums::agreement_sum;
 use super::sums::wide;
 use limits::MAX_BITS;
 ghost use mathlib.Core.Path.{_≡_};
+ghost use mathlib.Core.List.{[], _∷_};
 ghost use Prim.Native.Nat.{ℕ, _%_, _*_, _≤_, _<_};
 ghost use lib.Dec.{eqb};
 ghost use lib.ListN.{length};
-ghost use lib.IntN.{pos, _*ℤ_, _-ℤ_};
+ghost use lib.IntN.{pos, _*ℤ_};
 ghost use Rattle.integers.specs.Linear.{Within};
 ghost use Rattle.integers.specs.Product.{abs};
 ghost use Rattle.integers.specs.Sum.{sumTo};
-ghost use Rattle.rules.specs.Limits.{maxBits, maxDegree, maxScale, maxMultiplier};
+ghost use Rattle.rules.specs.Limits.{maxBits, maxDegree, maxScale, maxMultiplier, frameSize, scaledLimit, sizeLimit, boundLimit};
 ghost use Rattle.rules.specs.Table.{at};
 ghost use Rattle.rules.specs.Parity.{side};
-ghost use Rattle.rules.specs.Mask.{setOf};
-ghost use Rattle.rules.specs.Input.{bitsOf};
-ghost use Rattle.rules.specs.Bound.{weights, price, bound, gap};
-ghost use Rattle.rules.specs.Certificate.{itemAt, itemsAt, entriesOf, scaleOf, itemsOf};
+ghost use Rattle.rules.specs.Scatter.{scatterRow, rowOf, priceOf, EachWithin, Scaled, Put, AllPut};
+ghost use Rattle.rules.specs.Certificate.{itemAt, itemsAt};
 ghost use Rattle.rules.proofs.Duality.{Below};
 ghost use Rattle.judge.specs.Refusals.{Listed};
-ghost use Rattle.rules.specs.Scatter.{scatter, scatterRow, scatterRows};
-ghost use Rattle.judge.specs.Rows.{frameSize, scaledLimit, sizeLimit, boundLimit, Scaled, rowPrice, rowIn, rowsIn, Placed, AllPlaced};
+ghost use Rattle.judge.specs.Rows.{rowIn, rowsIn, Placed, AllPlaced, boundIn, gapIn, Weighable};
 
 // "S times l."
 pub(crate) fn times(scale: usize, x: i64) -> i64
@@ -39,7 +37,7 @@ pub(crate) fn times(scale: usize, x: i64) -> i64
 // The reduced numbers before any entry.
 pub(crate) fn scale_frame(reduced: &mut [i64], frame: &[i16], scale: usize)
     requires { ⌜ (length (now reduced) ≡ length (now frame)) × (scale ≤ maxScale) ⌝ }
-    ensures { λ _. ⌜ ((i : ℕ) → i < length (now (frame .entry)) → Scaled scale (now (frame .entry)) (now (reduced .exit)) i) ⌝ }
+    ensures { λ _. ⌜ ((i : ℕ) → i < length (now (frame .entry)) → Scaled scale (now (frame .entry)) i (at (now (reduced .exit)) i)) ⌝ }
 {
     let mut i: usize = 0;
     while i < frame.len() {
@@ -63,8 +61,8 @@ pub(crate) fn weight(multiplier: u32, mask: u32) -> i64
 // multiplier whose check holds the bit and whose mask doesn't".
 pub(crate) fn put_on(reduced: &mut [i64], members: &[u16], multiplier: u32, mask: u32)
     requires { ⌜ Below (length (now reduced)) (now members) × (length (now members) ≤ maxDegree) × (multiplier ≤ maxMultiplier)
-        × ((i : ℕ) → Within sizeLimit (at (now reduced) i)) ⌝ }
-    ensures { λ _. ⌜ now (reduced .exit) ≡ scatter (now (members .entry)) (weights multiplier (setOf (length (now (members .entry))) mask)) (now (reduced .entry)) ⌝ }
+        × EachWithin sizeLimit (now reduced) ⌝ }
+    ensures { λ _. ⌜ now (reduced .exit) ≡ scatterRow (rowOf (now (members .entry)) multiplier mask) (now (reduced .entry)) ⌝ }
 {
     let mut left = mask;
     let mut k: usize = 0;
@@ -80,7 +78,7 @@ pub(crate) fn put_on(reduced: &mut [i64], members: &[u16], multiplier: u32, mask
 // "Each multiplier times (d − 2)."
 pub(crate) fn entry_price(multiplier: u32, d: usize) -> i64
     requires { ⌜ (multiplier ≤ maxMultiplier) × (d ≤ maxDegree) ⌝ }
-    ensures { λ r. ⌜ r ≡ pos multiplier *ℤ (pos d -ℤ pos 2) ⌝ }
+    ensures { λ r. ⌜ r ≡ priceOf multiplier d ⌝ }
 {
     (multiplier as i64) * (d as i64 - 2)
 }
@@ -95,9 +93,8 @@ pub(crate) fn put_entry(
     k: usize,
 ) -> i64
     requires { ⌜ Listed (now bytes) q k × Placed (length (now reduced)) (now starts) (now members) (itemAt (now bytes) q k)
-        × ((i : ℕ) → Within sizeLimit (at (now reduced) i)) ⌝ }
-    ensures { λ r. ⌜ (r ≡ rowPrice (rowIn (now (starts .entry)) (now (members .entry)) (itemAt (now (bytes .entry)) q k)))
-        × (now (reduced .exit) ≡ scatterRow (rowIn (now (starts .entry)) (now (members .entry)) (itemAt (now (bytes .entry)) q k)) (now (reduced .entry))) ⌝ }
+        × EachWithin sizeLimit (now reduced) ⌝ }
+    ensures { λ r. ⌜ Put (rowIn (now (starts .entry)) (now (members .entry)) (itemAt (now (bytes .entry)) q k) ∷ []) (now (reduced .entry)) (now (reduced .exit)) r ⌝ }
 {
     let check = check_at(bytes, q, k);
     let multiplier = multiplier_at(bytes, q, k);
@@ -116,10 +113,8 @@ pub(crate) fn put_entries(
     bytes: &[u8],
     q: usize,
 ) -> i64
-    requires { ⌜ AllPlaced (length (now reduced)) (now starts) (now members) (now bytes) q × ((i : ℕ) → Within scaledLimit (at (now reduced) i)) ⌝ }
-    ensures { λ r. ⌜ (r ≡ price (rowsIn (now (starts .entry)) (now (members .entry)) (itemsAt (now (bytes .entry)) q 0 q))) × Within sizeLimit r
-        × (now (reduced .exit) ≡ scatterRows (rowsIn (now (starts .entry)) (now (members .entry)) (itemsAt (now (bytes .entry)) q 0 q)) (now (reduced .entry)))
-        × ((i : ℕ) → Within sizeLimit (at (now (reduced .exit)) i)) ⌝ }
+    requires { ⌜ AllPlaced (length (now reduced)) (now starts) (now members) (now bytes) q × EachWithin scaledLimit (now reduced) ⌝ }
+    ensures { λ r. ⌜ AllPut (rowsIn (now (starts .entry)) (now (members .entry)) (itemsAt (now (bytes .entry)) q 0 q)) (now (reduced .entry)) (now (reduced .exit)) r ⌝ }
 {
     let mut total: i64 = 0;
     let mut k: usize = 0;
@@ -140,7 +135,7 @@ pub(crate) fn size(x: i64) -> i64
 
 // "Sum of absolute r."
 pub(crate) fn sizes(reduced: &[i64]) -> i64
-    requires { ⌜ (length (now reduced) ≤ maxBits) × ((i : ℕ) → Within sizeLimit (at (now reduced) i)) ⌝ }
+    requires { ⌜ (length (now reduced) ≤ maxBits) × EachWithin sizeLimit (now reduced) ⌝ }
     ensures { λ r. ⌜ (r ≡ sumTo (length (now (reduced .entry))) (λ i. abs (at (now (reduced .entry)) i))) × Within (maxBits * sizeLimit) r ⌝ }
 {
     let mut total: i64 = 0;
@@ -165,8 +160,7 @@ pub(crate) fn bound_of(
 ) -> i64
     requires { ⌜ (length (now reduced) ≡ length (now frame)) × (length (now frame) ≤ maxBits) × (scale ≤ maxScale)
         × AllPlaced (length (now frame)) (now starts) (now members) (now bytes) q ⌝ }
-    ensures { λ r. ⌜ (r ≡ bound (length (now (frame .entry))) scale (now (frame .entry)) (rowsIn (now (starts .entry)) (now (members .entry)) (itemsAt (now (bytes .entry)) q 0 q)))
-        × Within boundLimit r ⌝ }
+    ensures { λ r. ⌜ (r ≡ boundIn (now (starts .entry)) (now (members .entry)) (now (frame .entry)) (now (bytes .entry)) q scale) × Within boundLimit r ⌝ }
 {
     scale_frame(reduced, frame, scale);
     let price = put_entries(reduced, starts, members, bytes, q);
@@ -181,10 +175,8 @@ pub(crate) fn gap_of(
     word: &[u8],
     bytes: &[u8],
 ) -> i64
-    requires { ⌜ (length (now word) ≡ length (now frame)) × (length (now frame) ≤ maxBits) × (scaleOf (now bytes) ≤ maxScale)
-        × AllPlaced (length (now frame)) (now starts) (now members) (now bytes) (entriesOf (now bytes)) ⌝ }
-    ensures { λ r. ⌜ r ≡ gap (length (now (frame .entry))) (scaleOf (now (bytes .entry))) (now (frame .entry))
-        (rowsIn (now (starts .entry)) (now (members .entry)) (itemsOf (now (bytes .entry)))) (bitsOf (now (word .entry))) ⌝ }
+    requires { ⌜ Weighable (now starts) (now members) (now frame) (now word) (now bytes) ⌝ }
+    ensures { λ r. ⌜ r ≡ gapIn (now (starts .entry)) (now (members .entry)) (now (frame .entry)) (now (word .entry)) (now (bytes .entry)) ⌝ }
 {
     let q = u16_at(bytes, 0);
     let scale = u16_at(bytes, 2);

@@ -3,10 +3,9 @@ ghost use mathlib.Core.Path.{_≡_};
 ghost use Prim.Native.Nat.{_*_, _≤_};
 ghost use lib.ListN.{length};
 ghost use Rattle.integers.specs.Linear.{Within};
-ghost use Rattle.rules.specs.Limits.{maxBits};
+ghost use Rattle.rules.specs.Limits.{maxBits, frameSize};
 ghost use Rattle.rules.specs.Parity.{turn, agreement};
 ghost use Rattle.rules.specs.Input.{bitOfByte, bitsOf};
-ghost use Rattle.judge.specs.Rows.{frameSize};
 
 pub(crate) fn wide(x: i16) -> i64
     ensures { λ r. ⌜ (r ≡ x) × Within frameSize r ⌝ }

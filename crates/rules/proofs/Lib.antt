@@ -31,5 +31,7 @@ pub mod Fresh
 pub mod Counted
 pub mod Demand3
 pub mod ScatterLaws
+pub mod BoundLaws
+pub mod ParityLaws
 pub mod AnnouncedLaws
 pub mod ReportLaws

@@ -59,13 +59,27 @@ valueLimit = unit + offsetLimit
 abbrev pub stepLimit : ℕ
 stepLimit = unit + valueLimit
 
--- a multiplier times (d − 2), of 32 members at the most; and a reduced number at scale 1, of a bit in 32 checks at the most
+-- that times a check's degree
 abbrev pub priceLimit : ℕ
 priceLimit = maxDegree * stepLimit
 
-abbrev pub reducedLimit : ℕ
-reducedLimit = frameLimit + maxBitDegree * stepLimit
+-- ---- of the bound's numbers: a 16-bit number, it times the scale, what one entry adds or costs, a reduced number or the sum of prices, the bound
+abbrev pub frameSize : ℕ
+frameSize = 32768
 
+abbrev pub scaledLimit : ℕ
+scaledLimit = maxScale * frameSize
+
+abbrev pub rowLimit : ℕ
+rowLimit = maxDegree * maxMultiplier
+
+abbrev pub sizeLimit : ℕ
+sizeLimit = scaledLimit + rowLimit * maxEntries
+
+abbrev pub boundLimit : ℕ
+boundLimit = (maxBits + 1) * sizeLimit
+
+-- ---- lengths
 -- where the code file's contents and bodies begin: "length is 4 + 4m + 2E bytes"
 abbrev pub contentsEnd : ℕ → ℕ
 contentsEnd m = 4 + 4 * m

@@ -7,9 +7,9 @@ use borrow.Author.Needs.{needs}
 use Rattle.rules.specs.Parity.{meets}
 use Rattle.rules.specs.Cut.{negatives}
 use Rattle.rules.proofs.Duality.{Below}
+use Rattle.rules.proofs.ParityLaws.{meets-odd, meets-even, meets-end}
 use Rattle.decoder.specs.Layout.{checksFrom}
 use Rattle.decoder.proofs.CheckLaws.{starts-long, part-is, part-in, part-below}
-use Rattle.decoder.proofs.CandidateLaws.{meets-fails, meets-holds, meets-end}
 use Rattle.decoder.proofs.candidate.all_even.Statement.{statement}
 use Rattle.decoder.proofs.candidate.all_even.Tie as tie
 
@@ -24,12 +24,12 @@ abbrev μ-loop : tie.MeasureT-loop
 check : (c : tie.In-loop Inv-loop μ-loop) → c .before .loop .j < length (checksFrom (c .before .before .before .before .args .starts .now) (c .before .before .before .before .args .members .now))
 check c =
     let start = c .before .before .before .before in
-    omega (arith, c .loop-test .taken, starts-long (length (start .args .spins .now)) (start .args .starts .now) (start .args .members .now) (start .pre))
+    omega (arith, c .loop-test .taken, starts-long _ _ _ (start .pre))
 
 loop-holds : tie.Need-loop-holds Inv-loop μ-loop
 loop-holds c =
     let start = c .before .before in
-    (omega (arith, starts-long (length (start .args .spins .now)) (start .args .starts .now) (start .args .members .now) (start .pre)), refl)
+    (omega (arith, starts-long _ _ _ (start .pre)), refl)
 
 add-loop : tie.Need-add-loop Inv-loop μ-loop
 add-loop c = search needs
@@ -62,35 +62,31 @@ sub-is-odd : tie.Need-sub-is-odd Inv-loop μ-loop
 sub-is-odd c =
     let here = c .before .before in
     let start = here .before .before .before .before in
-    part-in (length (start .args .spins .now)) (start .args .starts .now) (start .args .members .now) (start .pre) (here .before .loop .j) (check here) .0
+    part-in _ _ _ (start .pre) (here .before .loop .j) (check here) .0
 
 part-is-odd-start : tie.Need-part-is-odd-start Inv-loop μ-loop
-part-is-odd-start c =
-    let here = c .before .before in
-    let start = here .before .before .before .before in
-    part-in (length (start .args .spins .now)) (start .args .starts .now) (start .args .members .now) (start .pre) (here .before .loop .j) (check here) .0
+part-is-odd-start c = sub-is-odd c
 
 part-is-odd-end : tie.Need-part-is-odd-end Inv-loop μ-loop
 part-is-odd-end c =
     let here = c .before .before in
     let start = here .before .before .before .before in
-    part-in (length (start .args .spins .now)) (start .args .starts .now) (start .args .members .now) (start .pre) (here .before .loop .j) (check here) .1
+    part-in _ _ _ (start .pre) (here .before .loop .j) (check here) .1
 
 is-odd-requires : tie.Need-is-odd-requires Inv-loop μ-loop
 is-odd-requires c κs =
     let here = c .before .before .before in
     let start = here .before .before .before .before in
-    subst (Below (length (start .args .spins .now))) (sym (part-is (length (start .args .spins .now)) (start .args .starts .now) (start .args .members .now) (start .pre) (here .before .loop .j) (check here)))
-    (part-below (length (start .args .spins .now)) (start .args .starts .now) (start .args .members .now) (start .pre) (here .before .loop .j) (check here))
+    subst (Below (length (start .args .spins .now))) (sym (part-is _ _ _ (start .pre) (here .before .loop .j) (check here)))
+    (part-below _ _ _ (start .pre) (here .before .loop .j) (check here))
 
 returns : tie.Need-returns Inv-loop μ-loop
 returns c =
     let here = c .before .before .before .before .before in
     let start = here .before .before .before .before in
-    sym (here .before .loop .inv .1
-    ∙ meets-fails (negatives (start .args .spins .now)) (checksFrom (start .args .starts .now) (start .args .members .now)) (here .before .loop .j) _ (check here)
-    (part-is (length (start .args .spins .now)) (start .args .starts .now) (start .args .members .now) (start .pre) (here .before .loop .j) (check here))
-    (sym (c .before .is-odd .ensures) ∙ c .if1 .taken))
+    let j = here .before .loop .j in
+    let even = meets-odd (negatives (start .args .spins .now)) (checksFrom (start .args .starts .now) (start .args .members .now)) j (check here) (part-is _ _ _ (start .pre) j (check here)) in
+    sym (here .before .loop .inv .1 ∙ even (sym (c .before .is-odd .ensures) ∙ c .if1 .taken))
 
 add-j : tie.Need-add-j Inv-loop μ-loop
 add-j c = search needs
@@ -101,20 +97,17 @@ loop-less c = search needs
 loop-again : tie.Need-loop-again Inv-loop μ-loop
 loop-again c =
     let here = c .before .before .before .before .before in
-    let start = here .before .before .before .before in (
-      omega arith,
-      here .before .loop .inv .1
-          ∙ meets-holds (negatives (start .args .spins .now)) (checksFrom (start .args .starts .now) (start .args .members .now)) (here .before .loop .j) _ (check here)
-          (part-is (length (start .args .spins .now)) (start .args .starts .now) (start .args .members .now) (start .pre) (here .before .loop .j) (check here))
-          (sym (c .before .is-odd .ensures) ∙ c .if1 .left),
-    )
+    let start = here .before .before .before .before in
+    let j = here .before .loop .j in
+    let next = meets-even (negatives (start .args .spins .now)) (checksFrom (start .args .starts .now) (start .args .members .now)) j (check here) (part-is _ _ _ (start .pre) j (check here)) in
+    (omega arith, here .before .loop .inv .1 ∙ next (sym (c .before .is-odd .ensures) ∙ c .if1 .left))
 
 returns-2 : tie.Need-returns-2 Inv-loop μ-loop
 returns-2 c =
     let start = c .before .before .before .before in
     let loop = c .before .loop in
     sym (loop .inv .1 ∙ meets-end (negatives (start .args .spins .now)) (checksFrom (start .args .starts .now) (start .args .members .now)) (loop .j)
-    (omega (arith, c .loop-test .left, starts-long (length (start .args .spins .now)) (start .args .starts .now) (start .args .members .now) (start .pre))))
+    (omega (arith, c .loop-test .left, starts-long _ _ _ (start .pre))))
 
 pub all-even-spec : {M : Type 1} → statement M
 all-even-spec =

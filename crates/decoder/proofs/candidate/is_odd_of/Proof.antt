@@ -1,18 +1,18 @@
 -- `is_odd_of` meets its contract: the parity found and that of the members from k on make the whole. Assumes nothing.
-use mathlib.Core.Path.{_≡_, refl, _∙_, ap}
+use mathlib.Core.Path.{_≡_, refl, sym, _∙_, ap}
 use Prim.Native.Nat.{_-_, _≤_}
 use native.Mathlib.Omega.{arith}
 use lib.ListN.{length, getD, drop}
 use mir.Syntax.{w32}
-use mir.Val.{SFits}
 use mir.Facts.{toZ-ofZ}
 use borrow.Author.Needs.{needs}
 use Rattle.integers.specs.Machine.{fit}
 use Rattle.rules.specs.Table.{at, bitsAt}
 use Rattle.rules.specs.Parity.{_⊕_, odd}
 use Rattle.rules.specs.Cut.{isNeg, negatives}
-use Rattle.decoder.proofs.CandidateLaws.{odd-next, odd-end}
 use Rattle.rules.proofs.Duality.{below-at}
+use Rattle.rules.proofs.ParityLaws.{odd-more, odd-end}
+use Rattle.decoder.proofs.SignLaws.{negatives-at}
 use Rattle.decoder.proofs.candidate.is_odd_of.Statement.{statement}
 use Rattle.decoder.proofs.candidate.is_odd_of.Tie as tie
 
@@ -56,15 +56,18 @@ loop-again : tie.Need-loop-again Inv-loop μ-loop
 loop-again c =
     let args = c .before .before .before .before .before .before .args in
     let loop = c .before .before .before .before .loop in
-    let x = at (args .spins .now) (getD (args .members .now) (loop .k) 0) in
-    let el : SFits w32 x = fit w32 x (c .before .flipped-arg .given) in
-    (omega arith, odd-next (args .spins .now) (args .members .now) (loop .k) (loop .odd) (c .flipped .result) (omega arith) (c .flipped .ensures ∙ ap (λ z. loop .odd ⊕ isNeg z) (toZ-ofZ el)) ∙ loop .inv .1)
+    let s = args .spins .now in
+    let ms = args .members .now in
+    let i = getD ms (loop .k) 0 in
+    let read = toZ-ofZ (fit w32 (at s i) (c .before .flipped-arg .given)) in
+    let bit = c .flipped .ensures ∙ ap (λ z. loop .odd ⊕ isNeg z) read ∙ ap (λ b. loop .odd ⊕ b) (sym (negatives-at s i)) in
+    (omega arith, odd-more (negatives s) ms (loop .k) (loop .odd) (omega arith) bit ∙ loop .inv .1)
 
 returns : tie.Need-returns Inv-loop μ-loop
 returns c =
     let args = c .before .before .before .args in
     let loop = c .before .loop in
-    odd-end (args .spins .now) (args .members .now) (loop .k) (loop .odd) (c .loop-test .left) ∙ loop .inv .1
+    odd-end (negatives (args .spins .now)) (args .members .now) (loop .k) (loop .odd) (c .loop-test .left) ∙ loop .inv .1
 
 pub is-odd-of-spec : {M : Type 1} → statement M
 is-odd-of-spec =

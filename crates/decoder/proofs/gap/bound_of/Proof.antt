@@ -1,18 +1,20 @@
 -- `bound_of` meets its contract: the scattered numbers are the reduced numbers. Assumes nothing.
-use mathlib.Core.Path.{sym, _∙_, ap, ap₂, subst}
+use mathlib.Core.Path.{_≡_, refl, sym, _∙_, ap, subst}
+use Prim.Native.Nat.{_*_}
 use native.Mathlib.Omega.{arith}
-use lib.IntN.{_+ℤ_}
+use lib.ListN.{length}
 use mir.Syntax.{w64}
-use mir.Facts.{toZ-ofZ}
 use borrow.Author.Needs.{needs}
-use Rattle.integers.specs.Linear.{Within}
-use Rattle.integers.specs.Machine.{fit, reads, op-fits}
-use Rattle.decoder.specs.Layout.{checksFrom}
-use Rattle.decoder.specs.Closing.{rowsFrom}
-use Rattle.rules.specs.Scatter.{scatterRows}
-use Rattle.decoder.specs.Room.{RowsFit}
-use Rattle.decoder.proofs.GapLaws.{sum-fits, sum-within}
-use Rattle.decoder.proofs.BoundLaws.{bound-is}
+use Rattle.integers.specs.Order.{within-add}
+use Rattle.integers.specs.Product.{abs}
+use Rattle.integers.specs.Sum.{sumTo}
+use Rattle.integers.specs.Machine.{fit}
+use Rattle.integers.specs.Signed64.{sized, plus-fits, plus-reads}
+use Rattle.rules.specs.Limits.{maxBits, sizeLimit}
+use Rattle.rules.specs.Table.{at}
+use Rattle.rules.specs.Scatter.{Put}
+use Rattle.rules.proofs.BoundLaws.{scaled-once, bound-is}
+use Rattle.decoder.specs.Closing.{rowsOn, RowsFit}
 use Rattle.decoder.proofs.gap.bound_of.Statement.{statement}
 use Rattle.decoder.proofs.gap.bound_of.Tie as tie
 
@@ -30,24 +32,28 @@ sum-sizes-requires c κs = search needs
 
 add-result : tie.Need-add-result
 add-result c =
-    let prices = c .before .before .before .add-rows in
     let sizes = c .sum-sizes in
-    op-fits w64 _+ℤ_ (toZ-ofZ (fit w64 (sizes .result) (sizes .ok))) (toZ-ofZ (fit w64 (prices .result) (prices .ok)))
-    (sum-fits 4398046511104 1099511627776 (sizes .result) (prices .result) (sizes .ensures .1) (prices .ensures .2) (omega arith))
+    let put = c .before .before .before .add-rows in
+    plus-fits (fit w64 (sizes .result) (sizes .ok)) (fit w64 (put .result) (put .ok)) (sizes .ensures .1) (put .ensures .sum) (omega arith)
 
 same-length : tie.Need-same-length
 same-length c = search needs
 
 returns : tie.Need-returns
 returns c =
-    let a = c .before .before .before .before .before .before .before .before .before .before .before .before .args in
-    let loaded = c .before .before .before .before .before .before .load in
-    let prices = c .before .before .before .add-rows in
+    let start = c .before .before .before .before .before .before .before .before .before .before .before .before in
+    let a = start .args in
+    let l = a .frame .now in
+    let rows = rowsOn (a .starts .now) (a .members .now) (a .multipliers .now) (a .masks .now) in
+    let put = c .before .before .before .add-rows in
     let sizes = c .sum-sizes in
-    let rows = rowsFrom (checksFrom (a .starts .now) (a .members .now)) (a .multipliers .now) (a .masks .now) in
-    let is = reads (add-result c) (ap₂ _+ℤ_ (toZ-ofZ (fit w64 (sizes .result) (sizes .ok))) (toZ-ofZ (fit w64 (prices .result) (prices .ok)))) in (
-      is ∙ bound-is rows (a .frame .now) (prices .last .1 .1 .1 .1 .0) (sizes .result) (prices .result) (prices .ensures .0 ∙ ap (scatterRows rows) (loaded .ensures)) (sizes .ensures .0) (prices .ensures .1),
-      subst (Within 5497558138880) (sym is) (sum-within 4398046511104 1099511627776 5497558138880 (sizes .result) (prices .result) (sizes .ensures .1) (prices .ensures .2) (omega arith)),
+    let new = put .last .1 .1 .1 .1 .0 in
+    let sum = plus-reads (fit w64 (sizes .result) (sizes .ok)) (fit w64 (put .result) (put .ok)) (add-result c) in
+    let long : length new ≡ length l = omega arith in
+    let total = sizes .ensures .0 ∙ ap (λ n. sumTo n (λ i. abs (at new i))) long in
+    let loaded = subst (λ z. Put rows z new (put .result)) (c .before .before .before .before .before .before .load .ensures) (put .ensures .put) in (
+      sum ∙ bound-is 1 l refl (scaled-once (start .pre .0 .sizes)) loaded total,
+      sized sum (within-add (maxBits * sizeLimit) sizeLimit (sizes .result) (put .result) (sizes .ensures .1) (put .ensures .sum)) .1,
     )
 
 pub bound-of-spec : {M : Type 1} → statement M

@@ -5,7 +5,7 @@ use native.Mathlib.Omega.{arith}
 use lib.ListN.{length, drop, length-set}
 use lib.IntN.{pos}
 use lib.Seq.{sets}
-use mir.Syntax.{w16, w32}
+use mir.Syntax.{w16, w64}
 use mir.Val.{SFits, toZ, ofZ}
 use mir.Facts.{toZ-ofZ}
 use borrow.Author.Needs.{needs}
@@ -53,9 +53,9 @@ loop-again c =
     let x = at (args .frame .now) (loop .i) in
     let el : SFits w16 x = fit w16 x (c .before .wide-arg .given) in (
       omega arith,
-      length-set (loop .numbers) (loop .i) (toZ w32 (ofZ w32 (c .wide .result))) ∙ loop .inv .1,
-      sets-more (loop .numbers) (args .frame .now) (loop .i) (pos 0) (toZ w32 (ofZ w32 (c .wide .result))) (omega arith)
-          (toZ-ofZ (fit w32 (c .wide .result) (c .wide .ok)) ∙ c .wide .ensures ∙ toZ-ofZ el) ∙ loop .inv .2,
+      length-set (loop .numbers) (loop .i) (toZ w64 (ofZ w64 (c .wide .result))) ∙ loop .inv .1,
+      sets-more (loop .numbers) (args .frame .now) (loop .i) (pos 0) (toZ w64 (ofZ w64 (c .wide .result))) (omega arith)
+          (toZ-ofZ (fit w64 (c .wide .result) (c .wide .ok)) ∙ c .wide .ensures ∙ toZ-ofZ el) ∙ loop .inv .2,
     )
 
 same-length : tie.Need-same-length Inv-loop μ-loop

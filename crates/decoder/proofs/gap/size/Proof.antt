@@ -1,33 +1,27 @@
--- `size` meets its contract, by the test of the sign. Assumes nothing.
-use mathlib.Core.Path.{sym, _∙_, ap, subst}
-use lib.IntN.{pos, negℤ, _-ℤ_, +ℤ-idl}
-use mir.Syntax.{w64}
-use mir.Val.{SFits}
+-- `size` meets its contract. Assumes nothing.
+use mathlib.Core.Path.{sym, _∙_}
+use native.Mathlib.Omega.{arith}
+use lib.IntN.{pos}
 use mir.Facts.{toZ-ofZ}
-use Rattle.integers.specs.Linear.{lin, arithZ, Within}
-use Rattle.integers.specs.Machine.{known, reads}
+use Rattle.integers.specs.Linear.{lin, arithZ, _⩽_}
 use Rattle.integers.specs.Product.{abs-pos, abs-negative}
+use Rattle.rules.specs.Limits.{sizeLimit}
+use Rattle.integers.specs.Signed64.{sized, abs-within, neg-fits, neg-reads}
 use Rattle.decoder.proofs.gap.size.Statement.{statement}
 use Rattle.decoder.proofs.gap.size.Tie as tie
 
-cast-result : tie.Need-cast-result
-cast-result c = simp lin (omega (arithZ, known (c .before .fits .x)))
-
 sub-result : tie.Need-sub-result
-sub-result c = subst (λ z. SFits w64 (pos 0 -ℤ z)) (sym (reads (cast-result c) (toZ-ofZ (c .before .fits .x)))) (simp lin (omega (arithZ, known (c .before .fits .x))))
+sub-result c = neg-fits (c .before .args .x) _ (toZ-ofZ (c .before .fits .x)) sizeLimit (c .before .pre) (omega arith)
 
 returns : tie.Need-returns
 returns c =
-    let e = reads (sub-result c) (ap (λ z. pos 0 -ℤ z) (reads (cast-result c) (toZ-ofZ (c .before .fits .x)))) in
-    (e ∙ +ℤ-idl (negℤ (c .before .args .x)) ∙ sym (abs-negative (c .before .args .x) (simp lin (omega arithZ))), subst (Within 2147483648) (sym e) (simp lin (omega (arithZ, known (c .before .fits .x)))))
-
-cast-result-2 : tie.Need-cast-result-2
-cast-result-2 c = simp lin (omega (arithZ, known (c .before .fits .x)))
+    let low : c .before .args .x ⩽ pos 0 = simp lin (omega arithZ) in
+    sized (neg-reads (c .before .args .x) _ (toZ-ofZ (c .before .fits .x)) (sub-result c) ∙ sym (abs-negative _ low)) (abs-within sizeLimit _ (c .before .pre))
 
 returns-2 : tie.Need-returns-2
 returns-2 c =
-    let e = reads (cast-result-2 c) (toZ-ofZ (c .before .fits .x)) in
-    (e ∙ sym (abs-pos (c .before .args .x) (simp lin (omega arithZ))), subst (Within 2147483648) (sym e) (simp lin (omega (arithZ, known (c .before .fits .x)))))
+    let high : pos 0 ⩽ c .before .args .x = simp lin (omega arithZ) in
+    sized (toZ-ofZ (c .before .fits .x) ∙ sym (abs-pos _ high)) (abs-within sizeLimit _ (c .before .pre))
 
 pub size-spec : {M : Type 1} → statement M
-size-spec = tie.close (tie.spec cast-result sub-result returns cast-result-2 returns-2)
+size-spec = tie.close (tie.spec sub-result returns returns-2)

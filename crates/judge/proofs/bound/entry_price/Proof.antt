@@ -9,7 +9,7 @@ use borrow.Author.Needs.{needs}
 use Rattle.integers.specs.Linear.{lin, arithZ, Within}
 use Rattle.integers.specs.Machine.{raw}
 use Rattle.rules.specs.Limits.{maxDegree, maxMultiplier}
-use Rattle.judge.proofs.SignedLaws.{product-fits, product-reads}
+use Rattle.integers.specs.Signed64.{product-fits, product-reads}
 use Rattle.judge.proofs.bound.entry_price.Statement.{statement}
 use Rattle.judge.proofs.bound.entry_price.Tie as tie
 

@@ -1,23 +1,21 @@
 -- `gap_of` meets its contract: the reduced numbers stand in the first n places of a local array. Assumes nothing.
-use mathlib.Core.Path.{_≡_, sym, _∙_, ap₂, subst}
-use Prim.Native.Nat.{_*_, _≤_}
+use mathlib.Core.Path.{sym, _∙_, ap₂, subst}
+use Prim.Native.Nat.{_≤_}
 use native.Mathlib.Omega.{arith}
-use lib.IntN.{pos, _-ℤ_, _*ℤ_}
+use lib.IntN.{pos, _*ℤ_}
 use lib.ListN.{length}
 use lib.Seq.{length-take-le}
 use mir.Syntax.{w64}
-use mir.Val.{toZ, ofZ}
 use mir.Facts.{toZ-ofZ}
 use borrow.Author.Needs.{needs}
 use Rattle.integers.specs.Machine.{fit}
-use Rattle.integers.specs.Linear.{Within}
-use Rattle.rules.specs.Limits.{maxBits, maxScale}
-use Rattle.rules.specs.Bound.{bound, gap}
-use Rattle.rules.specs.Parity.{agreement}
+use Rattle.integers.specs.Signed64.{sized, less-fits, less-reads}
+use Rattle.rules.specs.Limits.{maxScale}
+use Rattle.rules.specs.Bound.{bound}
 use Rattle.rules.specs.Input.{bitsOf}
-use Rattle.rules.specs.Certificate.{itemsAt}
-use Rattle.judge.specs.Rows.{frameSize, boundLimit, AllPlaced, rowsIn}
-use Rattle.judge.proofs.SignedLaws.{sized, less-fits, less-reads}
+use Rattle.rules.specs.Certificate.{scaleOf, itemsAt, itemsOf}
+use Rattle.rules.proofs.BoundLaws.{gap-is}
+use Rattle.judge.specs.Rows.{AllPlaced, rowsIn}
 use Rattle.judge.proofs.bound.gap_of.Statement.{statement}
 use Rattle.judge.proofs.bound.gap_of.Tie as tie
 
@@ -35,37 +33,44 @@ slice-aggregate-bound-of c = sym (length-take-le _ _ (omega arith))
 
 bound-of-requires : tie.Need-bound-of-requires
 bound-of-requires c κs =
-    let args = c .before .before .before .before .before .before .before .args in (
+    let start = c .before .before .before .before .before .before .before in
+    let args = start .args in (
       length-take-le _ _ (omega arith),
-      c .before .before .before .before .before .before .before .pre .1,
-      subst (λ s. s ≤ maxScale) (sym (c .before .u16-at2 .ensures .0)) (c .before .before .before .before .before .before .before .pre .2),
-      subst (AllPlaced (length (args .frame .now)) (args .starts .now) (args .members .now) (args .bytes .now)) (sym (c .before .before .u16-at .ensures .0)) (c .before .before .before .before .before .before .before .pre .3),
+      start .pre .1,
+      subst (λ s. s ≤ maxScale) (sym (c .before .u16-at2 .ensures .0)) (start .pre .2),
+      subst (AllPlaced (length (args .frame .now)) (args .starts .now) (args .members .now) (args .bytes .now)) (sym (c .before .before .u16-at .ensures .0)) (start .pre .3),
     )
 
 agreement-sum-requires : tie.Need-agreement-sum-requires
-agreement-sum-requires c κs = (c .before .before .before .before .before .before .before .before .before .pre .0, c .before .before .before .before .before .before .before .before .before .pre .1)
-
-agreed : (c : tie.After-agreement-sum)
-    → (toZ w64 (ofZ w64 (c .agreement-sum .result)) ≡ agreement (length (c .before .before .before .before .before .before .before .before .before .before .args .frame .now)) (c .before .before .before .before .before .before .before .before .before .before .args .frame .now) (bitsOf (c .before .before .before .before .before .before .before .before .before .before .args .word .now)))
-    × Within (maxBits * frameSize) (toZ w64 (ofZ w64 (c .agreement-sum .result)))
-agreed c =
-    let reads = toZ-ofZ (fit w64 (c .agreement-sum .result) (c .agreement-sum .ok)) in
-    (reads ∙ c .agreement-sum .ensures .0, sized reads (c .agreement-sum .ensures .1) .1)
+agreement-sum-requires c κs =
+    let start = c .before .before .before .before .before .before .before .before .before in
+    (start .pre .0, start .pre .1)
 
 times-requires : tie.Need-times-requires
-times-requires c κs = (omega (arith, c .before .before .before .before .u16-at2 .ensures .0, c .before .before .before .before .before .before .before .before .before .before .pre .2), agreed c .1)
+times-requires c κs =
+    let start = c .before .before .before .before .before .before .before .before .before .before in
+    let sum = c .agreement-sum in
+    (omega (arith, c .before .before .before .before .u16-at2 .ensures .0, start .pre .2), sized (toZ-ofZ (fit w64 (sum .result) (sum .ok))) (sum .ensures .1) .1)
 
 sub-result : tie.Need-sub-result
-sub-result c = less-fits boundLimit (maxScale * (maxBits * frameSize)) (c .before .before .before .bound-of .result) (c .times .result) (fit w64 (c .before .before .before .bound-of .result) (c .before .before .before .bound-of .ok)) (fit w64 (c .times .result) (c .times .ok)) (omega arith) (c .before .before .before .bound-of .ensures .1) (c .times .ensures .1)
+sub-result c =
+    let bound = c .before .before .before .bound-of in
+    less-fits (fit w64 (bound .result) (bound .ok)) (fit w64 (c .times .result) (c .times .ok)) (bound .ensures .1) (c .times .ensures .1) (omega arith)
 
 returns : tie.Need-returns
-unfolding gap
 returns c =
     let args = c .before .before .before .before .before .before .before .before .before .before .before .args in
-    less-reads boundLimit (maxScale * (maxBits * frameSize)) (c .before .before .before .bound-of .result) (c .times .result) (fit w64 (c .before .before .before .bound-of .result) (c .before .before .before .bound-of .ok)) (fit w64 (c .times .result) (c .times .ok)) (omega arith) (c .before .before .before .bound-of .ensures .1) (c .times .ensures .1)
-    ∙ ap₂ _-ℤ_
-    (c .before .before .before .bound-of .ensures .0 ∙ ap₂ (λ s q. bound (length (args .frame .now)) s (args .frame .now) (rowsIn (args .starts .now) (args .members .now) (itemsAt (args .bytes .now) q 0 q))) (c .before .before .before .before .before .u16-at2 .ensures .0) (c .before .before .before .before .before .before .u16-at .ensures .0))
-    (c .times .ensures .0 ∙ ap₂ (λ s a. pos s *ℤ a) (c .before .before .before .before .before .u16-at2 .ensures .0) (agreed (c .before) .0))
+    let l = args .frame .now in
+    let bs = args .bytes .now in
+    let sum = c .before .agreement-sum in
+    let least = c .before .before .before .bound-of in
+    let scale = c .before .before .before .before .before .u16-at2 .ensures .0 in
+    let entries = c .before .before .before .before .before .before .u16-at .ensures .0 in
+    let rows = rowsIn (args .starts .now) (args .members .now) in
+    less-reads (fit w64 (least .result) (least .ok)) (fit w64 (c .times .result) (c .times .ok)) (sub-result c)
+    ∙ gap-is (length l) (scaleOf bs) l (rows (itemsOf bs)) (bitsOf (args .word .now))
+    (least .ensures .0 ∙ ap₂ (λ s q. bound (length l) s l (rows (itemsAt bs q 0 q))) scale entries)
+    (c .times .ensures .0 ∙ ap₂ (λ s a. pos s *ℤ a) scale (toZ-ofZ (fit w64 (sum .result) (sum .ok)) ∙ sum .ensures .0))
 
 pub gap-of-spec : {M : Type 1} → statement M
 gap-of-spec =

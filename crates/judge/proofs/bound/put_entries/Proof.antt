@@ -1,79 +1,58 @@
 -- `put_entries` meets its contract: what is put on and the entries from k on make the numbers and the sum of prices. Assumes nothing.
-use mathlib.Core.Path.{_≡_, refl, sym, _∙_, ap, subst}
-use mathlib.Core.List.{List}
-use Prim.Native.Nat.{ℕ, _+_, _*_, _-_, _≤_}
+use mathlib.Core.Path.{refl, sym, ap, subst}
+use Prim.Native.Nat.{_+_, _-_, _≤_}
 use native.Mathlib.Omega.{arith}
-use lib.IntN.{ℤ, _+ℤ_}
-use lib.ListN.{length}
+use lib.IntN.{_+ℤ_, pos}
 use mir.Syntax.{w64}
 use mir.Val.{toZ}
-use Rattle.integers.specs.Order.{within-wider}
-use Rattle.integers.specs.Machine.{fit}
-use Rattle.integers.specs.Linear.{Within}
-use Rattle.rules.specs.Limits.{maxDegree}
-use Rattle.rules.specs.Table.{at}
-use Rattle.rules.specs.Bound.{price}
+use mir.Facts.{toZ-ofZ}
+use Rattle.integers.specs.Machine.{fit, reads}
+use Rattle.integers.specs.Signed64.{sized, summed-fits}
+use Rattle.rules.specs.Limits.{rowLimit}
 use Rattle.rules.specs.Certificate.{itemAt, itemsAt}
-use Rattle.rules.proofs.Masks.{set-length}
-use Rattle.rules.specs.Scatter.{scatterRow, scatterRows}
-use Rattle.judge.specs.Rows.{scaledLimit, rowLimit, sizeLimit, rowIn, rowsIn, Placed}
-use Rattle.judge.proofs.SignedLaws.{sized, summed-fits, summed-more}
-use Rattle.table.proofs.HeldLaws.{part-length}
-use Rattle.judge.proofs.RowLaws.{row-within, price-within, rows-more, rows-end, rows-all, rows-put, rows-price, row-length, price-none, price-end}
+use Rattle.rules.specs.Scatter.{RowsPut}
+use Rattle.rules.proofs.BoundLaws.{rows-none, rows-room, rows-more, rows-end}
+use Rattle.judge.specs.Rows.{rowsIn, rowsLeft, Placed}
+use Rattle.judge.proofs.RowLaws.{rows-next, rows-past, rows-all, entry-adds}
 use Rattle.judge.proofs.bound.put_entries.Statement.{statement}
 use Rattle.judge.proofs.bound.put_entries.Tie as tie
 
 abbrev Inv-loop : tie.InvT-loop
 Inv-loop reduced₀ starts members bytes q total₀ k₀ reduced total k =
-    (k ≤ q) × (length reduced ≡ length reduced₀)
-    × (scatterRows (rowsIn starts members (itemsAt bytes q k (q - k))) reduced ≡ scatterRows (rowsIn starts members (itemsAt bytes q 0 q)) reduced₀)
-    × ((i : ℕ) → Within (scaledLimit + rowLimit * k) (at reduced i))
-    × (toZ w64 total +ℤ price (rowsIn starts members (itemsAt bytes q k (q - k))) ≡ price (rowsIn starts members (itemsAt bytes q 0 q)))
-    × Within (rowLimit * k) (toZ w64 total)
+    (k ≤ q) × RowsPut (rowsIn starts members (itemsAt bytes q 0 q)) reduced₀ k (rowsLeft starts members bytes q k) reduced (toZ w64 total)
 
 abbrev μ-loop : tie.MeasureT-loop
 μ-loop reduced₀ starts members bytes q total₀ k₀ reduced total k = q - k
 
 loop-holds : tie.Need-loop-holds Inv-loop μ-loop
 loop-holds c =
-    let args = c .before .before .before .args in
-    let all = rows-all (args .starts .now) (args .members .now) (args .bytes .now) (args .q) in (
-      omega arith,
-      refl,
-      ap (λ rs. scatterRows rs (args .reduced .now)) all,
-      λ i. within-wider scaledLimit (scaledLimit + rowLimit * 0) _ (omega arith) (c .before .before .before .pre .1 i),
-      price-none _ _ (ap price all),
-      record { hi = omega arith; lo = omega arith },
-    )
+    let start = c .before .before .before in
+    let args = start .args in
+    let all = rows-all (args .starts .now) (args .members .now) (args .bytes .now) (args .q) in
+    let rows = rowsIn (args .starts .now) (args .members .now) (itemsAt (args .bytes .now) (args .q) 0 (args .q)) in
+    (omega arith, subst (λ left. RowsPut rows (args .reduced .now) 0 left (args .reduced .now) (pos 0)) all (rows-none (start .pre .1)))
 
 put-entry-requires : tie.Need-put-entry-requires Inv-loop μ-loop
 put-entry-requires c κs =
+    let start = c .before .before .before .before .before .before in
+    let args = start .args in
     let loop = c .before .before .loop in
     let test = c .before .loop-test .taken in
-    let all = c .before .before .before .before .before .before .pre .0 in (
+    let all = start .pre .0 in
+    let item = itemAt (args .bytes .now) (args .q) (loop .k) in (
       record { long = all .long; inside = test },
-      subst (λ n. Placed n (c .before .before .before .before .before .before .args .starts .now) (c .before .before .before .before .before .before .args .members .now) (itemAt (c .before .before .before .before .before .before .args .bytes .now) (c .before .before .before .before .before .before .args .q) (loop .k))) (sym (loop .inv .1)) (all .each (loop .k) test),
-      λ i. within-wider (scaledLimit + rowLimit * loop .k) sizeLimit _ (omega (arith, all .long .few)) (loop .inv .3 i),
+      subst (λ n. Placed n (args .starts .now) (args .members .now) item) (sym (loop .inv .1 .long)) (all .each (loop .k) test),
+      rows-room (loop .inv .1) (omega (arith, all .long .few)),
     )
-
--- what the entry adds at most, and its price
-added : (c : tie.After-put-entry Inv-loop μ-loop)
-    → ((m : ℕ) (ls : List ℤ) → ((j : ℕ) → Within m (at ls j)) → (j : ℕ)
-    → Within (m + rowLimit) (at (scatterRow (rowIn (c .before .before .before .before .before .before .before .args .starts .now) (c .before .before .before .before .before .before .before .args .members .now) (itemAt (c .before .before .before .before .before .before .before .args .bytes .now) (c .before .before .before .before .before .before .before .args .q) (c .before .before .before .loop .k))) ls) j))
-    × Within rowLimit (c .put-entry .result)
-added c =
-    let start = c .before .before .before .before .before .before .before in
-    let item = itemAt (start .args .bytes .now) (start .args .q) (c .before .before .before .loop .k) in
-    let row = rowIn (start .args .starts .now) (start .args .members .now) item in
-    let p = start .pre .0 .each (c .before .before .before .loop .k) (c .before .before .loop-test .taken) in
-    let few : length (row .members) ≤ maxDegree = omega (arith, part-length _ (start .args .starts .now) (start .args .members .now) (item .check) (p .part), p .part .start .degree) in
-    let long = set-length (length (row .members)) (item .mask) in
-    (row-within row long few (p .small), sized (c .put-entry .ensures .0) (price-within row long few (p .small)) .1)
 
 add-total : tie.Need-add-total Inv-loop μ-loop
 add-total c =
+    let start = c .before .before .before .before .before .before .before .before in
     let loop = c .before .before .before .before .loop in
-    summed-fits rowLimit (loop .k) (loop .total) (c .before .put-entry .result) (toZ w64 (loop .total)) (fit w64 (c .before .put-entry .result) (c .before .put-entry .ok)) (omega (arith, c .before .before .before .before .before .before .before .before .pre .0 .long .few)) (refl, loop .inv .5) (added (c .before) .1)
+    let put = c .before .put-entry in
+    let adds = entry-adds (start .pre .0 .each (loop .k) (c .before .before .before .loop-test .taken)) in
+    summed-fits rowLimit (loop .k) (loop .total) (put .result) (toZ w64 (loop .total)) (fit w64 (put .result) (put .ok))
+    (omega (arith, start .pre .0 .long .few)) (refl, loop .inv .1 .sum) (sized (put .ensures .prices) (adds .sum) .1)
 
 add-k : tie.Need-add-k Inv-loop μ-loop
 add-k c = omega arith
@@ -83,34 +62,25 @@ loop-less c = omega arith
 
 loop-again : tie.Need-loop-again Inv-loop μ-loop
 loop-again c =
-    let args = c .before .before .before .before .before .before .before .before .args in
+    let start = c .before .before .before .before .before .before .before .before in
+    let args = start .args in
     let loop = c .before .before .before .before .loop in
-    let row = rowIn (args .starts .now) (args .members .now) (itemAt (args .bytes .now) (args .q) (loop .k)) in
-    let rest = rowsIn (args .starts .now) (args .members .now) (itemsAt (args .bytes .now) (args .q) (loop .k + 1) (args .q - (loop .k + 1))) in
-    let more = rows-more (args .starts .now) (args .members .now) (args .bytes .now) (args .q) (loop .k) (c .before .before .before .loop-test .taken) in
-    let x = c .before .put-entry .result in
-    let sum = summed-more rowLimit (loop .k) (loop .total) x (toZ w64 (loop .total)) (fit w64 x (c .before .put-entry .ok)) (omega (arith, c .before .before .before .before .before .before .before .before .pre .0 .long .few)) (refl, loop .inv .5) (added (c .before) .1) (toZ w64 (loop .total) +ℤ x) refl in (
-      omega arith,
-      row-length row (loop .reduced) _ (c .before .put-entry .ensures .1) ∙ loop .inv .1,
-      rows-put row rest _ more (loop .reduced) _ _ (c .before .put-entry .ensures .1) (loop .inv .2),
-      λ i. sized (ap (λ l. at l i) (c .before .put-entry .ensures .1)) (within-wider (scaledLimit + rowLimit * loop .k + rowLimit) (scaledLimit + rowLimit * (loop .k + 1)) _ (omega arith) (added (c .before) .0 (scaledLimit + rowLimit * loop .k) (loop .reduced) (loop .inv .3) i)) .1,
-      rows-price row rest _ more (toZ w64 (loop .total)) x _ _ (sum .0) (c .before .put-entry .ensures .0) (loop .inv .4),
-      sum .1,
-    )
+    let test = c .before .before .before .loop-test .taken in
+    let put = c .before .put-entry in
+    let rest = rowsLeft (args .starts .now) (args .members .now) (args .bytes .now) (args .q) (loop .k + 1) in
+    let next = rows-next (args .starts .now) (args .members .now) (args .bytes .now) (args .q) (loop .k) test in
+    let sum = reads (add-total c) (ap (λ z. toZ w64 (loop .total) +ℤ z) (toZ-ofZ (fit w64 (put .result) (put .ok)))) in
+    (omega arith, rows-more (loop .inv .1) rest (entry-adds (start .pre .0 .each (loop .k) test)) (put .ensures) next sum)
 
 same-length : tie.Need-same-length Inv-loop μ-loop
-same-length c = c .before .loop .inv .1
+same-length c = c .before .loop .inv .1 .long
 
 returns : tie.Need-returns Inv-loop μ-loop
 returns c =
-    let args = c .before .before .before .before .before .args in
+    let start = c .before .before .before .before .before in
+    let args = start .args in
     let loop = c .before .loop in
-    let none = rows-end (args .starts .now) (args .members .now) (args .bytes .now) (args .q) (loop .k) (c .loop-test .left) in (
-      price-end (toZ w64 (loop .total)) _ _ none (loop .inv .4),
-      within-wider (rowLimit * loop .k) sizeLimit _ (omega (arith, c .before .before .before .before .before .pre .0 .long .few)) (loop .inv .5),
-      ap (λ rs. scatterRows rs (loop .reduced)) (sym none) ∙ loop .inv .2,
-      λ i. within-wider (scaledLimit + rowLimit * loop .k) sizeLimit _ (omega (arith, c .before .before .before .before .before .pre .0 .long .few)) (loop .inv .3 i),
-    )
+    rows-end (loop .inv .1) (omega (arith, start .pre .0 .long .few)) (rows-past (args .starts .now) (args .members .now) (args .bytes .now) (args .q) (loop .k) (c .loop-test .left))
 
 pub put-entries-spec : {M : Type 1} → statement M
 put-entries-spec =

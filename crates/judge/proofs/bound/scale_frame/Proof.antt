@@ -5,23 +5,21 @@ use native.Mathlib.Omega.{arith}
 use lib.IntN.{pos, _*ℤ_}
 use lib.ListN.{length}
 use mir.Syntax.{w16, w64}
-use mir.Val.{toZ, ofZ}
 use mir.Facts.{toZ-ofZ}
 use borrow.Author.Needs.{needs}
 use Rattle.integers.specs.Order.{within-wider}
 use Rattle.integers.specs.Machine.{fit}
-use Rattle.integers.specs.Linear.{Within}
 use Rattle.integers.specs.Product.{within-*}
-use Rattle.rules.specs.Limits.{maxBits, maxScale}
+use Rattle.rules.specs.Limits.{maxBits, maxScale, frameSize}
 use Rattle.rules.specs.Table.{at}
-use Rattle.judge.specs.Rows.{frameSize, Scaled}
-use Rattle.judge.proofs.SignedLaws.{sized, pos-within}
-use Rattle.judge.proofs.RowLaws.{scaled-more}
+use Rattle.rules.specs.Scatter.{Scaled}
+use Rattle.integers.specs.Signed64.{sized, pos-within}
+use Rattle.rules.proofs.BoundLaws.{scaled-more}
 use Rattle.judge.proofs.bound.scale_frame.Statement.{statement}
 use Rattle.judge.proofs.bound.scale_frame.Tie as tie
 
 abbrev Inv-loop : tie.InvT-loop
-Inv-loop reduced₀ frame scale i₀ reduced i = (i ≤ length frame) × (length reduced ≡ length reduced₀) × ((j : ℕ) → j < i → Scaled scale frame reduced j)
+Inv-loop reduced₀ frame scale i₀ reduced i = (i ≤ length frame) × (length reduced ≡ length reduced₀) × ((j : ℕ) → j < i → Scaled scale frame j (at reduced j))
 
 abbrev μ-loop : tie.MeasureT-loop
 μ-loop reduced₀ frame scale i₀ reduced i = length frame - i
@@ -39,7 +37,9 @@ wide-requires : tie.Need-wide-requires Inv-loop μ-loop
 wide-requires c κs = tt
 
 times-requires : tie.Need-times-requires Inv-loop μ-loop
-times-requires c κs = (c .before .before .before .before .pre .1, within-wider frameSize (maxBits * frameSize) _ (omega arith) (sized (toZ-ofZ (fit w64 (c .wide .result) (c .wide .ok))) (c .wide .ensures .1) .1))
+times-requires c κs =
+    let small = sized (toZ-ofZ (fit w64 (c .wide .result) (c .wide .ok))) (c .wide .ensures .1) .1 in
+    (c .before .before .before .before .pre .1, within-wider frameSize (maxBits * frameSize) _ (omega arith) small)
 
 mul-t11 : tie.Need-mul-t11 Inv-loop μ-loop
 mul-t11 c = search needs
@@ -53,28 +53,20 @@ add-i c = omega arith
 loop-less : tie.Need-loop-less Inv-loop μ-loop
 loop-less c = omega arith
 
-number : (c : tie.After-wide Inv-loop μ-loop) → toZ w64 (ofZ w64 (c .wide .result)) ≡ at (c .before .before .before .before .args .frame .now) (c .before .before .before .loop .i)
-number c =
-    toZ-ofZ (fit w64 (c .wide .result) (c .wide .ok)) ∙ c .wide .ensures .0
-    ∙ toZ-ofZ (fit w16 (at (c .before .before .before .before .args .frame .now) (c .before .before .before .loop .i)) (c .before .wide-arg .given))
-
-product : (c : tie.After-times Inv-loop μ-loop)
-    → toZ w64 (ofZ w64 (c .times .result)) ≡ pos (c .before .before .before .before .before .args .scale) *ℤ at (c .before .before .before .before .before .args .frame .now) (c .before .before .before .before .loop .i)
-product c = toZ-ofZ (fit w64 (c .times .result) (c .times .ok)) ∙ c .times .ensures .0 ∙ ap (λ z. pos (c .before .before .before .before .before .args .scale) *ℤ z) (number (c .before))
-
-small : (c : tie.After-times Inv-loop μ-loop) → Within (maxScale * frameSize) (toZ w64 (ofZ w64 (c .times .result)))
-small c =
-    let x = toZ w64 (ofZ w64 (c .before .wide .result)) in
-    sized (toZ-ofZ (fit w64 (c .times .result) (c .times .ok)) ∙ c .times .ensures .0)
-    (within-* maxScale frameSize (pos (c .before .before .before .before .before .args .scale)) x (pos-within maxScale _ (c .before .before .before .before .before .pre .1))
-    (sized (toZ-ofZ (fit w64 (c .before .wide .result) (c .before .wide .ok))) (c .before .wide .ensures .1) .1)) .1
-
 loop-again : tie.Need-loop-again Inv-loop μ-loop
 loop-again c =
-    let args = c .before .before .before .before .before .args in
+    let start = c .before .before .before .before .before in
+    let args = start .args in
     let loop = c .before .before .before .before .loop in
+    let wide = c .before .wide in
+    let x = at (args .frame .now) (loop .i) in
     let inside : loop .i < length (loop .reduced) = omega arith in
-    (omega arith, search needs, scaled-more (args .scale) (args .frame .now) (loop .reduced) (loop .i) (toZ w64 (ofZ w64 (c .times .result))) inside (product c) (small c) (loop .inv .2))
+    let taken = toZ-ofZ (fit w64 (wide .result) (wide .ok)) in
+    let read = taken ∙ wide .ensures .0 ∙ toZ-ofZ (fit w16 x (c .before .before .wide-arg .given)) in
+    let product = toZ-ofZ (fit w64 (c .times .result) (c .times .ok)) ∙ c .times .ensures .0 in
+    let small = within-* maxScale frameSize (pos (args .scale)) _ (pos-within maxScale (args .scale) (start .pre .1)) (sized taken (wide .ensures .1) .1) in
+    let value = product ∙ ap (λ z. pos (args .scale) *ℤ z) read in
+    (omega arith, search needs, scaled-more (loop .reduced) inside (record { value = value; size = sized product small .1 }) (loop .inv .2))
 
 same-length : tie.Need-same-length Inv-loop μ-loop
 same-length c = c .before .loop .inv .1

@@ -5,8 +5,8 @@ use lib.IntN.{pos}
 use mir.Facts.{toZ-ofZ}
 use Rattle.integers.specs.Linear.{lin, arithZ, _⩽_}
 use Rattle.integers.specs.Product.{abs-pos, abs-negative}
-use Rattle.judge.specs.Rows.{sizeLimit}
-use Rattle.judge.proofs.SignedLaws.{sized, abs-within, neg-fits, neg-reads}
+use Rattle.rules.specs.Limits.{sizeLimit}
+use Rattle.integers.specs.Signed64.{sized, abs-within, neg-fits, neg-reads}
 use Rattle.judge.proofs.bound.size.Statement.{statement}
 use Rattle.judge.proofs.bound.size.Tie as tie
 

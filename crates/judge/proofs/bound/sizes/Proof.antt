@@ -1,21 +1,19 @@
 -- `sizes` meets its contract: the sum over the first i numbers. Assumes nothing.
-use mathlib.Core.Path.{_≡_, sym, _∙_, ap}
-use Prim.Native.Nat.{ℕ, _+_, _*_, _-_, _≤_}
+use mathlib.Core.Path.{_≡_, _∙_, ap}
+use Prim.Native.Nat.{ℕ, _*_, _-_, _≤_}
 use native.Mathlib.Omega.{arith}
-use lib.IntN.{ℤ, _+ℤ_}
+use lib.IntN.{ℤ}
 use lib.ListN.{length}
 use mir.Syntax.{w64}
-use mir.Val.{SFits}
 use mir.Facts.{toZ-ofZ}
 use borrow.Author.Needs.{needs}
 use Rattle.integers.specs.Order.{within-wider}
 use Rattle.integers.specs.Machine.{fit}
 use Rattle.integers.specs.Product.{abs}
 use Rattle.integers.specs.Sum.{sumTo}
-use Rattle.rules.specs.Limits.{maxBits}
+use Rattle.rules.specs.Limits.{maxBits, sizeLimit}
 use Rattle.rules.specs.Table.{at}
-use Rattle.judge.specs.Rows.{sizeLimit}
-use Rattle.judge.proofs.SignedLaws.{sized, Summed, summed-none, summed-fits, summed-more, sum-next}
+use Rattle.integers.specs.Signed64.{sized, Summed, summed-none, summed-fits, summed-next}
 use Rattle.judge.proofs.bound.sizes.Statement.{statement}
 use Rattle.judge.proofs.bound.sizes.Tie as tie
 
@@ -34,15 +32,16 @@ mul-size c = search needs
 shared-slice-copy-out-size : tie.Need-shared-slice-copy-out-size Inv-loop μ-loop
 shared-slice-copy-out-size c = search needs
 
--- the number that was read
-read : (c : tie.After-size-arg Inv-loop μ-loop) → SFits w64 (at (c .before .before .before .args .reduced .now) (c .before .before .loop .i))
-read c = fit w64 (at (c .before .before .before .args .reduced .now) (c .before .before .loop .i)) (c .size-arg .given)
-
 size-requires : tie.Need-size-requires Inv-loop μ-loop
-size-requires c κs = sized (toZ-ofZ (read c)) (c .before .before .before .pre .1 (c .before .before .loop .i)) .1
+size-requires c κs =
+    let loop = c .before .before .loop in
+    let start = c .before .before .before in
+    sized (toZ-ofZ (fit w64 (at (start .args .reduced .now) (loop .i)) (c .size-arg .given))) (start .pre .1 .place (loop .i)) .1
 
 add-total : tie.Need-add-total Inv-loop μ-loop
-add-total c = summed-fits sizeLimit (c .before .before .before .loop .i) (c .before .before .before .loop .total) (c .size .result) _ (fit w64 (c .size .result) (c .size .ok)) (omega arith) (c .before .before .before .loop .inv .1) (c .size .ensures .1)
+add-total c =
+    let loop = c .before .before .before .loop in
+    summed-fits sizeLimit (loop .i) (loop .total) (c .size .result) _ (fit w64 (c .size .result) (c .size .ok)) (omega arith) (loop .inv .1) (c .size .ensures .1)
 
 add-i : tie.Need-add-i Inv-loop μ-loop
 add-i c = omega arith
@@ -53,17 +52,17 @@ loop-less c = omega arith
 loop-again : tie.Need-loop-again Inv-loop μ-loop
 loop-again c =
     let loop = c .before .before .before .loop in
-    let f : ℕ → ℤ = λ j. abs (at (c .before .before .before .before .args .reduced .now) j) in (
-      omega arith,
-      summed-more sizeLimit (loop .i) (loop .total) (c .size .result) (sumTo (loop .i) f) (fit w64 (c .size .result) (c .size .ok)) (omega arith) (loop .inv .1) (c .size .ensures .1)
-          (sumTo (loop .i + 1) f) (sum-next f (loop .i) ∙ ap (λ z. sumTo (loop .i) f +ℤ z) (sym (c .size .ensures .0 ∙ ap abs (toZ-ofZ (read (c .before)))))),
-    )
+    let r = c .before .before .before .before .args .reduced .now in
+    let f : ℕ → ℤ = λ j. abs (at r j) in
+    let is : c .size .result ≡ f (loop .i) = c .size .ensures .0 ∙ ap abs (toZ-ofZ (fit w64 (at r (loop .i)) (c .before .size-arg .given))) in
+    (omega arith, summed-next sizeLimit (loop .i) (loop .total) (c .size .result) f (fit w64 (c .size .result) (c .size .ok)) (loop .inv .1) (c .size .ensures .1) is (omega arith))
 
 returns : tie.Need-returns Inv-loop μ-loop
 returns c =
     let loop = c .before .loop in
-    let all : loop .i ≡ length (c .before .before .args .reduced .now) = omega arith in
-    (loop .inv .1 .0 ∙ ap (λ n. sumTo n (λ j. abs (at (c .before .before .args .reduced .now) j))) all, within-wider (sizeLimit * loop .i) (maxBits * sizeLimit) _ (omega arith) (loop .inv .1 .1))
+    let r = c .before .before .args .reduced .now in
+    let all : loop .i ≡ length r = omega arith in
+    (loop .inv .1 .0 ∙ ap (λ n. sumTo n (λ j. abs (at r j))) all, within-wider (sizeLimit * loop .i) (maxBits * sizeLimit) _ (omega arith) (loop .inv .1 .1))
 
 pub sizes-spec : {M : Type 1} → statement M
 sizes-spec =

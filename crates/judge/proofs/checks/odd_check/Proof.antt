@@ -1,14 +1,15 @@
 -- `odd_check` meets its contract: the sum so far and the members from k on decide. Assumes nothing.
-use mathlib.Core.Path.{_≡_, refl}
+use mathlib.Core.Path.{_≡_, refl, sym, _∙_, ap}
 use Prim.Native.Nat.{_-_, _≤_}
 use native.Mathlib.Omega.{arith}
-use lib.ListN.{length, drop}
+use lib.ListN.{length, getD, drop}
 use borrow.Author.Needs.{needs}
 use Rattle.rules.specs.Table.{bitsAt}
 use Rattle.rules.specs.Parity.{_⊕_, odd}
 use Rattle.rules.specs.Input.{bitsOf}
 use Rattle.rules.proofs.Duality.{below-at}
-use Rattle.judge.proofs.CheckLaws.{odd-more, odd-end}
+use Rattle.rules.proofs.ParityLaws.{odd-more, odd-end}
+use Rattle.judge.proofs.CheckLaws.{bits-at}
 use Rattle.judge.proofs.checks.odd_check.Statement.{statement}
 use Rattle.judge.proofs.checks.odd_check.Tie as tie
 
@@ -48,12 +49,16 @@ loop-again : tie.Need-loop-again Inv-loop μ-loop
 loop-again c =
     let args = c .before .before .before .before .before .before .before .args in
     let loop = c .before .before .before .before .loop in
-    (omega arith, odd-more (args .word .now) (args .members .now) (loop .k) (loop .sum) (c .flipped .result) (c .before .before .before .loop-test .taken) (c .flipped .ensures) (loop .inv .1))
+    let w = args .word .now in
+    let ms = args .members .now in
+    let bit = c .flipped .ensures ∙ ap (λ b. loop .sum ⊕ b) (sym (bits-at w (getD ms (loop .k) 0))) in
+    (omega arith, odd-more (bitsOf w) ms (loop .k) (loop .sum) (c .before .before .before .loop-test .taken) bit ∙ loop .inv .1)
 
 returns : tie.Need-returns Inv-loop μ-loop
 returns c =
     let args = c .before .before .before .before .args in
-    odd-end (args .word .now) (args .members .now) (c .before .loop .k) (c .before .loop .sum) (c .loop-test .left) (c .before .loop .inv .1)
+    let loop = c .before .loop in
+    odd-end (bitsOf (args .word .now)) (args .members .now) (loop .k) (loop .sum) (c .loop-test .left) ∙ loop .inv .1
 
 pub odd-check-spec : {M : Type 1} → statement M
 odd-check-spec =

@@ -16,8 +16,8 @@ use Rattle.rules.specs.Limits.{maxBits}
 use Rattle.rules.specs.Table.{at, bit}
 use Rattle.rules.specs.Parity.{turn, agreement}
 use Rattle.rules.specs.Input.{bitsOf}
-use Rattle.judge.specs.Rows.{frameSize}
-use Rattle.judge.proofs.SignedLaws.{Summed, summed-none, summed-fits, summed-more, sum-next, sized}
+use Rattle.rules.specs.Limits.{frameSize}
+use Rattle.integers.specs.Signed64.{Summed, summed-none, summed-fits, summed-more, sum-next, sized}
 use Rattle.judge.proofs.CheckLaws.{bits-at}
 use Rattle.judge.proofs.sums.agreement_sum.Statement.{statement}
 use Rattle.judge.proofs.sums.agreement_sum.Tie as tie

@@ -6,8 +6,8 @@ use borrow.Author.Tests.{eq-eqb, ne-eqb}
 use Rattle.rules.specs.Parity.{turn}
 use Rattle.rules.specs.Input.{bitOfByte}
 use Rattle.rules.proofs.Signs.{turn-within}
-use Rattle.judge.specs.Rows.{frameSize}
-use Rattle.judge.proofs.SignedLaws.{sized, neg-fits, neg-reads}
+use Rattle.rules.specs.Limits.{frameSize}
+use Rattle.integers.specs.Signed64.{sized, neg-fits, neg-reads}
 use Rattle.judge.proofs.sums.turned.Statement.{statement}
 use Rattle.judge.proofs.sums.turned.Tie as tie
 

@@ -5,8 +5,8 @@ use mir.Syntax.{w16}
 use mir.Val.{SFits}
 use mir.Facts.{toZ-ofZ, sfits-widen}
 use Rattle.integers.specs.Linear.{lin, arithZ, Within}
-use Rattle.judge.specs.Rows.{frameSize}
-use Rattle.judge.proofs.SignedLaws.{sized}
+use Rattle.rules.specs.Limits.{frameSize}
+use Rattle.integers.specs.Signed64.{sized}
 use Rattle.judge.proofs.sums.wide.Statement.{statement}
 use Rattle.judge.proofs.sums.wide.Tie as tie
 
