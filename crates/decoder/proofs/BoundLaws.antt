@@ -14,7 +14,7 @@ use Rattle.rules.specs.Table.{at, edges, degreeOf}
 use Rattle.rules.specs.Parity.{agreement}
 use Rattle.rules.specs.Bound.{Row, pull, price, reduced, bound, gap}
 use Rattle.rules.specs.Round.{isZero}
-use Rattle.decoder.specs.Layout.{checksFrom, Holds}
+use Rattle.table.specs.Layout.{checksFrom, Holds}
 use Rattle.decoder.specs.Closing.{GapFits}
 use Rattle.rules.specs.Scatter.{scatterRows}
 use Rattle.decoder.specs.Room.{Room, RowsFit}

@@ -14,12 +14,10 @@ pub mod MultiplierLaws
 pub mod ValueLaws
 pub mod MoveLaws
 pub mod StepLaws
-pub mod LayoutLaws
 pub mod PassLaws
 pub mod PassingLaws
 pub mod SignLaws
 pub mod CandidateLaws
-pub mod CheckLaws
 pub mod QuotientLaws
 pub mod RoomLaws
 pub mod GapLaws

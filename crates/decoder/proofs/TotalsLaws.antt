@@ -24,7 +24,8 @@ use Rattle.rules.proofs.Pass.{append-within, drop-within}
 use Rattle.rules.proofs.Steps.{minus-within}
 use Rattle.decoder.specs.Spins.{SpinsFit}
 use Rattle.decoder.specs.Totals.{Gathered, EdgesFit, TotalsFit, spinOf, spinAt}
-use Rattle.decoder.proofs.PlaceLaws.{below-more, minus-length, minus-at, first-same}
+use Rattle.table.proofs.LayoutLaws.{below-more}
+use Rattle.decoder.proofs.PlaceLaws.{minus-length, minus-at, first-same}
 use Rattle.decoder.proofs.GatherLaws.{degree-take, gather-within}
 
 -- ---- an edge's weight, and the total with it

@@ -13,7 +13,7 @@ use Rattle.integers.specs.Sum.{AllWithin}
 use Rattle.rules.specs.Parity.{meets}
 use Rattle.rules.specs.Mask.{setOf}
 use Rattle.rules.specs.Bound.{Row}
-use Rattle.decoder.specs.Layout.{checksFrom, Holds}
+use Rattle.table.specs.Layout.{checksFrom, Holds}
 
 -- there is a candidate, and it meets all checks
 abbrev pub metBy : Option (List Bool) → List (List ℕ) → Bool

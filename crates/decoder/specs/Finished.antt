@@ -11,7 +11,7 @@ use Rattle.rules.specs.Buffers.{lengthsOf, needsBy, Part, over, bytesOf}
 use Rattle.rules.specs.Run.{Status, running, certified, spent, Run}
 use Rattle.rules.proofs.Runs.{Safe}
 use Rattle.writing.specs.Written.{certificateFrom}
-use Rattle.decoder.specs.Layout.{checksFrom, tableOf, Holds}
+use Rattle.table.specs.Layout.{checksFrom, tableOf, Holds}
 
 -- ---- the end
 pub record Ending : Type 0 where

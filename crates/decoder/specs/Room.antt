@@ -8,7 +8,7 @@ use Rattle.rules.specs.Limits.{reducedLimit, stepLimit}
 use Rattle.rules.specs.Table.{at, degreeOf}
 use Rattle.rules.specs.Mask.{setOf}
 use Rattle.rules.specs.Bound.{Row}
-use Rattle.decoder.specs.Layout.{checksFrom, Holds}
+use Rattle.table.specs.Layout.{checksFrom, Holds}
 use Rattle.decoder.specs.Closing.{AllUpTo}
 
 -- a check's row, of a multiplier and a mask

@@ -17,7 +17,7 @@ ghost use Rattle.rules.specs.Mask.{setOf};
 ghost use Rattle.rules.specs.Cut.{isNeg, negatives};
 ghost use Rattle.rules.specs.Bound.{weights, price, bound, gap};
 ghost use Rattle.rules.proofs.Duality.{Below};
-ghost use Rattle.decoder.specs.Layout.{checksFrom};
+ghost use Rattle.table.specs.Layout.{checksFrom};
 ghost use Rattle.decoder.specs.Closing.{withRow, rowsFrom, GapFits};
 ghost use Rattle.rules.specs.Scatter.{scatter, scatterRows};
 ghost use Rattle.decoder.specs.Room.{rowOf, Room, RowsFit};

@@ -5,7 +5,7 @@ ghost use mathlib.Core.Path.{_≡_};
 ghost use Prim.Native.Nat.{_+_, _<_};
 ghost use lib.ListN.{length, getD};
 ghost use Rattle.rules.specs.Table.{at};
-ghost use Rattle.decoder.specs.Layout.{checksFrom};
+ghost use Rattle.table.specs.Layout.{checksFrom};
 ghost use Rattle.decoder.specs.Passed.{passed, PassFits};
 ghost use Rattle.decoder.specs.Parts.{onePassed, OneFits};
 

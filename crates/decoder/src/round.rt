@@ -10,7 +10,7 @@ ghost use Prim.Native.Nat.{_+_, _<_};
 ghost use lib.ListN.{length};
 ghost use Rattle.rules.specs.Round.{isZero};
 ghost use Rattle.run.specs.Reply.{statusOf, progressOf};
-ghost use Rattle.decoder.specs.Layout.{checksFrom};
+ghost use Rattle.table.specs.Layout.{checksFrom};
 ghost use Rattle.decoder.specs.Closing.{GapFits};
 ghost use Rattle.decoder.specs.Found.{foundOf, found, closing, statusBy, recordBy};
 ghost use Rattle.decoder.specs.Rounds.{Given, Ready, inner, roundsFrom};

@@ -24,7 +24,7 @@ use Rattle.rules.specs.Bound.{Row, weights, pull, price, reduced, bound}
 use Rattle.rules.specs.Scatter.{scatter, scatterRow, scatterRows}
 use Rattle.rules.specs.Certificate.{Item, itemAt, itemsAt}
 use Rattle.rules.proofs.ScatterLaws.{scatter-length, rows-pull}
-use Rattle.table.specs.Held.{partAt}
+use Rattle.table.specs.Layout.{partAt}
 use Rattle.judge.specs.Rows.{scaledLimit, rowLimit, Scaled, rowIn, rowsIn, rowPrice}
 use Rattle.judge.proofs.SignedLaws.{pos-within}
 

@@ -7,8 +7,8 @@ use borrow.Author.Needs.{needs}
 use Rattle.rules.specs.Parity.{meets}
 use Rattle.rules.specs.Cut.{negatives}
 use Rattle.rules.proofs.Duality.{Below}
-use Rattle.decoder.specs.Layout.{checksFrom}
-use Rattle.decoder.proofs.CheckLaws.{starts-long, part-is, part-in, part-below}
+use Rattle.table.specs.Layout.{checksFrom}
+use Rattle.table.proofs.LayoutLaws.{starts-long, part-is, part-in, part-below}
 use Rattle.decoder.proofs.CandidateLaws.{meets-fails, meets-holds, meets-end}
 use Rattle.decoder.proofs.candidate.all_even.Statement.{statement}
 use Rattle.decoder.proofs.candidate.all_even.Tie as tie

@@ -15,11 +15,11 @@ use Rattle.integers.specs.Machine.{fit, reads}
 use Rattle.rules.specs.Table.{edges}
 use Rattle.rules.specs.Bound.{price}
 use Rattle.rules.proofs.Duality.{Below}
-use Rattle.decoder.specs.Layout.{checksFrom}
+use Rattle.table.specs.Layout.{checksFrom}
 use Rattle.decoder.specs.Closing.{rowsFrom}
 use Rattle.rules.specs.Scatter.{scatterRows}
 use Rattle.decoder.specs.Room.{Room}
-use Rattle.decoder.proofs.CheckLaws.{starts-long, part-is, part-in, part-below, part-degree}
+use Rattle.table.proofs.LayoutLaws.{starts-long, part-is, part-in, part-below, part-degree}
 use Rattle.decoder.proofs.GapLaws.{rowsLeft, check-scatter, check-price, check-long, check-room, check-left, rows-end, up-to-at, sum-fits, sum-within}
 use Rattle.decoder.proofs.gap.add_rows.Statement.{statement}
 use Rattle.decoder.proofs.gap.add_rows.Tie as tie

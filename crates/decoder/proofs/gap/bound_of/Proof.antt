@@ -7,7 +7,7 @@ use mir.Facts.{toZ-ofZ}
 use borrow.Author.Needs.{needs}
 use Rattle.integers.specs.Linear.{Within}
 use Rattle.integers.specs.Machine.{fit, reads, op-fits}
-use Rattle.decoder.specs.Layout.{checksFrom}
+use Rattle.table.specs.Layout.{checksFrom}
 use Rattle.decoder.specs.Closing.{rowsFrom}
 use Rattle.rules.specs.Scatter.{scatterRows}
 use Rattle.decoder.specs.Room.{RowsFit}

@@ -9,7 +9,7 @@ use mir.Facts.{toZ-ofZ}
 use borrow.Author.Needs.{needs}
 use Rattle.integers.specs.Machine.{fit, reads, op-fits}
 use Rattle.rules.specs.Cut.{negatives}
-use Rattle.decoder.specs.Layout.{checksFrom}
+use Rattle.table.specs.Layout.{checksFrom}
 use Rattle.decoder.specs.Closing.{rowsFrom}
 use Rattle.decoder.proofs.GapLaws.{diff-fits}
 use Rattle.decoder.proofs.BoundLaws.{rows-fit, gap-is}

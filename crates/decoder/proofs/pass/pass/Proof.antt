@@ -4,8 +4,8 @@ use Prim.Native.Nat.{_+_, _-_, _<_}
 use native.Mathlib.Omega.{arith}
 use lib.ListN.{length}
 use Rattle.rules.specs.Table.{at}
-use Rattle.decoder.specs.Layout.{checksFrom}
-use Rattle.decoder.proofs.CheckLaws.{starts-long}
+use Rattle.table.specs.Layout.{checksFrom}
+use Rattle.table.proofs.LayoutLaws.{starts-long}
 use Rattle.decoder.proofs.PassingLaws.{Passing, passing-first, passing-long, passing-last, one-fits, passing-next}
 use Rattle.decoder.proofs.pass.pass.Statement.{statement}
 use Rattle.decoder.proofs.pass.pass.Tie as tie

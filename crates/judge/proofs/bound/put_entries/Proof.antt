@@ -18,7 +18,7 @@ use Rattle.rules.proofs.Masks.{set-length}
 use Rattle.rules.specs.Scatter.{scatterRow, scatterRows}
 use Rattle.judge.specs.Rows.{scaledLimit, rowLimit, sizeLimit, rowIn, rowsIn, Placed}
 use Rattle.judge.proofs.SignedLaws.{sized, summed-fits, summed-more}
-use Rattle.table.proofs.HeldLaws.{part-length}
+use Rattle.table.proofs.LayoutLaws.{part-length}
 use Rattle.judge.proofs.RowLaws.{row-within, price-within, rows-more, rows-end, rows-all, rows-put, rows-price, row-length, price-none, price-end}
 use Rattle.judge.proofs.bound.put_entries.Statement.{statement}
 use Rattle.judge.proofs.bound.put_entries.Tie as tie

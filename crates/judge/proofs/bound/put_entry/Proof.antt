@@ -10,8 +10,8 @@ use Rattle.integers.specs.Machine.{fit}
 use Rattle.rules.specs.Limits.{maxDegree}
 use Rattle.rules.specs.Certificate.{itemAt}
 use Rattle.rules.proofs.Duality.{Below}
-use Rattle.table.specs.Held.{partAt}
-use Rattle.table.proofs.HeldLaws.{part-length}
+use Rattle.table.specs.Layout.{partAt}
+use Rattle.table.proofs.LayoutLaws.{part-length}
 use Rattle.judge.proofs.RowLaws.{row-put, row-price}
 use Rattle.judge.proofs.bound.put_entry.Statement.{statement}
 use Rattle.judge.proofs.bound.put_entry.Tie as tie

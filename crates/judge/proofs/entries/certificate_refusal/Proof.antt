@@ -2,7 +2,7 @@
 use mathlib.Core.Path.{sym, _∙_}
 use borrow.Author.Tests.{not-true, not-false}
 use borrow.Author.Needs.{needs}
-use Rattle.table.specs.Held.{degreeAt}
+use Rattle.table.specs.Layout.{degreeAt}
 use Rattle.judge.proofs.RefusalLaws.{certificate-short, certificate-many, certificate-long, certificate-scale, certificate-items}
 use Rattle.judge.proofs.entries.certificate_refusal.Statement.{statement}
 use Rattle.judge.proofs.entries.certificate_refusal.Tie as tie

@@ -3,7 +3,7 @@ use mathlib.Core.Path.{_≡_, sym, _∙_, ap}
 use Prim.Native.Nat.{_-_, _≤_, _+_}
 use native.Mathlib.Omega.{arith}
 use Rattle.rules.specs.Certificate.{itemsAt}
-use Rattle.table.specs.Held.{degreeAt}
+use Rattle.table.specs.Layout.{degreeAt}
 use Rattle.inputs.specs.Refusals.{orElse}
 use Rattle.judge.specs.Refusals.{beforeAt, itemsRefusal}
 use Rattle.inputs.proofs.RefusalLaws.{else-refused, else-next}

@@ -4,7 +4,7 @@ use native.Mathlib.Omega.{arith}
 use borrow.Author.Tests.{not-true, not-false}
 use borrow.Author.Needs.{needs}
 use Rattle.rules.specs.Certificate.{itemAt}
-use Rattle.table.specs.Held.{degreeAt}
+use Rattle.table.specs.Layout.{degreeAt}
 use Rattle.judge.specs.Refusals.{beforeAt}
 use Rattle.judge.proofs.RefusalLaws.{entry-check, entry-multiplier, entry-mask, entry-order, entry-right}
 use Rattle.judge.proofs.entries.entry_refusal.Statement.{statement}
