@@ -86,8 +86,7 @@ loop-again c =
     let here = read .before .before in
     let start = here .before .before .before .before .before in
     let part = part-lent _ _ _ (start .pre .0) _ (check here) (read .before .start-at .ensures .0) (read .start-at2 .ensures .0) in
-    let later = broken-later (bitsOf (start .args .word .now)) _ _ _ (check here) part (sym (c .before .odd-check .ensures) ∙ c .if1 .left) in
-    (omega arith, here .before .loop .inv .1 ∙ later)
+    (omega arith, here .before .loop .inv .1 ∙ broken-later (bitsOf (start .args .word .now)) _ _ _ (check here) part (sym (c .before .odd-check .ensures) ∙ c .if1 .left))
 
 returns-2 : tie.Need-returns-2 Inv-loop μ-loop
 returns-2 c =

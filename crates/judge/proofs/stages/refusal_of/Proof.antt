@@ -39,7 +39,8 @@ returns-3 c =
     let last = certificateRefusal (args .m) (degreeAt (args .starts .now)) (args .certificate .now) in
     c .certificate-refusal .ensures
     ∙ sym (ap₂ (λ j k. orElse j (orElse k last)) (sym (c .before .before .before .before .frame .ensures)) (sym (c .before .before .word .ensures))
-    ∙ else-next (c .before .before .before .before .frame .result) (orElse (c .before .before .word .result) last) (c .before .before .before .if1 .left) ∙ else-next (c .before .before .word .result) last (c .before .if2 .left))
+    ∙ else-next (c .before .before .before .before .frame .result) (orElse (c .before .before .word .result) last) (c .before .before .before .if1 .left)
+    ∙ else-next (c .before .before .word .result) last (c .before .if2 .left))
 
 pub refusal-of-spec : {M : Type 1} → statement M
 refusal-of-spec =
