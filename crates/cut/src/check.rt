@@ -7,9 +7,9 @@ ghost use Prim.Native.Nat.{_+_, _≤_, _<_};
 ghost use lib.ListN.{length, getD, drop};
 ghost use Rattle.rules.specs.Limits.{unit, maxDegree};
 ghost use Rattle.rules.specs.Table.{at, valuesAt};
+ghost use Rattle.rules.specs.Sound.{Below};
 ghost use Rattle.rules.specs.Cut.{cut};
 ghost use Rattle.rules.specs.Step.{clips};
-ghost use Rattle.rules.proofs.Duality.{Below};
 ghost use Rattle.table.specs.Layout.{checksFrom, Holds};
 ghost use Rattle.cut.specs.CutMask.{cutMask};
 

@@ -11,11 +11,10 @@ use Rattle.rules.specs.Refusal.{Answer, refused, gives, multiplierLarge}
 use Rattle.rules.specs.Table.{Table, edges, edgesOf, checksOf}
 use Rattle.rules.specs.CodeFile.{codeFile}
 use Rattle.rules.specs.Buffers.{Lengths, lent, lengthsOf, needs, over}
-use Rattle.rules.specs.Run.{Status, running, certified, spent, Progress, Run, stateIn, iterate, isRunning, answerAt, refusedAt, perform, callOn, callBy, call}
+use Rattle.rules.specs.Run.{Status, running, certified, spent, Progress, Run, stateIn, iterate, isRunning, answerAt, refusedAt, perform, callOn, callBy, call, Safe}
 use Rattle.rules.proofs.AnswerLaws.{refused≢gives, gives-inj}
 use Rattle.rules.proofs.Tables.{file-sound}
 use Rattle.rules.proofs.BufferLaws.{by-name, fits-part}
-use Rattle.rules.proofs.Runs.{Safe}
 use Rattle.rules.proofs.Counted.{all-counted}
 use Rattle.table.specs.Starts.{startsOf}
 use Rattle.table.specs.Layout.{tableOf, Opened}

@@ -16,10 +16,11 @@ use Rattle.integers.specs.Linear.{lin, arithZ, Within}
 use Rattle.integers.specs.Product.{natAbs-is}
 use Rattle.integers.specs.Sum.{AllWithin, sumTo}
 use Rattle.rules.specs.Table.{at, edges}
+use Rattle.rules.specs.Sound.{Below}
 use Rattle.rules.specs.Parity.{side}
 use Rattle.rules.specs.Mask.{setOf}
 use Rattle.rules.specs.Bound.{Row, weights, price}
-use Rattle.rules.proofs.Duality.{Below, below-at}
+use Rattle.rules.proofs.Duality.{below-at}
 use Rattle.decoder.specs.Closing.{withRow, rowsFrom, AllUpTo}
 use Rattle.rules.specs.Scatter.{scatter, scatterRows}
 use Rattle.decoder.specs.Room.{rowOf, Room}

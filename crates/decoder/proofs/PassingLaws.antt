@@ -9,9 +9,9 @@ use lib.IntN.{ℤ}
 use Rattle.integers.specs.Sum.{AllWithin}
 use Rattle.rules.specs.Limits.{unit, offsetLimit}
 use Rattle.rules.specs.Table.{at}
+use Rattle.rules.specs.Sound.{Below}
 use Rattle.rules.specs.Step.{Step, step}
 use Rattle.rules.specs.Round.{values, pass, entriesIn}
-use Rattle.rules.proofs.Duality.{Below}
 use Rattle.rules.proofs.Pass.{AllLaid, pass-laid, copies-length, offsets-length, entries-length, drop-within}
 use Rattle.rules.proofs.RoundSizes.{multipliers-length, masks-length}
 use Rattle.table.specs.Layout.{checksFrom, edgesBefore}

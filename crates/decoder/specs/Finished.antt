@@ -8,8 +8,7 @@ use Rattle.integers.specs.Sum.{AllWithin}
 use Rattle.rules.specs.Limits.{frameLimit, maxChecks, certificateLength}
 use Rattle.rules.specs.Cut.{negatives}
 use Rattle.rules.specs.Buffers.{lengthsOf, needsBy, Part, over, bytesOf}
-use Rattle.rules.specs.Run.{Status, running, certified, spent, Run}
-use Rattle.rules.proofs.Runs.{Safe}
+use Rattle.rules.specs.Run.{Status, running, certified, spent, Run, Safe}
 use Rattle.writing.specs.Written.{certificateFrom}
 use Rattle.table.specs.Layout.{checksFrom, tableOf, Holds}
 

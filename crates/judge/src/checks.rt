@@ -4,9 +4,9 @@ ghost use mathlib.Core.Path.{_≡_};
 ghost use Prim.Native.Nat.{_+_};
 ghost use lib.ListN.{length};
 ghost use Rattle.rules.specs.Table.{bitsAt};
+ghost use Rattle.rules.specs.Sound.{Below};
 ghost use Rattle.rules.specs.Parity.{_⊕_, odd, firstBroken};
 ghost use Rattle.rules.specs.Input.{bitOfByte, bitsOf};
-ghost use Rattle.rules.proofs.Duality.{Below};
 ghost use Rattle.table.specs.Layout.{checksFrom, Holds};
 ghost use Rattle.judge.specs.Reply.{foundIn};
 

@@ -2,7 +2,7 @@
 use mathlib.Core.Path.{_≡_, refl, sym, _∙_, ap, ap₂, subst}
 use mathlib.Core.List.{List, [], _∷_, _++_}
 use Prim.Native.Nat.{ℕ, zero, suc, _+_, _-_, _≤_, _<_}
-use native.Mathlib.Nat.{add-assoc, add-comm, add-sub-cancel-left, lt-of-lt-of-le}
+use native.Mathlib.Nat.{add-assoc, add-comm, add-sub-cancel-left}
 use native.Mathlib.Omega.{arith}
 use native.Mathlib.Numerals.{add-one}
 use lib.ListN.{length, getD, take, drop, length-append, length-take, length-drop}
@@ -11,20 +11,20 @@ use Rattle.rules.specs.Limits.{maxBits, maxChecks, minDegree, maxDegree, maxEdg
 use Rattle.rules.specs.Refusal.{refused, gives}
 use Rattle.rules.specs.Table.{Table, edges, edgesOf, checksOf}
 use Rattle.rules.specs.CodeFile.{tableAt, codeFile, codeFileReply}
+use Rattle.rules.specs.Sound.{Below, AllBelow, Sound}
 use Rattle.rules.specs.Buffers.{over}
-use Rattle.rules.proofs.Duality.{Below}
-use Rattle.rules.proofs.Optimal.{AllBelow}
+use Rattle.rules.proofs.Duality.{below-more}
 use Rattle.rules.proofs.Judged as judged
-use Rattle.rules.proofs.Tables.{Sound, degree-at, file-sound}
+use Rattle.rules.proofs.Tables.{degree-at, file-sound}
 use Rattle.rules.proofs.BufferLaws.{take-over, over-length}
 use Rattle.table.specs.declared.Checked.{Checked}
 use Rattle.table.specs.declared.Checked.the-variants.{Refused, Accepted}
 use Rattle.table.specs.Reply.{numbered}
 use Rattle.table.specs.Starts.{startsOf}
 use Rattle.table.specs.Loaded.{laid, loaded}
-use Rattle.table.specs.Layout.{checksFrom, tableOf, Holds, edgesBefore, degreeAt, partAt, Start, Part, Opened}
+use Rattle.table.specs.Layout.{checksFrom, Holds, edgesBefore, degreeAt, partAt, Start, Part, Opened}
 use Rattle.table.proofs.StartsLaws.{starts-length, starts-first, starts-next, check-part}
-use Rattle.table.proofs.AcceptedLaws.{Readable, readable, refused-is}
+use Rattle.table.proofs.AcceptedLaws.{readable, refused-is}
 use Rattle.table.proofs.LoadedLaws.{laid-reply, loaded-room, checks-are, edges-are}
 
 -- ---- the edges before a check
@@ -53,10 +53,6 @@ starts-at cs (suc j) h = starts-next 0 cs j h ∙ ap (λ n. n + length (getD cs 
     lower j n h = omega arith
 
 -- ---- members below n
-pub below-more : (n k : ℕ) (ms : List ℕ) → n ≤ k → Below n ms → Below k ms
-below-more n k [] h b = tt
-below-more n k (m ∷ ms) h b = (lt-of-lt-of-le (b .0) h, below-more n k ms h (b .1))
-
 below-++ : (n : ℕ) (ms es : List ℕ) → Below n ms → Below n es → Below n (ms ++ es)
 below-++ n [] es h k = k
 below-++ n (m ∷ ms) es h k = (h .0, below-++ n ms es (h .1) k)

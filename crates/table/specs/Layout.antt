@@ -8,8 +8,7 @@ use Rattle.rules.specs.Limits.{maxDegree}
 use Rattle.rules.specs.Refusal.{gives}
 use Rattle.rules.specs.Table.{Table, edges}
 use Rattle.rules.specs.CodeFile.{codeFile}
-use Rattle.rules.proofs.Duality.{Below}
-use Rattle.rules.proofs.Tables.{Sound}
+use Rattle.rules.specs.Sound.{Below, Sound}
 use Rattle.table.specs.Starts.{startsOf}
 
 -- check j's members stand from start j to start j + 1

@@ -6,9 +6,9 @@ use lib.ListN.{length, getD}
 use borrow.Author.Needs.{needs}
 use Rattle.rules.specs.Limits.{unit, maxDegree}
 use Rattle.rules.specs.Table.{at, valuesAt}
+use Rattle.rules.specs.Sound.{Below}
 use Rattle.rules.specs.Cut.{cut}
 use Rattle.rules.specs.Step.{clips}
-use Rattle.rules.proofs.Duality.{Below}
 use Rattle.table.specs.Layout.{checksFrom}
 use Rattle.table.proofs.LayoutLaws.{starts-long, part-in, part-lent, part-degree, part-below}
 use Rattle.cut.specs.CutMask.{cutMask}

@@ -5,10 +5,10 @@ use native.Mathlib.Omega.{arith}
 use lib.ListN.{length, length-take}
 use borrow.Author.Needs.{needs}
 use Rattle.rules.specs.Limits.{stepLimit}
+use Rattle.rules.specs.Sound.{Below}
 use Rattle.rules.specs.Mask.{setOf}
 use Rattle.rules.specs.Bound.{weights}
 use Rattle.rules.specs.Scatter.{scatter}
-use Rattle.rules.proofs.Duality.{Below}
 use Rattle.decoder.specs.Room.{Room}
 use Rattle.decoder.proofs.ExactLaws.{take-exact}
 use Rattle.decoder.proofs.gap.add_row.Statement.{statement}

@@ -14,8 +14,9 @@ use Rattle.integers.specs.Machine.{fit}
 use Rattle.rules.specs.Mask.{setOf}
 use Rattle.rules.specs.Bound.{weights}
 use Rattle.rules.specs.Table.{at}
+use Rattle.rules.specs.Sound.{Below}
 use Rattle.rules.specs.Parity.{side}
-use Rattle.rules.proofs.Duality.{Below, below-at}
+use Rattle.rules.proofs.Duality.{below-at}
 use Rattle.rules.specs.Scatter.{scatter}
 use Rattle.decoder.specs.Room.{Room}
 use Rattle.decoder.proofs.GapLaws.{row-next, row-end, room-place, room-next}

@@ -13,8 +13,8 @@ use Rattle.rules.specs.Limits.{priceLimit, stepLimit}
 use Rattle.integers.specs.Linear.{lin, arithZ, Within}
 use Rattle.integers.specs.Machine.{fit, reads}
 use Rattle.rules.specs.Table.{edges}
+use Rattle.rules.specs.Sound.{Below}
 use Rattle.rules.specs.Bound.{price}
-use Rattle.rules.proofs.Duality.{Below}
 use Rattle.table.specs.Layout.{checksFrom}
 use Rattle.decoder.specs.Closing.{rowsFrom}
 use Rattle.rules.specs.Scatter.{scatterRows}

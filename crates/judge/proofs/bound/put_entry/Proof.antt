@@ -8,8 +8,8 @@ use mir.Facts.{toZ-ofZ}
 use borrow.Author.Needs.{needs}
 use Rattle.integers.specs.Machine.{fit}
 use Rattle.rules.specs.Limits.{maxDegree}
+use Rattle.rules.specs.Sound.{Below}
 use Rattle.rules.specs.Certificate.{itemAt}
-use Rattle.rules.proofs.Duality.{Below}
 use Rattle.table.specs.Layout.{partAt}
 use Rattle.table.proofs.LayoutLaws.{part-length}
 use Rattle.judge.proofs.RowLaws.{row-put, row-price}

@@ -3,9 +3,9 @@ use mathlib.Core.Path.{_≡_, refl, sym, _∙_, subst}
 use Prim.Native.Nat.{_-_, _≤_, _<_}
 use native.Mathlib.Omega.{arith}
 use lib.ListN.{length, drop}
+use Rattle.rules.specs.Sound.{Below}
 use Rattle.rules.specs.Parity.{firstBroken}
 use Rattle.rules.specs.Input.{bitsOf}
-use Rattle.rules.proofs.Duality.{Below}
 use Rattle.table.specs.Layout.{checksFrom}
 use Rattle.table.proofs.LayoutLaws.{starts-long, part-lent, part-below, part-in}
 use Rattle.judge.proofs.CheckLaws.{broken-here, broken-later, broken-none}
