@@ -11,7 +11,7 @@ use Rattle.rules.specs.Table.{Table, edges, edgesOf, checksOf}
 use Rattle.rules.specs.CodeFile.{codeFile}
 use Rattle.rules.specs.Buffers.{over}
 use Rattle.rules.specs.FileBytes.{counts, fileBytes}
-use Rattle.rules.proofs.Tables.{Sound}
+use Rattle.rules.specs.Sound.{Sound}
 use Rattle.rules.proofs.FileBytesLaws.{counts-length, file-length, file-accepted}
 use Rattle.code_writer.specs.Written.{Filled, fileWritten}
 use Rattle.code_writer.proofs.WriterLaws.{whole}

@@ -7,6 +7,5 @@ pub mod SideLaws
 pub mod MaskLaws
 pub mod SeeLaws
 pub mod ReplyLaws
-pub mod SearchLaws
 pub mod ViewLaws
 pub mod SearchRule

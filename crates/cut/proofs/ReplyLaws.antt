@@ -1,4 +1,4 @@
--- The answer of a search on a loaded table, in each of its cases. Assumes nothing.
+-- The answer of a search on a table and on a code file, in each of its cases. Assumes nothing.
 use mathlib.Core.Path.{_≡_, refl, sym, _∙_, ap, ap₂}
 use mathlib.Core.Bool.{Bool, true, cond, _&&_}
 use mathlib.Core.List.{List, [], _∷_}
@@ -13,18 +13,20 @@ use Rattle.integers.specs.Product.{within}
 use Rattle.integers.specs.Sum.{AllWithin}
 use Rattle.integers.specs.Clip.{clip-mid}
 use Rattle.rules.specs.Limits.{unit}
-use Rattle.rules.specs.Refusal.{Answer, refused, gives, askedTooMuch}
-use Rattle.rules.specs.Table.{at, valuesAt}
-use Rattle.rules.specs.Input.{eachWithin}
-use Rattle.rules.specs.Cut.{cut, maskAnswer}
+use Rattle.rules.specs.Refusal.{Answer, refused, gives, then, askedTooMuch}
+use Rattle.rules.specs.Table.{Table, at, valuesAt, checksOf}
+use Rattle.rules.specs.CodeFile.{codeFile}
+use Rattle.rules.specs.Input.{eachWithin, onCheck}
+use Rattle.rules.specs.Cut.{cut, cutSearch, maskAnswer, cutAnswer}
+use Rattle.rules.specs.Certificate.{membersAt}
 use Rattle.rules.specs.Step.{clips}
 use Rattle.rules.proofs.Basics.{and-both}
 use Rattle.rules.proofs.Optimal.{within-at}
-use Rattle.table.specs.Held.{partAt}
 use Rattle.inputs.specs.Refusals.{pointRefusal, orElse, turnedDown}
-use Rattle.inputs.proofs.RefusalLaws.{else-refused, else-none, cond-none, turned-refused, turned-none}
+use Rattle.inputs.proofs.RefusalLaws.{else-refused, else-none, cond-none, test-number, turned-else, turned-refused, turned-none}
+use Rattle.inputs.proofs.InputLaws.{point-law}
 use Rattle.cut.specs.CutMask.{cutMask}
-use Rattle.cut.specs.Search.{searchRefusal, tableSearch, maskGives}
+use Rattle.cut.specs.Search.{searchRefusal, spinsAt, searchOn, maskGives}
 use Rattle.cut.proofs.MaskLaws.{mask-none, mask-some}
 
 -- ---- the point
@@ -84,19 +86,40 @@ module _ (n m : ℕ) (s : List ℤ) (j : ℕ) where
       let p = else-none (pointRefusal n s) (cond (ltb j m) 0 askedTooMuch) e in
       (p .0, ltb-true j m (cond-none (ltb j m) 0 16 (p .1) .0))
 
-  -- ---- the answer
-  module _ (starts members : List ℕ) where
-    pub search-turned : (k : ℕ) → k ≡ searchRefusal n m s j → (k ≡ 0 → ⊥) → refused k ≡ maskAnswer (tableSearch starts members n m s j)
-    unfolding tableSearch
-    search-turned k e f =
-        let a = gives (cut unit (valuesAt (at s) (partAt starts members j))) in
-        ap maskAnswer (turned-refused k a f ∙ ap (λ r. turnedDown r a) e)
+-- ---- the answer on a table
+module _ (t : Table) (s : List ℤ) (j : ℕ) where
+  search-law : searchOn t s j ≡ turnedDown (searchRefusal (t .bits) (checksOf t) s j) (gives (cut unit (spinsAt t s j)))
+  unfolding searchRefusal onCheck turnedDown
+  search-law =
+      let a = gives (cut unit (spinsAt t s j)) in
+      point-law t s (onCheck t j a)
+      ∙ ap (turnedDown (pointRefusal (t .bits) s)) (test-number (ltb j (checksOf t)) 16 0 a)
+      ∙ turned-else (pointRefusal (t .bits) s) (cond (ltb j (checksOf t)) 0 askedTooMuch) a
 
-    pub search-mask : (r : Answer (Option ℕ)) (k : ℕ) → searchRefusal n m s j ≡ 0 → k ≡ cutMask (cut unit (clips unit (valuesAt (at s) (partAt starts members j)))) → r ≡ maskGives k
-        → r ≡ maskAnswer (tableSearch starts members n m s j)
-    unfolding tableSearch
-    search-mask r k z e q =
-        let vs = valuesAt (at s) (partAt starts members j) in
-        let same : clips unit vs ≡ vs = clips-same unit vs (values-within unit s (partAt starts members j) (point-right n s (none-refused z .0) .1)) in
-        q ∙ mask-gives unit vs k (e ∙ ap (λ l. cutMask (cut unit l)) same)
-        ∙ ap maskAnswer (turned-none (searchRefusal n m s j) (gives (cut unit vs)) z)
+  pub search-turned : (k : ℕ) → k ≡ searchRefusal (t .bits) (checksOf t) s j → (k ≡ 0 → ⊥) → refused k ≡ maskAnswer (searchOn t s j)
+  search-turned k e f =
+      let a = gives (cut unit (spinsAt t s j)) in
+      ap maskAnswer (turned-refused k a f ∙ ap (λ r. turnedDown r a) e ∙ sym search-law)
+
+  pub search-mask : (r : Answer (Option ℕ)) (k : ℕ) → searchRefusal (t .bits) (checksOf t) s j ≡ 0 → k ≡ cutMask (cut unit (clips unit (spinsAt t s j))) → r ≡ maskGives k
+      → r ≡ maskAnswer (searchOn t s j)
+  search-mask r k z e q =
+      let vs = spinsAt t s j in
+      let point = none-refused (t .bits) (checksOf t) s j z .0 in
+      let same : clips unit vs ≡ vs = clips-same unit vs (values-within unit s (membersAt t j) (point-right (t .bits) s point .1)) in
+      q ∙ mask-gives unit vs k (e ∙ ap (λ l. cutMask (cut unit l)) same)
+      ∙ ap maskAnswer (turned-none (searchRefusal (t .bits) (checksOf t) s j) (gives (cut unit vs)) z ∙ sym search-law)
+
+-- ---- the answer on a code file
+module _ (file : List ℕ) (s : List ℤ) (j : ℕ) where
+  answer-is : (a : Answer Table) → codeFile file ≡ a → maskAnswer (then a (λ t. searchOn t s j)) ≡ cutAnswer file s j
+  unfolding cutAnswer cutSearch
+  answer-is a e = ap (λ x. maskAnswer (then x (λ t. searchOn t s j))) (sym e)
+
+  pub search-refused : (k : ℕ) → codeFile file ≡ refused k → refused k ≡ cutAnswer file s j
+  unfolding then
+  search-refused k e = answer-is (refused k) e
+
+  pub search-gives : (t : Table) → codeFile file ≡ gives t → maskAnswer (searchOn t s j) ≡ cutAnswer file s j
+  unfolding then
+  search-gives t e = answer-is (gives t) e

@@ -7,23 +7,24 @@ use Prim.Native.Nat.{ℕ}
 use lib.ListN.{replicate}
 use lib.IntN.{ℤ, pos, negsuc, negℤ}
 use Rattle.integers.specs.Clip.{clipZ}
-use Rattle.rules.specs.Refusal.{Answer, refused, gives}
+use Rattle.rules.specs.Refusal.{Answer, refused, gives, must}
+use Rattle.rules.specs.Input.{onPoint, onCheck}
 use Rattle.rules.specs.Cut.{cut, maskAnswer}
-use Rattle.inputs.specs.Refusals.{pointRefusal, turnedDown}
+use Rattle.table.specs.Layout.{checksFrom, tableOf}
 use Rattle.cut.specs.Heights.{seenOn, unseen, seen}
-use Rattle.cut.specs.Search.{searchRefusal, tableSearch}
+use Rattle.cut.specs.Search.{searchOn}
 
--- the starts 0 and 3, the members 0, 1 and 2; what follows them in the slices does not count
+-- the starts 0 and 3, the members 0, 1 and 2
 asked : List ℤ → ℕ → Answer (Option ℕ)
-asked s j = maskAnswer (tableSearch (0 ∷ 3 ∷ 9 ∷ []) (0 ∷ 1 ∷ 2 ∷ 9 ∷ []) 3 1 s j)
+asked s j = maskAnswer (searchOn (tableOf 3 (0 ∷ 3 ∷ []) (0 ∷ 1 ∷ 2 ∷ [])) s j)
 
 -- "(1365, 1365, −1366) has no cut; (1365, 1365, −1367) has mask 4"
 no-cut : asked (pos 1365 ∷ pos 1365 ∷ negsuc 1365 ∷ []) 0 ≡ gives none
-unfolding asked tableSearch searchRefusal pointRefusal turnedDown cut
+unfolding asked checksFrom onPoint onCheck must cut
 no-cut = refl
 
 mask-4 : asked (pos 1365 ∷ pos 1365 ∷ negsuc 1366 ∷ []) 0 ≡ gives (some 4)
-unfolding asked tableSearch searchRefusal pointRefusal turnedDown cut
+unfolding asked checksFrom onPoint onCheck must cut
 mask-4 = refl
 
 -- the same two points by their heights, which make 2U and one less; the buffer's fourth place stays
@@ -61,5 +62,5 @@ heights-many = (refl, refl, refl)
 
 -- "16 point's length or a spin. 17 check number not below m": 16 comes first
 refusals : (asked (pos 0 ∷ pos 0 ∷ []) 1 ≡ refused 16) × (asked (pos 0 ∷ pos 4097 ∷ pos 0 ∷ []) 0 ≡ refused 16) × (asked (pos 0 ∷ pos 0 ∷ pos 0 ∷ []) 1 ≡ refused 17)
-unfolding asked tableSearch searchRefusal pointRefusal turnedDown
+unfolding asked checksFrom onPoint onCheck must
 refusals = (refl, refl, refl)

@@ -1,4 +1,4 @@
--- The cut search on a loaded table: rules' `cutSearch` from the point on; and what its answer is about. Definitions only. Assumes nothing.
+-- The cut search on a table, and what its answer is about. Definitions only. Assumes nothing.
 use mathlib.Core.Path.{_≡_}
 use mathlib.Core.Bool.{Bool, true, cond}
 use mathlib.Core.List.{List}
@@ -11,19 +11,23 @@ use Rattle.rules.specs.Limits.{unit}
 use Rattle.rules.specs.Refusal.{Answer, gives, askedTooMuch}
 use Rattle.rules.specs.Table.{Table, at, valuesAt, checksOf}
 use Rattle.rules.specs.CodeFile.{codeFile}
-use Rattle.rules.specs.Input.{eachWithin}
+use Rattle.rules.specs.Input.{eachWithin, onPoint, onCheck}
 use Rattle.rules.specs.Cut.{cut}
 use Rattle.rules.specs.Certificate.{membersAt}
 use Rattle.rules.proofs.CutRule.{Cuts}
-use Rattle.table.specs.Held.{partAt}
-use Rattle.inputs.specs.Refusals.{pointRefusal, orElse, turnedDown}
+use Rattle.inputs.specs.Refusals.{pointRefusal, orElse}
 
 -- "then .. 16 ..; then 17", or 0
 unfoldable pub searchRefusal : ℕ → ℕ → List ℤ → ℕ → ℕ
 searchRefusal n m s j = orElse (pointRefusal n s) (cond (ltb j m) 0 askedTooMuch)
 
-unfoldable pub tableSearch : List ℕ → List ℕ → ℕ → ℕ → List ℤ → ℕ → Answer (Option (List Bool))
-tableSearch starts members n m s j = turnedDown (searchRefusal n m s j) (gives (cut unit (valuesAt (at s) (partAt starts members j))))
+-- the spins at check j's members
+abbrev pub spinsAt : Table → List ℤ → ℕ → List ℤ
+spinsAt t s j = valuesAt (at s) (membersAt t j)
+
+-- rules' `cutSearch` from the table on
+abbrev pub searchOn : Table → List ℤ → ℕ → Answer (Option (List Bool))
+searchOn t s j = onPoint t s (onCheck t j (gives (cut unit (spinsAt t s j))))
 
 -- the answer that a mask is: no odd set has mask 0
 abbrev pub maskGives : ℕ → Answer (Option ℕ)
@@ -35,10 +39,6 @@ pub record Inputs (file : List ℕ) (s : List ℤ) (j : ℕ) (t : Table) : Type 
   pub size : length s ≡ t .bits
   pub range : eachWithin unit s ≡ true
   pub listed : j < checksOf t
-
--- the spins at check j's members
-abbrev pub spinsAt : Table → List ℤ → ℕ → List ℤ
-spinsAt t s j = valuesAt (at s) (membersAt t j)
 
 -- V is the one set of check j that is odd and violated
 pub record OnlyCut (t : Table) (s : List ℤ) (j : ℕ) (vs : List Bool) : Type 0 where

@@ -2,15 +2,15 @@
 use super::see;
 use limits::MAX_DEGREE;
 ghost use mathlib.Core.Path.{_≡_};
-ghost use mathlib.Core.List.{_++_};
-ghost use Prim.Native.Nat.{_≤_};
-ghost use lib.ListN.{length, drop};
+ghost use mathlib.Core.List.{[], _++_};
+ghost use Prim.Native.Nat.{_+_, _≤_, _<_};
+ghost use lib.ListN.{length, getD, drop};
 ghost use Rattle.rules.specs.Limits.{unit, maxDegree};
 ghost use Rattle.rules.specs.Table.{at, valuesAt};
+ghost use Rattle.rules.specs.Sound.{Below};
 ghost use Rattle.rules.specs.Cut.{cut};
 ghost use Rattle.rules.specs.Step.{clips};
-ghost use Rattle.rules.proofs.Duality.{Below};
-ghost use Rattle.table.specs.Held.{partAt, Part};
+ghost use Rattle.table.specs.Layout.{checksFrom, Holds};
 ghost use Rattle.cut.specs.CutMask.{cutMask};
 
 // A call, since a cast of the element itself would ask that it fits.
@@ -47,8 +47,8 @@ fn members_cut(members: &[u16], spins: &[i32]) -> u32
 
 // The cut of check j.
 pub(crate) fn check_cut(starts: &[u16], members: &[u16], spins: &[i32], j: usize) -> u32
-    requires { ⌜ Part (length (now spins)) (now starts) (now members) j ⌝ }
-    ensures { λ r. ⌜ r ≡ cutMask (cut unit (clips unit (valuesAt (at (now (spins .entry))) (partAt (now (starts .entry)) (now (members .entry)) j)))) ⌝ }
+    requires { ⌜ Holds (length (now spins)) (now starts) (now members) × (j + 1 < length (now starts)) ⌝ }
+    ensures { λ r. ⌜ r ≡ cutMask (cut unit (clips unit (valuesAt (at (now (spins .entry))) (getD (checksFrom (now (starts .entry)) (now (members .entry))) j [])))) ⌝ }
 {
     let a = wide(starts[j]);
     let e = wide(starts[j + 1]);

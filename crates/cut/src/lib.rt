@@ -16,7 +16,7 @@ use scan::scan_values;
 use table::Checked;
 ghost use mathlib.Core.Path.{_≡_};
 ghost use mathlib.Core.Bool.{cond};
-ghost use Prim.Native.Nat.{_*_, _<_};
+ghost use Prim.Native.Nat.{_+_, _*_, _<_};
 ghost use lib.Dec.{ltb};
 ghost use lib.IntN.{pos};
 ghost use lib.ListN.{length};
@@ -24,11 +24,11 @@ ghost use Rattle.integers.specs.Linear.{up, _⩽_, Within};
 ghost use Rattle.integers.specs.Clip.{clipZ};
 ghost use Rattle.rules.specs.Limits.{unit, maxDegree};
 ghost use Rattle.rules.specs.Cut.{maskAnswer, cutAnswer};
-ghost use Rattle.table.specs.Held.{Part};
+ghost use Rattle.table.specs.Layout.{tableOf, Holds};
 ghost use Rattle.cut.specs.Heights.{seen};
 ghost use Rattle.cut.specs.Scan.{changes, decided};
 ghost use Rattle.cut.specs.Reply.{foundOf};
-ghost use Rattle.cut.specs.Search.{searchRefusal, tableSearch, maskGives};
+ghost use Rattle.cut.specs.Search.{searchRefusal, searchOn, maskGives};
 
 // U as a size.
 const UNIT_SIZE: u32 = UNIT as u32;
@@ -177,8 +177,8 @@ fn search_table(
     spins: &[i32],
     check: usize,
 ) -> Found
-    requires { ⌜ (check < checks → Part bits (now starts) (now members) check) ⌝ }
-    ensures { λ r. ⌜ foundOf r ≡ maskAnswer (tableSearch (now (starts .entry)) (now (members .entry)) bits checks (now (spins .entry)) check) ⌝ }
+    requires { ⌜ Holds bits (now starts) (now members) × (length (now starts) ≡ checks + 1) ⌝ }
+    ensures { λ r. ⌜ foundOf r ≡ maskAnswer (searchOn (tableOf bits (now (starts .entry)) (now (members .entry))) (now (spins .entry)) check) ⌝ }
 {
     let refused = refusal(bits, checks, spins, check);
     if refused != 0 {
@@ -199,7 +199,17 @@ pub fn search(code: &[u8], spins: &[i32], check: usize) -> Found
         Checked::Accepted {
             bits,
             checks,
-            edges: _,
-        } => search_table(&starts, &members, bits, checks, spins, check),
+            edges,
+        } => {
+            let end = checks + 1;
+            search_table(
+                &starts[..end],
+                &members[..edges],
+                bits,
+                checks,
+                spins,
+                check,
+            )
+        }
     }
 }

@@ -1,56 +1,29 @@
 -- A call for rounds: refused as it stands, or performed on the first parts of its buffers. Assumes nothing.
 use mathlib.Core.Path.{_≡_, refl, sym, _∙_, ap, ap₂, subst, fun-ext}
 use mathlib.Core.Bool.{true, false≢true, cond}
-use mathlib.Core.List.{List, [], _∷_, _++_}
+use mathlib.Core.List.{List}
 use Prim.Native.Nat.{ℕ, _+_, _≤_, _<_}
-use native.Mathlib.Nat.{add-sub-cancel-left}
-use native.Mathlib.Omega.{arith}
 use borrow.Author.Tests.{eq-eqb}
-use lib.ListN.{length, take, drop}
-use lib.Seq.{take-at, drop-at}
+use lib.ListN.{length, take}
 use lib.IntN.{ℤ}
 use Rattle.rules.specs.Limits.{frameLimit, maxChecks, maxEdges}
 use Rattle.rules.specs.Refusal.{Answer, refused, gives, multiplierLarge}
 use Rattle.rules.specs.Table.{Table, edges, edgesOf, checksOf}
 use Rattle.rules.specs.CodeFile.{codeFile}
-use Rattle.rules.specs.Buffers.{Lengths, lent, lengthsOf, needs, over, Part}
-use Rattle.rules.specs.Run.{Status, running, certified, spent, Progress, Run, stateIn, iterate, isRunning, answerAt, refusedAt, perform, callOn, callBy, call}
-use Rattle.rules.proofs.AnswerLaws.{refused≢gives}
-use Rattle.rules.proofs.Tables.{Sound, file-sound}
-use Rattle.rules.proofs.BufferLaws.{by-name, fits-part, take-over, over-length}
-use Rattle.rules.proofs.Runs.{Safe}
+use Rattle.rules.specs.Buffers.{Lengths, lent, lengthsOf, needs, over}
+use Rattle.rules.specs.Run.{Status, running, certified, spent, Progress, Run, stateIn, iterate, isRunning, answerAt, refusedAt, perform, callOn, callBy, call, Safe}
+use Rattle.rules.proofs.AnswerLaws.{refused≢gives, gives-inj}
+use Rattle.rules.proofs.Tables.{file-sound}
+use Rattle.rules.proofs.BufferLaws.{by-name, fits-part}
 use Rattle.rules.proofs.Counted.{all-counted}
 use Rattle.table.specs.Starts.{startsOf}
-use Rattle.table.proofs.StartsLaws.{starts-length}
+use Rattle.table.specs.Layout.{tableOf, Opened}
+use Rattle.table.proofs.LayoutLaws.{laid-opened}
 use Rattle.cut.proofs.ReplyLaws.{each-all}
 use Rattle.run.specs.declared.Admitted.{Admitted}
 use Rattle.run.specs.Admitted.{Sizes, lentOf, admittedOf, sizesOf, Admission, admissionBy, admission}
 use Rattle.run.proofs.AdmitLaws.{Admits, admits-refused, admits-gives, admission-room, sound-safe}
-use Rattle.decoder.specs.Layout.{checksFrom, tableOf, Holds}
 use Rattle.decoder.specs.Finished.{PartsFit}
-
--- ---- starts and members hold the checks
-checks-after : (s : ℕ) (ms : List ℕ) (cs : List (List ℕ)) → checksFrom (startsOf (s + length ms) cs) (edges cs) ≡ cs → checksFrom (startsOf s (ms ∷ cs)) (edges (ms ∷ cs)) ≡ ms ∷ cs
-unfolding checksFrom startsOf
-checks-after s ms [] e = ap₂ (λ a b. a ∷ checksFrom ((s + length ms) ∷ []) b) (ap (λ k. take k (ms ++ [])) (add-sub-cancel-left s (length ms)) ∙ take-at ms [] (length ms) refl)
-    (ap (λ k. drop k (ms ++ [])) (add-sub-cancel-left s (length ms)) ∙ drop-at ms [] (length ms) refl)
-checks-after s ms (ns ∷ cs) e = ap₂ _∷_ (ap (λ k. take k (ms ++ edges (ns ∷ cs))) (add-sub-cancel-left s (length ms)) ∙ take-at ms (edges (ns ∷ cs)) (length ms) refl)
-    (ap (checksFrom (startsOf (s + length ms) (ns ∷ cs))) (ap (λ k. drop k (ms ++ edges (ns ∷ cs))) (add-sub-cancel-left s (length ms)) ∙ drop-at ms (edges (ns ∷ cs)) (length ms) refl) ∙ e)
-
-checks-back : (s : ℕ) (cs : List (List ℕ)) → checksFrom (startsOf s cs) (edges cs) ≡ cs
-unfolding checksFrom startsOf
-checks-back s [] = refl
-checks-back s (ms ∷ cs) = checks-after s ms cs (checks-back (s + length ms) cs)
-
-holds-checks : (t : Table) → Sound t → Holds (t .bits) (startsOf 0 (t .checks)) (edges (t .checks))
-holds-checks t h = record {
-  starts = ap (startsOf 0) (sym back);
-  members = ap edges (sym back);
-  sound = subst (λ cs. Sound (record { bits = t .bits; checks = cs })) (sym back) h;
-}
-  where
-    back : checksFrom (startsOf 0 (t .checks)) (edges (t .checks)) ≡ t .checks
-    back = checks-back 0 (t .checks)
 
 -- ---- admission to a run's next call, with all its buffers lent: of a table, and of a code file
 abbrev admissionOf : Answer Table → List ℤ → ℕ → Run → List ℕ → List ℕ → Admission
@@ -92,35 +65,6 @@ answers spent a b h = refl
 -- with the table's own sizes, starts and members
 module _ (file : List ℕ) (t : Table) (isFile : codeFile file ≡ gives t) (l : List ℤ) (wanted : ℕ) (r : Run) (ss ms : List ℕ) (hs : maxChecks < length ss) (hm : maxEdges ≤ length ms)
     (a : Admits t l wanted (lengthsOf (r .buffers)) r (sizesOf t)) where
-  starts-long : length (startsOf 0 (t .checks)) ≡ checksOf t + 1
-  starts-long = starts-length 0 (t .checks)
-
-  starts-are : take (checksOf t + 1) (over (startsOf 0 (t .checks)) ss) ≡ startsOf 0 (t .checks)
-  starts-are = take-over (checksOf t + 1) (startsOf 0 (t .checks)) ss starts-long
-
-  members-are : take (edgesOf t) (over (edges (t .checks)) ms) ≡ edges (t .checks)
-  members-are = take-over (edgesOf t) (edges (t .checks)) ms refl
-
-  checks-are : checksFrom (take (checksOf t + 1) (over (startsOf 0 (t .checks)) ss)) (take (edgesOf t) (over (edges (t .checks)) ms)) ≡ t .checks
-  checks-are = ap₂ checksFrom starts-are members-are ∙ checks-back 0 (t .checks)
-
-  sound-table : Sound t
-  sound-table = file-sound file t isFile
-
-  room-starts : length (startsOf 0 (t .checks)) ≤ length ss
-  room-starts = omega (arith, starts-long, sound-table .checks .1)
-
-  room-members : edgesOf t ≤ length ms
-  room-members = omega (arith, sound-table .few)
-
-  long-enough : Part (needs t) (lengthsOf (r .buffers))
-  long-enough = fits-part (needs t) (lengthsOf (r .buffers)) (a .room)
-
-  safe : Safe t r
-  safe =
-      let s = sound-safe (r .progress .rounds) (stateIn t (r .buffers)) (a .sound) in
-      record { copies = s .1; offsets = s .2; early = λ e. s .0 }
-
   -- starts and members as they were left, in front of what was there
   abbrev startsIn : List ℕ
   startsIn = over (startsOf 0 (t .checks)) ss
@@ -128,19 +72,27 @@ module _ (file : List ℕ) (t : Table) (isFile : codeFile file ≡ gives t) (l :
   abbrev membersIn : List ℕ
   membersIn = over (edges (t .checks)) ms
 
+  opened : Opened file (t .bits) (checksOf t) (edgesOf t) startsIn membersIn
+  opened = laid-opened file t isFile ss ms hs hm
+
   table-is : tableOf (t .bits) (take (checksOf t + 1) startsIn) (take (edgesOf t) membersIn) ≡ t
-  table-is = ap (λ cs. record { bits = t .bits; checks = cs }) checks-are
+  table-is = gives-inj _ t (sym (opened .isFile) ∙ isFile)
+
+  safe : Safe t r
+  safe =
+      let s = sound-safe (r .progress .rounds) (stateIn t (r .buffers)) (a .sound) in
+      record { copies = s .1; offsets = s .2; early = λ e. s .0 }
 
   pub parts-fit : PartsFit (t .bits) (checksOf t) (edgesOf t) l startsIn membersIn r
   parts-fit = record {
     size = a .frameLong;
     frame = each-all frameLimit l (a .frame);
-    few = sound-table .checks .1;
-    startsRoom = subst (λ k. checksOf t + 1 ≤ k) (sym (over-length (startsOf 0 (t .checks)) ss room-starts)) (omega (arith, starts-long, room-starts));
-    membersRoom = subst (λ k. edgesOf t ≤ k) (sym (over-length (edges (t .checks)) ms room-members)) room-members;
-    holds = subst (λ x. Holds (t .bits) x (take (edgesOf t) membersIn)) (sym starts-are) (subst (Holds (t .bits) (startsOf 0 (t .checks))) (sym members-are) (holds-checks t sound-table));
-    checks = ap length (sym checks-are);
-    room = long-enough;
+    few = file-sound file t isFile .checks .1;
+    startsRoom = opened .startsRoom;
+    membersRoom = opened .membersRoom;
+    holds = opened .holds;
+    checks = ap checksOf (sym table-is);
+    room = fits-part (needs t) (lengthsOf (r .buffers)) (a .room);
     runs = running-is (r .progress .status) (a .running);
     safe = subst (λ x. Safe x r) (sym table-is) safe;
   }

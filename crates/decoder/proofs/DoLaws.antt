@@ -19,7 +19,7 @@ use Rattle.rules.specs.Run.{Progress, Run, statusAt, moved, stateIn, iterate}
 use Rattle.rules.proofs.Pass.{AtMost}
 use Rattle.rules.proofs.RoundSizes.{first-length, Sized, round-sized}
 use Rattle.rules.proofs.Runs.{multipliers-limit, safe-moves}
-use Rattle.decoder.specs.Layout.{checksFrom, tableOf, Holds}
+use Rattle.table.specs.Layout.{checksFrom, tableOf, Holds}
 use Rattle.decoder.specs.Spins.{SpinsFit}
 use Rattle.decoder.specs.Passed.{Passed, PassFits, passed, passedOf}
 use Rattle.decoder.specs.Closing.{AllUpTo, GapFits}
@@ -27,7 +27,7 @@ use Rattle.run.specs.Ending.{closing, statusBy, recordBy}
 use Rattle.run.proofs.EndingLaws.{counted-next}
 use Rattle.decoder.specs.Found.{found}
 use Rattle.decoder.specs.Rounds.{Given, inner, looped, filled, roundsFrom, Ready}
-use Rattle.decoder.proofs.LayoutLaws.{members-below, members-fit}
+use Rattle.table.proofs.LayoutLaws.{members-below, members-fit}
 use Rattle.decoder.proofs.ExactLaws.{over-exact, state-exact}
 use Rattle.decoder.proofs.RoundLaws.{spins-are, passed-is, spins-within, foundIn, round-closed}
 

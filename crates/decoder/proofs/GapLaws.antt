@@ -11,12 +11,12 @@ use borrow.Author.Tests.{eq-eqb, ne-eqb}
 use Rattle.rules.specs.Limits.{maxChecks, maxDegree, sizeLimit, stepLimit}
 use Rattle.rules.specs.Bound.{Row}
 use Rattle.rules.specs.Scatter.{rowOf, EachWithin, Put, Adds}
-use Rattle.rules.proofs.Duality.{Below}
+use Rattle.rules.specs.Sound.{Below}
 use Rattle.rules.proofs.BoundLaws.{none-adds, row-adds, frame-within}
 use Rattle.writing.proofs.SetsLaws.{drop-next, drop-end}
-use Rattle.decoder.specs.Layout.{checksFrom, Holds}
+use Rattle.table.specs.Layout.{checksFrom, Holds}
 use Rattle.decoder.specs.Closing.{withRow, rowsFrom, rowsLeft, AllUpTo, RowFits, RowsFit, GapFits}
-use Rattle.decoder.proofs.CheckLaws.{starts-long, part-is, part-in, part-below, part-degree}
+use Rattle.table.proofs.LayoutLaws.{starts-long, part-is, part-in, part-below, part-degree}
 
 -- ---- a check's row, if its mask is not 0
 module _ (r : Row) (mask : ℕ) {ls : List ℤ} where

@@ -9,10 +9,10 @@ use lib.IntN.{ℤ}
 use Rattle.rules.specs.Table.{Table}
 use Rattle.rules.specs.Round.{Round}
 use Rattle.rules.specs.Buffers.{spins, copies, offsets, multipliers, masks, word, certificate, Buffer, lengthsOf, needs, Part}
-use Rattle.rules.specs.Run.{Status, running, certified, spent, Run, moved, tooLarge, nextBy, next, iterate}
+use Rattle.rules.specs.Run.{Status, running, certified, spent, Run, moved, tooLarge, nextBy, next, iterate, Safe}
 use Rattle.rules.proofs.BufferLaws.{by-name, part-refl, past-lengths}
-use Rattle.rules.proofs.Runs.{coming, Safe, iterate-safe, held-start, iterate-held, ended-stays, iterate-stays, running≢certified, spent≢running}
-use Rattle.decoder.specs.Layout.{tableOf}
+use Rattle.rules.proofs.Runs.{coming, iterate-safe, held-start, iterate-held, ended-stays, iterate-stays, running≢certified, spent≢running}
+use Rattle.table.specs.Layout.{tableOf}
 use Rattle.decoder.specs.Rounds.{looped, filled, roundsFrom, Steady, leftBy}
 
 -- ---- what the rounds write does not depend on word and certificate

@@ -14,11 +14,9 @@ pub mod MultiplierLaws
 pub mod ValueLaws
 pub mod MoveLaws
 pub mod StepLaws
-pub mod LayoutLaws
 pub mod PassLaws
 pub mod PassingLaws
 pub mod SignLaws
-pub mod CheckLaws
 pub mod QuotientLaws
 pub mod GapLaws
 pub mod ClosingLaws

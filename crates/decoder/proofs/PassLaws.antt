@@ -11,7 +11,7 @@ use Rattle.rules.specs.Round.{values, pass, copiesIn, offsetsIn, entriesIn}
 use Rattle.rules.specs.Buffers.{multiplierOf, multipliersOf, maskIn, masksOf}
 use Rattle.rules.proofs.Signs.{alike-length}
 use Rattle.rules.proofs.Pass.{pass-laid}
-use Rattle.decoder.proofs.LayoutLaws.{edgesBefore}
+use Rattle.table.specs.Layout.{edgesBefore}
 
 module _ (u : ℕ) (f : ℕ → ℤ) where
   abbrev pub stepAt : List (List ℕ) → List ℤ → ℕ → Step

@@ -9,20 +9,19 @@ use lib.IntN.{ℤ}
 use Rattle.integers.specs.Sum.{AllWithin}
 use Rattle.rules.specs.Limits.{unit, offsetLimit}
 use Rattle.rules.specs.Table.{at}
+use Rattle.rules.specs.Sound.{Below}
 use Rattle.rules.specs.Step.{Step, step}
 use Rattle.rules.specs.Round.{values, pass, entriesIn}
-use Rattle.rules.proofs.Duality.{Below}
 use Rattle.rules.proofs.Pass.{AllLaid, pass-laid, copies-length, offsets-length, entries-length, drop-within}
 use Rattle.rules.proofs.RoundSizes.{multipliers-length, masks-length}
-use Rattle.decoder.specs.Layout.{checksFrom}
+use Rattle.table.specs.Layout.{checksFrom, edgesBefore}
 use Rattle.decoder.specs.Stepped.{Stepped, steppedBy, steppedOn, stepped}
 use Rattle.decoder.specs.Passed.{Passed, passed, PassFits}
 use Rattle.decoder.specs.Parts.{part, splice, placed, onePassed, OneFits}
 use Rattle.decoder.proofs.FillLaws.{fill, fill-none, fill-length, fill-rest, fill-more, fill-part, fill-all}
 use Rattle.decoder.proofs.PlaceLaws.{take-within}
 use Rattle.decoder.proofs.ValueLaws.{values-take}
-use Rattle.decoder.proofs.LayoutLaws.{edgesBefore, before-all, before-most, members-long, start-is}
-use Rattle.decoder.proofs.CheckLaws.{starts-long, start-next, part-is, part-degree, part-below}
+use Rattle.table.proofs.LayoutLaws.{before-all, before-most, members-long, start-is, starts-long, start-next, part-is, part-degree, part-below}
 use Rattle.decoder.proofs.PassLaws.{stepAt, copies-at, offsets-at, multiplier-at, mask-at}
 
 -- j checks are done: the edges before check j, and j multipliers and masks

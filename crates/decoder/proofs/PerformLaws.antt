@@ -14,17 +14,17 @@ use Rattle.rules.specs.Table.{Table, edgesOf, degreeOf}
 use Rattle.rules.specs.Cut.{negatives, keep}
 use Rattle.rules.specs.Round.{Round}
 use Rattle.rules.specs.Buffers.{spins, copies, offsets, multipliers, masks, word, certificate, Buffer, Elem, the, lent, lengthsOf, needsBy, needs, Part, partOf, over, overBy, wordLeft, certificateLeft, multipliersOf, masksOf, bytesOf}
-use Rattle.rules.specs.Run.{Status, running, certified, spent, Run, moved, stateIn, iterate}
+use Rattle.rules.specs.Run.{Status, running, certified, spent, Run, moved, stateIn, iterate, Safe}
 use Rattle.rules.specs.Calls.{lend}
 use Rattle.rules.specs.Certificate.{certificateOf}
 use Rattle.rules.proofs.Basics.{none≢some, some-inj}
 use Rattle.rules.proofs.BufferLaws.{part-refl, lengths-part, take-over, AllPast, past-lengths}
 use Rattle.rules.proofs.CallPasses.{round-proper}
 use Rattle.rules.proofs.RoundSizes.{Sized, round-sized, state-part}
-use Rattle.rules.proofs.Runs.{coming, Safe, Kept, iterate-kept, held-start, iterate-held, running≢certified, spent≢certified}
+use Rattle.rules.proofs.Runs.{coming, Kept, iterate-kept, held-start, iterate-held, running≢certified, spent≢certified}
 use Rattle.rules.proofs.Lends.{iterate-lend}
 use Rattle.writing.specs.Written.{certificateFrom}
-use Rattle.decoder.specs.Layout.{checksFrom, tableOf, Holds}
+use Rattle.table.specs.Layout.{checksFrom, tableOf, Holds}
 use Rattle.run.specs.Ending.{closing}
 use Rattle.decoder.specs.Rounds.{Given, looped, filled, roundsFrom, Steady, Ready}
 use Rattle.decoder.specs.Finished.{Ending, finished, FinishFits, PartsFit}

@@ -1,8 +1,8 @@
--- Lists within limits, members below n, and what stands at a place of a difference and of the first n numbers of a function. Assumes nothing.
+-- Lists within limits, and what stands at a place of a difference and of the first n numbers of a function. Assumes nothing.
 use mathlib.Core.Path.{_≡_, refl, ap, ap₂}
 use mathlib.Core.List.{List, [], _∷_}
-use Prim.Native.Nat.{ℕ, zero, suc, _≤_, _<_}
-use native.Mathlib.Nat.{le-of-suc-le-suc, suc-inj, lt-of-lt-of-le}
+use Prim.Native.Nat.{ℕ, zero, suc, _<_}
+use native.Mathlib.Nat.{le-of-suc-le-suc, suc-inj}
 use native.Mathlib.Omega.{arith}
 use lib.ListN.{length, take}
 use lib.IntN.{ℤ, _-ℤ_}
@@ -10,18 +10,12 @@ use Rattle.integers.specs.Sum.{AllWithin}
 use Rattle.rules.specs.Table.{at}
 use Rattle.rules.specs.Step.{minus}
 use Rattle.rules.specs.Round.{firstOf}
-use Rattle.rules.proofs.Duality.{Below}
 
 -- ---- every element between -b and b
 pub take-within : (b n : ℕ) (xs : List ℤ) → AllWithin b xs → AllWithin b (take n xs)
 take-within b zero xs h = tt
 take-within b (suc n) [] h = tt
 take-within b (suc n) (x ∷ xs) h = (h .0, take-within b n xs (h .1))
-
--- ---- members below n
-pub below-more : (n k : ℕ) (ms : List ℕ) → n ≤ k → Below n ms → Below k ms
-below-more n k [] h b = tt
-below-more n k (m ∷ ms) h b = (lt-of-lt-of-le (b .0) h, below-more n k ms h (b .1))
 
 -- ---- differences
 pub minus-length : (vs zs : List ℤ) → length vs ≡ length zs → length (minus vs zs) ≡ length vs

@@ -20,7 +20,7 @@ use Rattle.rules.proofs.WrittenPasses.{AllProper}
 use Rattle.rules.proofs.CallPasses.{round-proper}
 use Rattle.rules.proofs.RoundSizes.{first-length}
 use Rattle.rules.proofs.Runs.{spin-within}
-use Rattle.decoder.specs.Layout.{checksFrom, tableOf, Holds}
+use Rattle.table.specs.Layout.{checksFrom, tableOf, Holds}
 use Rattle.decoder.specs.Passed.{Passed, passedBy, passedOf, passed}
 use Rattle.decoder.specs.Closing.{metBy, rowsFrom}
 use Rattle.run.specs.Ending.{closing}

@@ -5,10 +5,9 @@ use Prim.Native.Nat.{ℕ, zero, suc, _<_}
 use native.Mathlib.Omega.{arith}
 use lib.ListN.{length, drop}
 use lib.IntN.{ℤ, _+ℤ_}
+use Rattle.rules.specs.Sound.{Below, AllBelow}
 use Rattle.rules.specs.Step.{step}
 use Rattle.rules.specs.Round.{values, pass, bitOf, join, candidate}
-use Rattle.rules.proofs.Duality.{Below}
-use Rattle.rules.proofs.Optimal.{AllBelow}
 
 module _ (n : ℕ) (f g : ℕ → ℤ) (same : (i : ℕ) → i < n → g i ≡ f i) where
   values-same : (ms : List ℕ) (ys : List ℤ) → Below n ms → values g ms ys ≡ values f ms ys

@@ -12,19 +12,20 @@ use Rattle.integers.specs.Clip.{clipZ}
 use Rattle.integers.specs.Sum.{AllWithin}
 use Rattle.rules.specs.Limits.{unit, maxBits, offsetLimit, valueLimit}
 use Rattle.rules.specs.Table.{degreeOf, at}
+use Rattle.rules.specs.Sound.{Below}
 use Rattle.rules.specs.Step.{minus}
 use Rattle.rules.specs.Bound.{gather}
 use Rattle.rules.specs.Buffers.{over}
 use Rattle.rules.specs.Round.{divided, total, spin, firstOf}
 use Rattle.rules.proofs.BufferLaws.{over-length}
-use Rattle.rules.proofs.Duality.{Below, below-at}
+use Rattle.rules.proofs.Duality.{below-at, below-more}
 use Rattle.rules.proofs.Fresh.{zeros-within}
 use Rattle.rules.proofs.Optimal.{within-at}
 use Rattle.rules.proofs.Pass.{append-within, drop-within}
 use Rattle.rules.proofs.Steps.{minus-within}
 use Rattle.decoder.specs.Spins.{SpinsFit}
 use Rattle.decoder.specs.Totals.{Gathered, EdgesFit, TotalsFit, spinOf, spinAt}
-use Rattle.decoder.proofs.PlaceLaws.{below-more, minus-length, minus-at, first-same}
+use Rattle.decoder.proofs.PlaceLaws.{minus-length, minus-at, first-same}
 use Rattle.decoder.proofs.GatherLaws.{degree-take, gather-within}
 
 -- ---- an edge's weight, and the total with it

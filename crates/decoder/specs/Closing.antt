@@ -14,8 +14,8 @@ use Rattle.rules.specs.Parity.{meets}
 use Rattle.rules.specs.Cut.{negatives}
 use Rattle.rules.specs.Bound.{Row, bound, gap}
 use Rattle.rules.specs.Scatter.{rowOf, EachWithin}
-use Rattle.rules.proofs.Duality.{Below}
-use Rattle.decoder.specs.Layout.{checksFrom, Holds}
+use Rattle.rules.specs.Sound.{Below}
+use Rattle.table.specs.Layout.{checksFrom, Holds}
 
 -- there is a candidate, and it meets all checks
 abbrev pub metBy : Option (List Bool) → List (List ℕ) → Bool

@@ -8,10 +8,9 @@ use Rattle.integers.specs.Sum.{AllWithin}
 use Rattle.rules.specs.Limits.{frameLimit, maxChecks, certificateLength}
 use Rattle.rules.specs.Cut.{negatives}
 use Rattle.rules.specs.Buffers.{lengthsOf, needsBy, Part, over, bytesOf}
-use Rattle.rules.specs.Run.{Status, running, certified, spent, Run}
-use Rattle.rules.proofs.Runs.{Safe}
+use Rattle.rules.specs.Run.{Status, running, certified, spent, Run, Safe}
 use Rattle.writing.specs.Written.{certificateFrom}
-use Rattle.decoder.specs.Layout.{checksFrom, tableOf, Holds}
+use Rattle.table.specs.Layout.{checksFrom, tableOf, Holds}
 
 -- ---- the end
 pub record Ending : Type 0 where

@@ -1,4 +1,3 @@
-pub mod Layout
 pub mod Spins
 pub mod Totals
 pub mod Lifted

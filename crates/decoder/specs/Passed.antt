@@ -9,7 +9,7 @@ use Rattle.rules.specs.Limits.{unit, offsetLimit}
 use Rattle.rules.specs.Step.{Step}
 use Rattle.rules.specs.Round.{Round, pass, copiesIn, offsetsIn, entriesIn}
 use Rattle.rules.specs.Buffers.{multipliersOf, masksOf}
-use Rattle.decoder.specs.Layout.{checksFrom, Holds}
+use Rattle.table.specs.Layout.{checksFrom, Holds}
 
 pub record Passed : Type 0 where
   pub copies : List ℤ

@@ -9,9 +9,8 @@ use Rattle.integers.specs.Sum.{AllWithin}
 use Rattle.rules.specs.Limits.{frameLimit}
 use Rattle.rules.specs.Table.{Table, degreeOf}
 use Rattle.rules.specs.Buffers.{word, certificate, Buffers, lent, lengthsOf, needs}
-use Rattle.rules.specs.Run.{Status, running, certified, spent, Run, iterate}
-use Rattle.rules.proofs.Runs.{Safe}
-use Rattle.decoder.specs.Layout.{tableOf, Holds}
+use Rattle.rules.specs.Run.{Status, running, certified, spent, Run, iterate, Safe}
+use Rattle.table.specs.Layout.{tableOf, Holds}
 
 -- a table in starts and members, a frame for it, and its bits' degrees
 pub record Given (n : ℕ) (l : List ℤ) (ss ms ds : List ℕ) : Type 0 where

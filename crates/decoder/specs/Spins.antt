@@ -7,7 +7,7 @@ use lib.IntN.{ℤ}
 use Rattle.rules.specs.Limits.{offsetLimit}
 use Rattle.integers.specs.Sum.{AllWithin}
 use Rattle.rules.specs.Table.{degreeOf}
-use Rattle.rules.proofs.Duality.{Below}
+use Rattle.rules.specs.Sound.{Below}
 
 -- n bits with frame l, edges at the members ms with copies z and offsets y before round 1,024 at the latest, and the bits' degrees ds
 pub record SpinsFit (n : ℕ) (l : List ℤ) (ms ds : List ℕ) (z y : List ℤ) : Type 0 where

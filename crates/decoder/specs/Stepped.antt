@@ -6,10 +6,10 @@ use lib.ListN.{length}
 use lib.IntN.{ℤ}
 use Rattle.integers.specs.Sum.{AllWithin}
 use Rattle.rules.specs.Limits.{unit, offsetLimit, stepLimit, valueLimit}
+use Rattle.rules.specs.Sound.{Below}
 use Rattle.rules.specs.Step.{Step, step}
 use Rattle.rules.specs.Round.{values}
 use Rattle.rules.specs.Buffers.{multiplierOf, maskIn}
-use Rattle.rules.proofs.Duality.{Below}
 
 pub record Stepped : Type 0 where
   pub copies : List ℤ

@@ -9,9 +9,9 @@ use Rattle.integers.specs.Clip.{clipZ}
 use Rattle.integers.specs.Sum.{AllWithin}
 use Rattle.rules.specs.Limits.{unit, maxBitDegree, frameLimit, offsetLimit}
 use Rattle.rules.specs.Table.{degreeOf, at}
+use Rattle.rules.specs.Sound.{Below}
 use Rattle.rules.specs.Bound.{gather}
 use Rattle.rules.specs.Round.{divided}
-use Rattle.rules.proofs.Duality.{Below}
 
 -- new is old with the weights ws of the edges at the members ms added, each at its member
 pub record Gathered (old new : List ℤ) (ms : List ℕ) (ws : List ℤ) : Type 0 where

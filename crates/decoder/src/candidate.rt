@@ -4,11 +4,11 @@ ghost use mathlib.Core.Path.{_≡_};
 ghost use mathlib.Core.Bool.{not, _&&_};
 ghost use lib.ListN.{length};
 ghost use Rattle.rules.specs.Table.{at, bitsAt};
+ghost use Rattle.rules.specs.Sound.{Below};
 ghost use Rattle.rules.specs.Parity.{_⊕_, odd, meets};
 ghost use Rattle.rules.specs.Cut.{isNeg, negatives};
 ghost use Rattle.rules.specs.Round.{isZero, candidate};
-ghost use Rattle.rules.proofs.Duality.{Below};
-ghost use Rattle.decoder.specs.Layout.{checksFrom, Holds};
+ghost use Rattle.table.specs.Layout.{checksFrom, Holds};
 ghost use Rattle.decoder.specs.Closing.{metBy};
 ghost use Rattle.decoder.specs.Candidate.{noZero};
 

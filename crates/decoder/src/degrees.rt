@@ -5,7 +5,7 @@ ghost use Prim.Native.Nat.{ℕ, _≤_, _<_};
 ghost use lib.ListN.{length, getD};
 ghost use Rattle.rules.specs.Limits.{maxBits, maxEdges};
 ghost use Rattle.rules.specs.Table.{degreeOf};
-ghost use Rattle.rules.proofs.Duality.{Below};
+ghost use Rattle.rules.specs.Sound.{Below};
 
 // The degree of each bit. Every member is below 2,048, so no test is needed.
 pub(crate) fn count_degrees(members: &[u16]) -> [u16; MAX_BITS]

@@ -4,7 +4,7 @@ use super::store::store;
 ghost use mathlib.Core.Path.{_≡_};
 ghost use lib.ListN.{length};
 ghost use Rattle.rules.specs.Table.{at};
-ghost use Rattle.decoder.specs.Layout.{checksFrom};
+ghost use Rattle.table.specs.Layout.{checksFrom};
 ghost use Rattle.decoder.specs.Passed.{passed, PassFits};
 ghost use Rattle.decoder.specs.Parts.{onePassed, OneFits};
 

@@ -13,7 +13,7 @@ ghost use Rattle.rules.specs.Refusal.{gives};
 ghost use Rattle.rules.specs.Buffers.{lent};
 ghost use Rattle.rules.specs.Run.{iterate};
 ghost use Rattle.run.specs.Reply.{statusOf, progressOf};
-ghost use Rattle.decoder.specs.Layout.{tableOf};
+ghost use Rattle.table.specs.Layout.{tableOf};
 ghost use Rattle.decoder.specs.Finished.{FinishFits, finished, PartsFit};
 ghost use Rattle.decoder.specs.Reply.{outcomeOf};
 

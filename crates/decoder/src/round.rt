@@ -10,7 +10,7 @@ ghost use mathlib.Core.Path.{_≡_};
 ghost use lib.ListN.{length};
 ghost use Rattle.run.specs.Reply.{progressOf};
 ghost use Rattle.run.specs.Ending.{foundOf};
-ghost use Rattle.decoder.specs.Layout.{checksFrom};
+ghost use Rattle.table.specs.Layout.{checksFrom};
 ghost use Rattle.decoder.specs.Closing.{GapFits};
 ghost use Rattle.decoder.specs.Found.{found};
 ghost use Rattle.decoder.specs.Rounds.{Given, Ready, inner, roundsFrom};

@@ -12,10 +12,10 @@ ghost use Rattle.integers.specs.Linear.{Within};
 ghost use Rattle.integers.specs.Sum.{AllWithin};
 ghost use Rattle.rules.specs.Limits.{unit, offsetLimit, stepLimit, valueLimit};
 ghost use Rattle.rules.specs.Table.{at};
+ghost use Rattle.rules.specs.Sound.{Below};
 ghost use Rattle.rules.specs.Mask.{setOf};
 ghost use Rattle.rules.specs.Step.{move, moves, minus};
 ghost use Rattle.rules.specs.Round.{values};
-ghost use Rattle.rules.proofs.Duality.{Below};
 ghost use Rattle.decoder.specs.Lifted.{Rising, MultiplierOf};
 ghost use Rattle.decoder.specs.Stepped.{stepped, StepFits, MoveFits};
 

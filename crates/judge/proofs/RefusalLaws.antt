@@ -22,7 +22,7 @@ use Rattle.rules.proofs.Basics.{and-both}
 use Rattle.rules.proofs.AnswerLaws.{range-both}
 use Rattle.table.proofs.AnswerLaws.{and-fails, and-holds}
 use Rattle.inputs.specs.Refusals.{turnedDown, orElse}
-use Rattle.inputs.proofs.RefusalLaws.{else-none, cond-none, test-number, turned-else}
+use Rattle.inputs.proofs.RefusalLaws.{else-refused, else-next, else-none, cond-none, test-number, turned-else}
 use Rattle.judge.specs.Refusals.{Long, beforeAt, itemRefusal, itemsRefusal, certificateRefusal}
 
 -- ---- one test
@@ -93,13 +93,24 @@ module _ (bs : List ℕ) (q k b c : ℕ) (i : Item) (hk : k ≡ 0 → ⊥) (hb :
 
 -- ---- entry by entry
 module _ (m : ℕ) (d : ℕ → ℕ) (bs : List ℕ) (q : ℕ) where
-  pub items-more : (k : ℕ) → k < q
+  items-more : (k : ℕ) → k < q
       → itemsRefusal m d (beforeAt bs q k) (itemsAt bs q k (q - k))
       ≡ orElse (itemRefusal m d (beforeAt bs q k) (itemAt bs q k)) (itemsRefusal m d (beforeAt bs q (k + 1)) (itemsAt bs q (k + 1) (q - (k + 1))))
   unfolding itemsAt itemsRefusal
   items-more k h =
       ap (λ c. itemsRefusal m d (beforeAt bs q k) (itemsAt bs q k c)) (left-more k q h)
       ∙ ap (λ p. orElse (itemRefusal m d (beforeAt bs q k) (itemAt bs q k)) (itemsRefusal m d p (itemsAt bs q (k + 1) (q - (k + 1))))) (ap (beforeAt bs q) (sym (add-one k)))
+
+  -- r the refusal of entry k
+  module _ (k r : ℕ) (h : k < q) (e : r ≡ itemRefusal m d (beforeAt bs q k) (itemAt bs q k)) where
+    abbrev rest : ℕ
+    rest = itemsRefusal m d (beforeAt bs q (k + 1)) (itemsAt bs q (k + 1) (q - (k + 1)))
+
+    pub items-stop : (r ≡ 0 → ⊥) → itemsRefusal m d (beforeAt bs q k) (itemsAt bs q k (q - k)) ≡ r
+    items-stop f = items-more k h ∙ ap (λ x. orElse x rest) (sym e) ∙ else-refused r rest f
+
+    pub items-next : r ≡ 0 → itemsRefusal m d (beforeAt bs q k) (itemsAt bs q k (q - k)) ≡ itemsRefusal m d (beforeAt bs q (k + 1)) (itemsAt bs q (k + 1) (q - (k + 1)))
+    items-next z = items-more k h ∙ ap (λ x. orElse x rest) (sym e) ∙ else-next r rest z
 
   pub items-end : (k : ℕ) → q ≤ k → itemsRefusal m d (beforeAt bs q k) (itemsAt bs q k (q - k)) ≡ 0
   unfolding itemsAt itemsRefusal
@@ -117,8 +128,8 @@ module _ (m : ℕ) (d : ℕ → ℕ) (bs : List ℕ) where
 
   pub certificate-short : length bs < 4 → certificateWrong ≡ certificateRefusal m d bs
   certificate-short h =
-      sym (certificate-is false (inRange 1 maxScale (scaleOf bs))
-      (and-fails (leb 4 (length bs) && leb (entriesOf bs) maxEntries) (eqb (length bs) (certificateLength (entriesOf bs))) (and-fails (leb 4 (length bs)) (leb (entriesOf bs) maxEntries) (lt-leb 4 (length bs) h))) refl)
+      let few = and-fails (leb 4 (length bs)) (leb (entriesOf bs) maxEntries) (lt-leb 4 (length bs) h) in
+      sym (certificate-is false (inRange 1 maxScale (scaleOf bs)) (and-fails _ (eqb (length bs) (certificateLength (entriesOf bs))) few) refl)
 
   module _ (q : ℕ) (hq : q ≡ entriesOf bs) (h : 4 ≤ length bs) where
     few : (b : Bool) → leb q maxEntries ≡ b → leb 4 (length bs) && leb (entriesOf bs) maxEntries ≡ b
@@ -160,7 +171,7 @@ module _ {A : Type 0} (t : Table) (d : ℕ → ℕ) (same : (j : ℕ) → j < ch
       ∙ test-number range 11 (cond right last maskWrong) a
       ∙ ap (λ r. turnedDown r a)
       (cond-same range (cond right last maskWrong) (cond (maskRight (d (i .check)) (i .mask)) last maskWrong) entryRange
-      (λ e. ap (λ x. cond (maskRight x (i .mask)) last maskWrong) (same (i .check) (ltb-true (i .check) (checksOf t) (and-both (ltb (i .check) (checksOf t)) (inRange 1 maxMultiplier (i .multiplier)) e .0)))))
+      (λ e. ap (λ x. cond (maskRight x (i .mask)) last maskWrong) (same (i .check) (ltb-true (i .check) (checksOf t) (and-both _ _ e .0)))))
 
   items-law : (p : Option Item) (is : List Item) (a : Answer A) → onItems t p is a ≡ turnedDown (itemsRefusal (checksOf t) d p is) a
   unfolding onItems itemsRefusal turnedDown
@@ -220,7 +231,7 @@ certificate-passed m d bs e =
     let p2 = cond-none scale items 10 (p1 .1) in
     let size = and-both few right (p1 .0) in
     record {
-      long = record { few = leb-true (entriesOf bs) maxEntries (and-both (leb 4 (length bs)) (leb (entriesOf bs) maxEntries) (size .0) .1); size = eqb-true (length bs) (certificateLength (entriesOf bs)) (size .1) };
+      long = record { few = leb-true (entriesOf bs) maxEntries (and-both (leb 4 (length bs)) _ (size .0) .1); size = eqb-true (length bs) (certificateLength (entriesOf bs)) (size .1) };
       scale = range-both 1 maxScale (scaleOf bs) (p2 .0) .1;
       entry = λ k h. items-passed m d bs (entriesOf bs) none 0 (entriesOf bs) (p2 .1) k (omega arith) (omega arith);
     }

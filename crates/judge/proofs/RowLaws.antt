@@ -11,8 +11,8 @@ use Rattle.rules.specs.Limits.{maxDegree}
 use Rattle.rules.specs.Scatter.{rowOf, Put, Adds}
 use Rattle.rules.specs.Certificate.{Item, itemAt, itemsAt}
 use Rattle.rules.proofs.BoundLaws.{row-adds}
-use Rattle.table.specs.Held.{partAt, Part}
-use Rattle.table.proofs.HeldLaws.{part-length}
+use Rattle.table.specs.Layout.{partAt, Part}
+use Rattle.table.proofs.LayoutLaws.{part-length}
 use Rattle.judge.specs.Rows.{rowIn, rowsIn, rowsLeft, Placed}
 
 module _ (starts members bs : List ℕ) (q : ℕ) where

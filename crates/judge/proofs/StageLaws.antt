@@ -1,5 +1,5 @@
 -- Document 01's answers on a table that the code holds: the tests as one refusal's number, then the verdict, in the code's own numbers. Assumes nothing.
-use mathlib.Core.Path.{_≡_, refl, sym, _∙_, ap, ap₂, subst}
+use mathlib.Core.Path.{_≡_, refl, sym, _∙_, ap, ap₂}
 use mathlib.Core.Bool.{false, cond, _&&_}
 use mathlib.Core.List.{List, _∷_}
 use mathlib.Core.Option.{Option, some, none}
@@ -27,13 +27,13 @@ use Rattle.rules.proofs.Basics.{and-both}
 use Rattle.rules.proofs.AnswerLaws.{then-of}
 use Rattle.inputs.specs.Refusals.{frameRefusal, wordRefusal, turnedDown, orElse}
 use Rattle.inputs.proofs.InputLaws.{frame-law, word-law}
-use Rattle.table.specs.Held.{degreeAt, partsFrom, tableIn, Held}
-use Rattle.judge.specs.Refusals.{certificateRefusal}
+use Rattle.table.specs.Layout.{checksFrom, tableOf, Holds, degreeAt}
+use Rattle.judge.specs.Refusals.{Ordered, certificateRefusal}
 use Rattle.judge.specs.Rows.{rowIn, rowsIn, AllPlaced}
-use Rattle.judge.specs.Stages.{verdictOn, judgeOn, syndromeOn, agreementOn, Unrefused}
-use Rattle.table.proofs.HeldLaws.{parts-length, parts-at, part-length}
+use Rattle.judge.specs.Stages.{verdictOn, judgeOn, syndromeOn, agreementOn, judgeRefusal}
+use Rattle.table.proofs.LayoutLaws.{starts-long, start-next, part-is, start-held, part-held}
 use Rattle.inputs.proofs.RefusalLaws.{else-none, cond-none, turned-else, turned-refused, turned-none}
-use Rattle.judge.proofs.RefusalLaws.{certificate-law, Passed}
+use Rattle.judge.proofs.RefusalLaws.{certificate-law, Passed, certificate-passed}
 
 -- ---- what is not refused
 frame-long : (n : ℕ) (l : List ℤ) → frameRefusal n l ≡ 0 → length l ≡ n
@@ -47,94 +47,102 @@ word-long n w e = eqb-true (length w) n (and-both (eqb (length w) n) (eachBit w)
 pub frame-word-long : (n : ℕ) (l : List ℤ) (w : List ℕ) → frameRefusal n l ≡ 0 → wordRefusal n w ≡ 0 → (length w ≡ length l) × (length l ≡ n)
 frame-word-long n l w e f = (word-long n w f ∙ sym (frame-long n l e), frame-long n l e)
 
-pub unrefused : (n m : ℕ) (starts : List ℕ) (l : List ℤ) (w bs : List ℕ) (r : ℕ)
-    → r ≡ orElse (frameRefusal n l) (orElse (wordRefusal n w) (certificateRefusal m (degreeAt starts) bs)) → r ≡ 0 → Unrefused n m starts l w bs
-unrefused n m starts l w bs r e z =
-    let p = else-none (frameRefusal n l) (orElse (wordRefusal n w) (certificateRefusal m (degreeAt starts) bs)) (sym e ∙ z) in
-    let q = else-none (wordRefusal n w) (certificateRefusal m (degreeAt starts) bs) (p .1) in
-    record { frame = p .0; word = q .0; certificate = q .1 }
+pub unrefused : (n m : ℕ) (ss : List ℕ) (l : List ℤ) (w bs : List ℕ) → judgeRefusal n m ss l w bs ≡ 0 → (length l ≡ n) × (length w ≡ n) × Passed m bs
+unfolding judgeRefusal
+unrefused n m ss l w bs e =
+    let certificate = certificateRefusal m (degreeAt ss) bs in
+    let p = else-none (frameRefusal n l) (orElse (wordRefusal n w) certificate) e in
+    let q = else-none (wordRefusal n w) certificate (p .1) in
+    (frame-long n l (p .0), word-long n w (q .0), certificate-passed m (degreeAt ss) bs (q .1))
 
-pub all-placed : (n m : ℕ) (starts members bs : List ℕ) → Held n m starts members → Passed m bs → AllPlaced n starts members bs (entriesOf bs)
-all-placed n m starts members bs held p = record {
-  long = p .long;
-  each = λ k h. record { part = held (itemAt bs (entriesOf bs) k .check) (p .entry k h .check); small = p .entry k h .multiplier };
-}
+-- ---- the answers, on starts and members that hold a table of m checks
+module _ (n m : ℕ) (ss ms : List ℕ) (h : Holds n ss ms) (hm : length ss ≡ m + 1) where
+  abbrev t : Table
+  t = tableOf n ss ms
 
--- ---- the answers
-module _ (n m : ℕ) (starts members : List ℕ) (held : Held n m starts members) where
-  degrees : (j : ℕ) → j < checksOf (tableIn n m starts members) → length (membersAt (tableIn n m starts members) j) ≡ degreeAt starts j
-  degrees j h =
-      let inside : j < m = subst (λ k. j < k) (parts-length starts members 0 m) h in
-      ap length (parts-at starts members m j inside) ∙ part-length n starts members j (held j inside)
+  many : length (checksFrom ss ms) ≡ m
+  many = omega (arith, starts-long n ss ms h)
 
-  judge-law : (l : List ℤ) (w bs : List ℕ)
-      → judgeOn (tableIn n m starts members) l w bs
-      ≡ turnedDown (orElse (frameRefusal n l) (orElse (wordRefusal n w) (certificateRefusal m (degreeAt starts) bs))) (gives (verdictOn (tableIn n m starts members) l w bs))
+  pub ordered : Ordered m ss
+  ordered j k = start-held n ss ms h j (omega (arith, many))
+
+  listed : (bs : List ℕ) → Passed m bs → (k : ℕ) → k < entriesOf bs → itemAt bs (entriesOf bs) k .check < length (checksFrom ss ms)
+  listed bs p k i = omega (arith, many, p .entry k i .check)
+
+  pub all-placed : (bs : List ℕ) → Passed m bs → AllPlaced n ss ms bs (entriesOf bs)
+  all-placed bs p = record {
+    long = p .long;
+    each = λ k i. record { part = part-held n ss ms h (itemAt bs (entriesOf bs) k .check) (listed bs p k i); small = p .entry k i .multiplier };
+  }
+
+  degrees : (j : ℕ) → j < checksOf (tableOf n ss ms) → length (membersAt (tableOf n ss ms) j) ≡ degreeAt ss j
+  degrees j k = omega (arith, start-next n ss ms h j k)
+
+  judge-law : (l : List ℤ) (w bs : List ℕ) → judgeOn (tableOf n ss ms) l w bs ≡ turnedDown (judgeRefusal n m ss l w bs) (gives (verdictOn (tableOf n ss ms) l w bs))
+  unfolding judgeRefusal
   judge-law l w bs =
-      let t = tableIn n m starts members in
       let a = gives (verdictOn t l w bs) in
-      let c = certificateRefusal m (degreeAt starts) bs in
-      let third = certificate-law t (degreeAt starts) degrees bs a ∙ ap (λ k. turnedDown (certificateRefusal k (degreeAt starts) bs) a) (parts-length starts members 0 m) in
+      let c = certificateRefusal m (degreeAt ss) bs in
+      let third = certificate-law t (degreeAt ss) degrees bs a ∙ ap (λ k. turnedDown (certificateRefusal k (degreeAt ss) bs) a) many in
       let second = word-law t w _ ∙ ap (turnedDown (wordRefusal n w)) third ∙ turned-else (wordRefusal n w) c a in
       frame-law t l _ ∙ ap (turnedDown (frameRefusal n l)) second ∙ turned-else (frameRefusal n l) (orElse (wordRefusal n w) c) a
 
-  module _ (l : List ℤ) (w bs : List ℕ) (r : ℕ) (e : r ≡ orElse (frameRefusal n l) (orElse (wordRefusal n w) (certificateRefusal m (degreeAt starts) bs))) where
-    pub judge-turned : (r ≡ 0 → ⊥) → refused r ≡ judgeOn (tableIn n m starts members) l w bs
-    judge-turned h =
-        let a = gives (verdictOn (tableIn n m starts members) l w bs) in
-        turned-refused r a h ∙ ap (λ k. turnedDown k a) e ∙ sym (judge-law l w bs)
+  module _ (l : List ℤ) (w bs : List ℕ) (r : ℕ) (e : r ≡ judgeRefusal n m ss l w bs) where
+    pub judge-turned : (r ≡ 0 → ⊥) → refused r ≡ judgeOn (tableOf n ss ms) l w bs
+    judge-turned f =
+        let a = gives (verdictOn t l w bs) in
+        turned-refused r a f ∙ ap (λ k. turnedDown k a) e ∙ sym (judge-law l w bs)
 
-    pub judge-passes : r ≡ 0 → gives (verdictOn (tableIn n m starts members) l w bs) ≡ judgeOn (tableIn n m starts members) l w bs
-    judge-passes h =
-        let a = gives (verdictOn (tableIn n m starts members) l w bs) in
-        turned-none r a h ∙ ap (λ k. turnedDown k a) e ∙ sym (judge-law l w bs)
+    pub judge-passes : r ≡ 0 → gives (verdictOn (tableOf n ss ms) l w bs) ≡ judgeOn (tableOf n ss ms) l w bs
+    judge-passes z =
+        let a = gives (verdictOn t l w bs) in
+        turned-none r a z ∙ ap (λ k. turnedDown k a) e ∙ sym (judge-law l w bs)
 
--- the rows are those of the table
-row-is : (n m : ℕ) (starts members : List ℕ) (i : Item) → i .check < m → rowIn starts members i ≡ rowAt (tableIn n m starts members) i
-row-is n m starts members i h = ap (λ ms. record { members = ms; multiplier = i .multiplier; set = setOf (length ms) (i .mask) }) (sym (parts-at starts members m (i .check) h))
+  -- the rows are those of the table
+  row-is : (i : Item) → i .check < length (checksFrom ss ms) → rowIn ss ms i ≡ rowAt (tableOf n ss ms) i
+  row-is i k = ap (λ l. record { members = l; multiplier = i .multiplier; set = setOf (length l) (i .mask) }) (part-is n ss ms h (i .check) k)
 
-rows-from : (n m : ℕ) (starts members bs : List ℕ) (q : ℕ) → ((k : ℕ) → k < q → itemAt bs q k .check < m) → (k c : ℕ) → k + c ≤ q
-    → rowsIn starts members (itemsAt bs q k c) ≡ rowsAt (tableIn n m starts members) (itemsAt bs q k c)
-unfolding itemsAt
-rows-from n m starts members bs q h k zero g = refl
-rows-from n m starts members bs q h k (suc c) g =
-    ap₂ _∷_ (row-is n m starts members (itemAt bs q k) (h k (first-in k c q g))) (rows-from n m starts members bs q h (k + 1) c (rest-in k c q g))
+  rows-from : (bs : List ℕ) (q : ℕ) → ((k : ℕ) → k < q → itemAt bs q k .check < length (checksFrom ss ms)) → (k c : ℕ) → k + c ≤ q
+      → rowsIn ss ms (itemsAt bs q k c) ≡ rowsAt (tableOf n ss ms) (itemsAt bs q k c)
+  unfolding itemsAt
+  rows-from bs q f k zero g = refl
+  rows-from bs q f k (suc c) g = ap₂ _∷_ (row-is (itemAt bs q k) (f k (first-in k c q g))) (rows-from bs q f (k + 1) c (rest-in k c q g))
+
+  pub gap-is : (l : List ℤ) (w bs : List ℕ) → length l ≡ n → Passed m bs
+      → gap (length l) (scaleOf bs) l (rowsIn ss ms (itemsOf bs)) (bitsOf w) ≡ gap n (scaleOf bs) l (rowsAt (tableOf n ss ms) (itemsOf bs)) (bitsOf w)
+  gap-is l w bs long p = ap₂ (λ k rs. gap k (scaleOf bs) l rs (bitsOf w)) long (rows-from bs (entriesOf bs) (listed bs p) 0 (entriesOf bs) (omega arith))
 
 zero-gap : (g : ℤ) → (ofZ w64 g ≡ 0 → ⊥) → isZero g ≡ false
 zero-gap (pos zero) f = absurd (f refl)
 zero-gap (pos (suc k)) f = refl
 zero-gap (negsuc k) f = refl
 
-module _ (n m : ℕ) (starts members : List ℕ) (l : List ℤ) (w bs : List ℕ) where
-  verdict-is : (o : Option ℕ) (g : ℤ) → o ≡ firstBroken 0 (bitsOf w) (partsFrom starts members 0 m) → g ≡ gap n (scaleOf bs) l (rowsAt (tableIn n m starts members) (itemsOf bs)) (bitsOf w)
-      → weigh o g ≡ verdictOn (tableIn n m starts members) l w bs
+-- ---- the verdict
+module _ (t : Table) (l : List ℤ) (w bs : List ℕ) where
+  verdict-is : (o : Option ℕ) (g : ℤ) → o ≡ firstBroken 0 (bitsOf w) (t .checks) → g ≡ gap (t .bits) (scaleOf bs) l (rowsAt t (itemsOf bs)) (bitsOf w) → weigh o g ≡ verdictOn t l w bs
   unfolding verdict
   verdict-is o g ho hg = ap₂ weigh ho hg
 
-  pub verdict-broken : (j : ℕ) → some j ≡ firstBroken 0 (bitsOf w) (partsFrom starts members 0 m) → gives (breaks j) ≡ gives (verdictOn (tableIn n m starts members) l w bs)
-  verdict-broken j e = ap gives (verdict-is (some j) (gap n (scaleOf bs) l (rowsAt (tableIn n m starts members) (itemsOf bs)) (bitsOf w)) e refl)
+  pub verdict-broken : (j : ℕ) → some j ≡ firstBroken 0 (bitsOf w) (t .checks) → gives (breaks j) ≡ gives (verdictOn t l w bs)
+  verdict-broken j e = ap gives (verdict-is (some j) (gap (t .bits) (scaleOf bs) l (rowsAt t (itemsOf bs)) (bitsOf w)) e refl)
 
-  module _ (long : length l ≡ n) (p : Passed m bs) (e : none ≡ firstBroken 0 (bitsOf w) (partsFrom starts members 0 m)) (g : ℤ)
-      (hg : g ≡ gap (length l) (scaleOf bs) l (rowsIn starts members (itemsOf bs)) (bitsOf w)) where
-    gap-is : g ≡ gap n (scaleOf bs) l (rowsAt (tableIn n m starts members) (itemsOf bs)) (bitsOf w)
-    gap-is = hg ∙ ap₂ (λ k rs. gap k (scaleOf bs) l rs (bitsOf w)) long (rows-from n m starts members bs (entriesOf bs) (λ k h. p .entry k h .check) 0 (entriesOf bs) (omega arith))
+  module _ (e : none ≡ firstBroken 0 (bitsOf w) (t .checks)) (g : ℤ) (hg : g ≡ gap (t .bits) (scaleOf bs) l (rowsAt t (itemsOf bs)) (bitsOf w)) where
+    pub verdict-certified : g ≡ pos 0 → gives passes ≡ gives (verdictOn t l w bs)
+    verdict-certified z = ap gives (ap (weigh none) (sym z) ∙ verdict-is none g e hg)
 
-    pub verdict-certified : g ≡ pos 0 → gives passes ≡ gives (verdictOn (tableIn n m starts members) l w bs)
-    verdict-certified z = ap gives (ap (weigh none) (sym z) ∙ verdict-is none g e gap-is)
-
-    pub verdict-gap : (ofZ w64 g ≡ 0 → ⊥) → gives (misses g) ≡ gives (verdictOn (tableIn n m starts members) l w bs)
-    verdict-gap f = ap gives (ap (λ b. cond b passes (misses g)) (sym (zero-gap g f)) ∙ verdict-is none g e gap-is)
+    pub verdict-gap : (ofZ w64 g ≡ 0 → ⊥) → gives (misses g) ≡ gives (verdictOn t l w bs)
+    verdict-gap f = ap gives (ap (λ b. cond b passes (misses g)) (sym (zero-gap g f)) ∙ verdict-is none g e hg)
 
 -- ---- the syndrome
-module _ (n m : ℕ) (starts members w : List ℕ) (r : ℕ) (e : r ≡ wordRefusal n w) where
-  syndrome-law : syndromeOn (tableIn n m starts members) w ≡ turnedDown r (gives (firstBroken 0 (bitsOf w) (partsFrom starts members 0 m)))
-  syndrome-law = word-law (tableIn n m starts members) w _ ∙ ap (λ k. turnedDown k (gives (firstBroken 0 (bitsOf w) (partsFrom starts members 0 m)))) (sym e)
+module _ (t : Table) (w : List ℕ) (r : ℕ) (e : r ≡ wordRefusal (t .bits) w) where
+  syndrome-law : syndromeOn t w ≡ turnedDown r (gives (firstBroken 0 (bitsOf w) (t .checks)))
+  syndrome-law = word-law t w _ ∙ ap (λ k. turnedDown k (gives (firstBroken 0 (bitsOf w) (t .checks)))) (sym e)
 
-  pub syndrome-turned : (r ≡ 0 → ⊥) → refused r ≡ syndromeOn (tableIn n m starts members) w
-  syndrome-turned h = turned-refused r (gives (firstBroken 0 (bitsOf w) (partsFrom starts members 0 m))) h ∙ sym syndrome-law
+  pub syndrome-turned : (r ≡ 0 → ⊥) → refused r ≡ syndromeOn t w
+  syndrome-turned h = turned-refused r (gives (firstBroken 0 (bitsOf w) (t .checks))) h ∙ sym syndrome-law
 
-  pub syndrome-found : (o : Option ℕ) → r ≡ 0 → o ≡ firstBroken 0 (bitsOf w) (partsFrom starts members 0 m) → gives o ≡ syndromeOn (tableIn n m starts members) w
-  syndrome-found o h p = ap gives p ∙ turned-none r (gives (firstBroken 0 (bitsOf w) (partsFrom starts members 0 m))) h ∙ sym syndrome-law
+  pub syndrome-found : (o : Option ℕ) → r ≡ 0 → o ≡ firstBroken 0 (bitsOf w) (t .checks) → gives o ≡ syndromeOn t w
+  syndrome-found o h p = ap gives p ∙ turned-none r (gives (firstBroken 0 (bitsOf w) (t .checks))) h ∙ sym syndrome-law
 
 -- ---- the agreement
 module _ (n : ℕ) (l : List ℤ) (w : List ℕ) (r : ℕ) (e : r ≡ frameRefusal n l) where
@@ -176,13 +184,13 @@ module _ (file : List ℕ) (k : ℕ) (e : codeFile file ≡ refused k) where
   agreement-none l w = then-refused (codeFile file) k _ e
 
 module _ (file : List ℕ) (t : Table) (e : codeFile file ≡ gives t) where
-  pub judge-table : (u : Table) (l : List ℤ) (w bs : List ℕ) → u ≡ t → judgeOn u l w bs ≡ judge file l w bs
+  pub judge-table : (l : List ℤ) (w bs : List ℕ) → judgeOn t l w bs ≡ judge file l w bs
   unfolding judge
-  judge-table u l w bs h = ap (λ x. judgeOn x l w bs) h ∙ sym (then-of (codeFile file) t (λ x. judgeOn x l w bs) e)
+  judge-table l w bs = sym (then-of (codeFile file) t (λ x. judgeOn x l w bs) e)
 
-  pub syndrome-table : (u : Table) (w : List ℕ) → u ≡ t → syndromeOn u w ≡ syndrome file w
+  pub syndrome-table : (w : List ℕ) → syndromeOn t w ≡ syndrome file w
   unfolding syndrome
-  syndrome-table u w h = ap (λ x. syndromeOn x w) h ∙ sym (then-of (codeFile file) t (λ x. syndromeOn x w) e)
+  syndrome-table w = sym (then-of (codeFile file) t (λ x. syndromeOn x w) e)
 
   pub agreement-table : (l : List ℤ) (w : List ℕ) → agreementOn (t .bits) l w ≡ agreementOf file l w
   unfolding agreementOf

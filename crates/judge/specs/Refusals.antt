@@ -12,7 +12,12 @@ use Rattle.rules.specs.Refusal.{certificateWrong, scaleRange, entryRange, maskW
 use Rattle.rules.specs.Mask.{maskRight}
 use Rattle.rules.specs.CodeFile.{inRange}
 use Rattle.rules.specs.Certificate.{Item, itemAt, follows, entriesOf, scaleOf, itemsOf}
+use Rattle.table.specs.Layout.{Start}
 use Rattle.inputs.specs.Refusals.{orElse}
+
+-- the first m checks have their starts
+abbrev pub Ordered : ℕ → List ℕ → Type 0
+Ordered m ss = (j : ℕ) → j < m → Start ss j
 
 -- as long as its q entries ask
 pub record Long (bs : List ℕ) (q : ℕ) : Type 0 where

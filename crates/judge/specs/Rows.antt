@@ -9,7 +9,7 @@ use Rattle.rules.specs.Input.{bitsOf}
 use Rattle.rules.specs.Bound.{Row, bound, gap}
 use Rattle.rules.specs.Scatter.{rowOf}
 use Rattle.rules.specs.Certificate.{Item, itemAt, itemsAt, entriesOf, scaleOf, itemsOf}
-use Rattle.table.specs.Held.{partAt, Part}
+use Rattle.table.specs.Layout.{partAt, Part}
 use Rattle.judge.specs.Refusals.{Long}
 
 -- ---- the rows

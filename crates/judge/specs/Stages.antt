@@ -1,5 +1,4 @@
 -- Rules' `judge`, `syndrome` and `agreementOf` from the table on: what the code's later stages answer. Definitions only. Assumes nothing.
-use mathlib.Core.Path.{_≡_}
 use mathlib.Core.List.{List}
 use mathlib.Core.Option.{Option}
 use Prim.Native.Nat.{ℕ}
@@ -10,8 +9,8 @@ use Rattle.rules.specs.Parity.{firstBroken, agreement}
 use Rattle.rules.specs.Input.{onFrame, onWord, bitsOf}
 use Rattle.rules.specs.Certificate.{onCertificate, scaleOf, itemsOf, rowsAt}
 use Rattle.rules.specs.Judge.{Verdict, verdict}
-use Rattle.inputs.specs.Refusals.{frameRefusal, wordRefusal, turnedDown}
-use Rattle.table.specs.Held.{degreeAt}
+use Rattle.inputs.specs.Refusals.{frameRefusal, wordRefusal, orElse, turnedDown}
+use Rattle.table.specs.Layout.{degreeAt}
 use Rattle.judge.specs.Refusals.{certificateRefusal}
 
 abbrev pub verdictOn : Table → List ℤ → List ℕ → List ℕ → Verdict
@@ -27,8 +26,6 @@ syndromeOn t w = onWord t w (gives (firstBroken 0 (bitsOf w) (t .checks)))
 abbrev pub agreementOn : ℕ → List ℤ → List ℕ → Answer ℤ
 agreementOn n l w = turnedDown (frameRefusal n l) (turnedDown (wordRefusal n w) (gives (agreement n l (bitsOf w))))
 
--- nothing that was handed in is turned down
-pub record Unrefused (n m : ℕ) (starts : List ℕ) (l : List ℤ) (w bs : List ℕ) : Type 0 where
-  pub frame : frameRefusal n l ≡ 0
-  pub word : wordRefusal n w ≡ 0
-  pub certificate : certificateRefusal m (degreeAt starts) bs ≡ 0
+-- "8, 9, 15, 10, 11, entry by entry 12, 13, 14", or 0: starts ss of m checks on n bits
+unfoldable pub judgeRefusal : ℕ → ℕ → List ℕ → List ℤ → List ℕ → List ℕ → ℕ
+judgeRefusal n m ss l w bs = orElse (frameRefusal n l) (orElse (wordRefusal n w) (certificateRefusal m (degreeAt ss) bs))

@@ -19,10 +19,10 @@ ghost use Rattle.integers.specs.Product.{abs};
 ghost use Rattle.integers.specs.Sum.{sumTo};
 ghost use Rattle.rules.specs.Limits.{maxBits, maxDegree, maxScale, maxMultiplier, frameSize, scaledLimit, sizeLimit, boundLimit};
 ghost use Rattle.rules.specs.Table.{at};
+ghost use Rattle.rules.specs.Sound.{Below};
 ghost use Rattle.rules.specs.Parity.{side};
 ghost use Rattle.rules.specs.Scatter.{scatterRow, rowOf, priceOf, EachWithin, Scaled, Put, AllPut};
 ghost use Rattle.rules.specs.Certificate.{itemAt, itemsAt};
-ghost use Rattle.rules.proofs.Duality.{Below};
 ghost use Rattle.judge.specs.Refusals.{Listed};
 ghost use Rattle.judge.specs.Rows.{rowIn, rowsIn, Placed, AllPlaced, boundIn, gapIn, Weighable};
 

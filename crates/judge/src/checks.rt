@@ -1,12 +1,13 @@
 // The parity checks of a word: the first broken one.
 use super::starts::start_at;
 ghost use mathlib.Core.Path.{_≡_};
+ghost use Prim.Native.Nat.{_+_};
 ghost use lib.ListN.{length};
 ghost use Rattle.rules.specs.Table.{bitsAt};
+ghost use Rattle.rules.specs.Sound.{Below};
 ghost use Rattle.rules.specs.Parity.{_⊕_, odd, firstBroken};
 ghost use Rattle.rules.specs.Input.{bitOfByte, bitsOf};
-ghost use Rattle.rules.proofs.Duality.{Below};
-ghost use Rattle.table.specs.Held.{Held, partsFrom};
+ghost use Rattle.table.specs.Layout.{checksFrom, Holds};
 ghost use Rattle.judge.specs.Reply.{foundIn};
 
 // A check's number, or none.
@@ -39,8 +40,8 @@ pub(crate) fn odd_check(word: &[u8], members: &[u16]) -> bool
 
 // "The first broken check."
 pub(crate) fn first_broken(starts: &[u16], members: &[u16], m: usize, word: &[u8]) -> Found
-    requires { ⌜ Held (length (now word)) m (now starts) (now members) ⌝ }
-    ensures { λ r. ⌜ foundIn r ≡ firstBroken 0 (bitsOf (now (word .entry))) (partsFrom (now (starts .entry)) (now (members .entry)) 0 m) ⌝ }
+    requires { ⌜ Holds (length (now word)) (now starts) (now members) × (length (now starts) ≡ m + 1) ⌝ }
+    ensures { λ r. ⌜ foundIn r ≡ firstBroken 0 (bitsOf (now (word .entry))) (checksFrom (now (starts .entry)) (now (members .entry))) ⌝ }
 {
     let mut j: usize = 0;
     while j < m {

@@ -17,8 +17,8 @@ ghost use Rattle.rules.specs.Limits.{maxDegree};
 ghost use Rattle.rules.specs.Bytes.{u16Limit};
 ghost use Rattle.rules.specs.Mask.{maskRight};
 ghost use Rattle.rules.specs.Certificate.{itemAt, itemsAt, follows};
-ghost use Rattle.table.specs.Held.{Ordered, degreeAt};
-ghost use Rattle.judge.specs.Refusals.{Long, Listed, beforeAt, itemRefusal, itemsRefusal, certificateRefusal};
+ghost use Rattle.table.specs.Layout.{degreeAt};
+ghost use Rattle.judge.specs.Refusals.{Ordered, Long, Listed, beforeAt, itemRefusal, itemsRefusal, certificateRefusal};
 
 // Entry k's check number.
 pub(crate) fn check_at(bytes: &[u8], q: usize, k: usize) -> usize

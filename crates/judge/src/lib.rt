@@ -53,8 +53,19 @@ pub fn judge(code: &[u8], frame: &[i16], word: &[u8], certificate: &[u8]) -> Ver
         Checked::Accepted {
             bits,
             checks,
-            edges: _,
-        } => judge_table(&starts, &members, bits, checks, frame, word, certificate),
+            edges,
+        } => {
+            let end = checks + 1;
+            judge_table(
+                &starts[..end],
+                &members[..edges],
+                bits,
+                checks,
+                frame,
+                word,
+                certificate,
+            )
+        }
     }
 }
 
@@ -70,8 +81,11 @@ pub fn syndrome(code: &[u8], word: &[u8]) -> Parity
         Checked::Accepted {
             bits,
             checks,
-            edges: _,
-        } => syndrome_table(&starts, &members, bits, checks, word),
+            edges,
+        } => {
+            let end = checks + 1;
+            syndrome_table(&starts[..end], &members[..edges], bits, checks, word)
+        }
     }
 }
 

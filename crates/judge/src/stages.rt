@@ -9,14 +9,14 @@ use super::checks::first_broken;
 use super::entries::certificate_refusal;
 use super::sums::agreement_sum;
 ghost use mathlib.Core.Path.{_≡_};
-ghost use Prim.Native.Nat.{_≤_};
+ghost use Prim.Native.Nat.{_+_, _≤_};
+ghost use lib.ListN.{length};
 ghost use Rattle.rules.specs.Limits.{maxBits};
 ghost use Rattle.rules.specs.Refusal.{gives};
-ghost use Rattle.inputs.specs.Refusals.{frameRefusal, wordRefusal, orElse};
-ghost use Rattle.table.specs.Held.{Held, Ordered, degreeAt, tableIn};
-ghost use Rattle.judge.specs.Refusals.{certificateRefusal};
+ghost use Rattle.table.specs.Layout.{tableOf, Holds};
+ghost use Rattle.judge.specs.Refusals.{Ordered};
 ghost use Rattle.judge.specs.Reply.{verdictOf, parityOf, agreedOf};
-ghost use Rattle.judge.specs.Stages.{verdictOn, judgeOn, syndromeOn, agreementOn, Unrefused};
+ghost use Rattle.judge.specs.Stages.{verdictOn, judgeOn, syndromeOn, agreementOn, judgeRefusal};
 
 // "8, 9, 15, 10, 11, entry by entry 12, 13, 14", or 0.
 pub(crate) fn refusal_of(
@@ -28,7 +28,7 @@ pub(crate) fn refusal_of(
     certificate: &[u8],
 ) -> u8
     requires { ⌜ Ordered m (now starts) ⌝ }
-    ensures { λ r. ⌜ r ≡ orElse (frameRefusal n (now (frame .entry))) (orElse (wordRefusal n (now (word .entry))) (certificateRefusal m (degreeAt (now (starts .entry))) (now (certificate .entry)))) ⌝ }
+    ensures { λ r. ⌜ r ≡ judgeRefusal n m (now (starts .entry)) (now (frame .entry)) (now (word .entry)) (now (certificate .entry)) ⌝ }
 {
     let first = inputs::frame(frame, n);
     if first != 0 {
@@ -51,8 +51,8 @@ pub(crate) fn verdict_of(
     word: &[u8],
     certificate: &[u8],
 ) -> Verdict
-    requires { ⌜ Held n m (now starts) (now members) × (n ≤ maxBits) × Unrefused n m (now starts) (now frame) (now word) (now certificate) ⌝ }
-    ensures { λ r. ⌜ verdictOf r ≡ gives (verdictOn (tableIn n m (now (starts .entry)) (now (members .entry))) (now (frame .entry)) (now (word .entry)) (now (certificate .entry))) ⌝ }
+    requires { ⌜ Holds n (now starts) (now members) × (length (now starts) ≡ m + 1) × (judgeRefusal n m (now starts) (now frame) (now word) (now certificate) ≡ 0) ⌝ }
+    ensures { λ r. ⌜ verdictOf r ≡ gives (verdictOn (tableOf n (now (starts .entry)) (now (members .entry))) (now (frame .entry)) (now (word .entry)) (now (certificate .entry))) ⌝ }
 {
     let found = first_broken(starts, members, m, word);
     match found {
@@ -76,8 +76,8 @@ pub(crate) fn judge_table(
     word: &[u8],
     certificate: &[u8],
 ) -> Verdict
-    requires { ⌜ Held n m (now starts) (now members) × (n ≤ maxBits) ⌝ }
-    ensures { λ r. ⌜ verdictOf r ≡ judgeOn (tableIn n m (now (starts .entry)) (now (members .entry))) (now (frame .entry)) (now (word .entry)) (now (certificate .entry)) ⌝ }
+    requires { ⌜ Holds n (now starts) (now members) × (length (now starts) ≡ m + 1) ⌝ }
+    ensures { λ r. ⌜ verdictOf r ≡ judgeOn (tableOf n (now (starts .entry)) (now (members .entry))) (now (frame .entry)) (now (word .entry)) (now (certificate .entry)) ⌝ }
 {
     let refusal = refusal_of(starts, n, m, frame, word, certificate);
     if refusal != 0 {
@@ -93,8 +93,8 @@ pub(crate) fn syndrome_table(
     m: usize,
     word: &[u8],
 ) -> Parity
-    requires { ⌜ Held n m (now starts) (now members) ⌝ }
-    ensures { λ r. ⌜ parityOf r ≡ syndromeOn (tableIn n m (now (starts .entry)) (now (members .entry))) (now (word .entry)) ⌝ }
+    requires { ⌜ Holds n (now starts) (now members) × (length (now starts) ≡ m + 1) ⌝ }
+    ensures { λ r. ⌜ parityOf r ≡ syndromeOn (tableOf n (now (starts .entry)) (now (members .entry))) (now (word .entry)) ⌝ }
 {
     let refusal = inputs::word(word, n);
     if refusal != 0 {

@@ -3,7 +3,7 @@ ghost use mathlib.Core.Path.{_≡_};
 ghost use Prim.Native.Nat.{_+_, _≤_, _<_};
 ghost use lib.ListN.{length, getD};
 ghost use Rattle.rules.specs.Bytes.{u16Limit};
-ghost use Rattle.table.specs.Held.{degreeAt};
+ghost use Rattle.table.specs.Layout.{degreeAt};
 
 pub(crate) fn start_at(starts: &[u16], j: usize) -> usize
     requires { ⌜ j < length (now starts) ⌝ }

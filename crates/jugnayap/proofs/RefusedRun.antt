@@ -12,9 +12,8 @@ use Rattle.rules.specs.Table.{Table}
 use Rattle.rules.specs.CodeFile.{codeFile}
 use Rattle.rules.specs.Input.{eachWithin, onFrame}
 use Rattle.rules.specs.Buffers.{Buffers, Lengths, lengthsOf, needs, fits}
-use Rattle.rules.specs.Run.{Run, iterate, stateIn, isRunning, sound, admits, perform, callOn, callBy, call}
+use Rattle.rules.specs.Run.{Run, iterate, stateIn, isRunning, sound, admits, perform, callOn, callBy, call, Safe}
 use Rattle.rules.proofs.AnswerLaws.{refused≢gives, must-gives}
-use Rattle.rules.proofs.Runs.{Safe}
 use Rattle.rules.proofs.Counted.{all-counted}
 use Rattle.run.proofs.AdmitLaws.{sound-safe}
 use Rattle.decoder.proofs.CallLaws.{answers}

@@ -11,13 +11,14 @@ use Rattle.rules.specs.Refusal.{Answer, refused, gives, must, then, bufferShort
 use Rattle.rules.specs.Bytes.{u16At}
 use Rattle.rules.specs.Table.{Table}
 use Rattle.rules.specs.CodeFile.{codeFile}
+use Rattle.rules.specs.Sound.{Sound}
 use Rattle.rules.specs.Judge.{passes, agreementOf}
 use Rattle.rules.specs.Buffers.{word, certificate, Buffers, lent, lengthsOf, needs, Part, blank, write, startLent, fitsStart, zeroing}
 use Rattle.rules.specs.Run.{Status, running, certified, spent, Progress, fresh, Called, callBy, call, startBy, start}
 use Rattle.rules.specs.Calls.{startedRun}
 use Rattle.rules.specs.Report.{refusedLine, certifiedLine, lineAt, frameLine}
 use Rattle.rules.proofs.AnswerLaws.{refused≢gives, gives-inj}
-use Rattle.rules.proofs.Tables.{Sound, file-sound}
+use Rattle.rules.proofs.Tables.{file-sound}
 use Rattle.rules.proofs.BufferLaws.{by-name}
 use Rattle.rules.proofs.CallPasses.{call-passes}
 use Rattle.rules.proofs.Fresh.{zero-room, started-on}

@@ -15,10 +15,10 @@ use Rattle.rules.specs.Refusal.{Answer, refused, gives, must, multiplier
 use Rattle.rules.specs.Table.{Table}
 use Rattle.rules.specs.Input.{onFrame}
 use Rattle.rules.specs.Buffers.{Buffers, Lengths}
-use Rattle.rules.specs.Run.{Status, running, certified, spent, Run, next, iterate, admits, answerAt, perform, callOn}
+use Rattle.rules.specs.Run.{Status, running, certified, spent, Run, next, iterate, admits, answerAt, perform, callOn, Safe}
 use Rattle.rules.specs.Calls.{Call, startedRun, wantedBy, wantedIn, runAfter, countedBy, countedIn}
 use Rattle.rules.specs.Demand3.{FreshStart, RoundsDone}
-use Rattle.rules.proofs.Runs.{ended-stays, iterate-stays, iterate-plus, running≢certified, spent≢running, Safe, iterate-safe, safe-moves}
+use Rattle.rules.proofs.Runs.{ended-stays, iterate-stays, iterate-plus, running≢certified, spent≢running, iterate-safe, safe-moves}
 use Rattle.rules.proofs.Lends.{callsOn}
 use Rattle.rules.proofs.Lists.{count-next, Reach, reach, takes, callFor, admitsFor, after, taken, list-after}
 use Rattle.rules.proofs.Fresh.{started-safe}

@@ -6,7 +6,7 @@ use mathlib.Core.Logic.{_⊎_, inl, inr}
 use mathlib.Core.List.{List, [], _∷_}
 use Prim.Native.Nat.{ℕ, zero, suc, _*_, _≤_, _<_}
 use native.Mathlib.Omega.{arith}
-use native.Mathlib.Nat.{le-of-suc-le-suc, not-suc-le-zero}
+use native.Mathlib.Nat.{le-of-suc-le-suc, not-suc-le-zero, le-trans}
 use lib.Dec.{eqb}
 use borrow.Author.Tests.{eqb-true}
 use lib.ListN.{length, getD}
@@ -17,20 +17,20 @@ use Rattle.integers.specs.Order.{le-or-lt, sub-zero}
 use Rattle.integers.specs.Product.{ring, abs, mul-mono, *ℤ-+ℤ, *ℤ-left-comm}
 use Rattle.integers.specs.Sum.{AllWithin, sumTo, sumTo-add, sumTo-zero, sumTo-times, sumTo-abs, pick, pick-one}
 use Rattle.rules.specs.Table.{at, bit, bitsAt, valuesAt}
+use Rattle.rules.specs.Sound.{Below}
 use Rattle.rules.specs.Parity.{turn, side, Alike, left, Keeps, agreement}
 use Rattle.rules.specs.Bound.{Row, gather, weights, pull, price, reduced, bound, gap}
 use Rattle.rules.proofs.CutRule.{sum-unlike}
 use Rattle.rules.proofs.RoundTurns.{Even}
 
--- all members are bits of the table
-abbrev pub Below : ℕ → List ℕ → Type 0
-Below n [] = Unit {0}
-Below n (m ∷ ms) = (m < n) × Below n ms
-
 pub below-at : (n : ℕ) (ms : List ℕ) (k : ℕ) → k < length ms → Below n ms → getD ms k 0 < n
 below-at n [] k h b = absurd (not-suc-le-zero h)
 below-at n (m ∷ ms) zero h b = b .0
 below-at n (m ∷ ms) (suc k) h b = below-at n ms k (le-of-suc-le-suc h) (b .1)
+
+pub below-more : (n k : ℕ) (ms : List ℕ) → n ≤ k → Below n ms → Below k ms
+below-more n k [] h b = tt
+below-more n k (m ∷ ms) h b = (le-trans (b .0) h, below-more n k ms h (b .1))
 
 -- the row's members are bits, its set is as long, and the point keeps its inequality
 pub record Kept (n d : ℕ) (P : ℕ → ℤ) (r : Row) : Type 0 where

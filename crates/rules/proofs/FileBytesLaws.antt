@@ -4,7 +4,7 @@ use mathlib.Core.Bool.{Bool, true, _&&_}
 use mathlib.Core.List.{List, [], _∷_, _++_, append-nil}
 use Prim.Native.Nat.{ℕ, zero, suc, _+_, _*_, _≤_, _<_}
 use native.Mathlib.Omega.{arith}
-use native.Mathlib.Nat.{add-zero, zero-add, le-trans}
+use native.Mathlib.Nat.{add-zero, zero-add}
 use lib.Dec.{leb, ltb, eqb}
 use lib.ListN.{length, drop, length-append}
 use lib.Seq.{drop-drop}
@@ -15,11 +15,10 @@ use Rattle.rules.specs.Bytes.{u16Limit, u16At}
 use Rattle.rules.specs.Table.{Table, edges, edgesOf, checksOf, degreeOf}
 use Rattle.rules.specs.CodeFile.{Content, inRange, contentAt, contents, countsRight, startsRight, totalCount, numbersAt, bodies, ascends, membersRight, bitsRight, tableAt, fileOf, codeFile}
 use Rattle.rules.specs.FileBytes.{bytes16, contentNumbers, counts, fileBytes}
+use Rattle.rules.specs.Sound.{Below, AllBelow, Ascending, AllAscending, Degrees, Sound}
 use Rattle.rules.proofs.AnswerLaws.{must-true}
 use Rattle.rules.proofs.ByteLaws.{back16, reads16}
-use Rattle.rules.proofs.Duality.{Below}
-use Rattle.rules.proofs.Optimal.{AllBelow}
-use Rattle.rules.proofs.Tables.{Ascending, AllAscending, Degrees, Sound}
+use Rattle.rules.proofs.Duality.{below-more}
 
 -- ---- how long it is
 pub twice : (n : ℕ) → suc (suc (2 * n)) ≡ 2 * suc n
@@ -165,13 +164,9 @@ bits-pass f i (suc k) h = ap₂ _&&_ (range-pass 1 maxBitDegree (f i) (h i (firs
     inside : (i k j : ℕ) → j < i + 1 + k → j < i + suc k
     inside i k j h = omega arith
 
-wider : (n : ℕ) (ms : List ℕ) → n ≤ u16Limit → Below n ms → Below u16Limit ms
-wider n [] h k = tt
-wider n (x ∷ xs) h k = (le-trans (k .0) h, wider n xs h (k .1))
-
 all-wider : (n : ℕ) (cs : List (List ℕ)) → n ≤ u16Limit → AllBelow n cs → AllBelow u16Limit cs
 all-wider n [] h k = tt
-all-wider n (ms ∷ cs) h k = (wider n ms h (k .0), all-wider n cs h (k .1))
+all-wider n (ms ∷ cs) h k = (below-more n u16Limit ms h (k .0), all-wider n cs h (k .1))
 
 -- ---- so the file is accepted, and is the table
 module _ (t : Table) (sound : Sound t) where

@@ -14,10 +14,10 @@ use Rattle.rules.specs.Bytes.{u16Of, u16At, le16}
 use Rattle.rules.specs.Table.{Table, edges}
 use Rattle.rules.specs.CodeFile.{contents, startsRight, totalCount, numbersAt, bodies, tableAt, codeFile}
 use Rattle.rules.specs.FileBytes.{bytes16, contentNumbers, counts, fileBytes}
+use Rattle.rules.specs.Sound.{Below}
 use Rattle.rules.proofs.Basics.{and-both}
 use Rattle.rules.proofs.ByteLaws.{reads16}
 use Rattle.rules.proofs.FileLaws.{numbers-length, numbers-append, bodies-length, edges-bodies}
-use Rattle.rules.proofs.Duality.{Below}
 use Rattle.rules.proofs.Tables.{passed}
 use Rattle.rules.proofs.FileBytesLaws.{twice, counts-length}
 

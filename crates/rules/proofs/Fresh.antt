@@ -18,7 +18,7 @@ use Rattle.rules.specs.Table.{Table, edgesOf}
 use Rattle.rules.specs.Parity.{turns}
 use Rattle.rules.specs.CodeFile.{codeFile}
 use Rattle.rules.specs.Buffers.{Buffer, nought, Buffers, the, Lengths, lengthsOf, needs, partOf, over, overAll, write, zeroed, zeros, fitsStart, zeroing}
-use Rattle.rules.specs.Run.{stateIn, startBy, start, fresh}
+use Rattle.rules.specs.Run.{stateIn, startBy, start, fresh, Safe}
 use Rattle.rules.specs.Calls.{Call, startOn, startedRun}
 use Rattle.rules.specs.Demand3.{FreshStart, AllLent}
 use Rattle.rules.proofs.Basics.{none≢some, some-inj}
@@ -26,7 +26,7 @@ use Rattle.rules.proofs.Signs.{turn-zero}
 use Rattle.rules.proofs.AnswerLaws.{refused≢gives, must-true, then-of}
 use Rattle.rules.proofs.BufferLaws.{take-over, the-each, every-true, true-every, part-refl, fits-part, past-lengths, Small, write-past, write-lent}
 use Rattle.rules.proofs.RoundTurns.{signs, turnState}
-use Rattle.rules.proofs.Runs.{Safe, running≢certified}
+use Rattle.rules.proofs.Runs.{running≢certified}
 use Rattle.rules.proofs.Lends.{AllPart}
 use Rattle.rules.proofs.Twins.{Twin}
 

@@ -21,6 +21,7 @@ use Rattle.rules.specs.Table.{Table, checksOf, bitsAt, valuesAt}
 use Rattle.rules.specs.Parity.{odd, Alike, left, Keeps, firstBroken, meets, agreement}
 use Rattle.rules.specs.Mask.{setOf, maskRight}
 use Rattle.rules.specs.CodeFile.{inRange, codeFile}
+use Rattle.rules.specs.Sound.{Below, AllBelow}
 use Rattle.rules.specs.Input.{eachWithin, onFrame, eachBit, onWord, bitsOf}
 use Rattle.rules.specs.Bound.{Row, bound, gap}
 use Rattle.rules.specs.Round.{isZero}
@@ -32,8 +33,8 @@ use Rattle.rules.proofs.Signs.{length-alike}
 use Rattle.rules.proofs.Masks.{mask-odd, set-length}
 use Rattle.rules.proofs.AnswerLaws.{must-gives, then-gives, Followed, gives-inj, range-both}
 use Rattle.rules.proofs.Tables.{file-sound}
-use Rattle.rules.proofs.Duality.{Below, Kept, AllKept}
-use Rattle.rules.proofs.Optimal.{AllBelow, Implied, gap-nonneg, gap-optimal, isZero-is}
+use Rattle.rules.proofs.Duality.{Kept, AllKept}
+use Rattle.rules.proofs.Optimal.{Implied, gap-nonneg, gap-optimal, isZero-is}
 
 -- ---- the verdict
 pub none-broken : (j : ℕ) (w : List Bool) (cs : List (List ℕ)) → firstBroken j w cs ≡ none → meets w cs ≡ true

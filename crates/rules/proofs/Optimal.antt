@@ -14,6 +14,7 @@ use Rattle.integers.specs.Product.{ring}
 use Rattle.integers.specs.Sum.{AllWithin, sumTo}
 use Rattle.rules.specs.Limits.{unit}
 use Rattle.rules.specs.Table.{Table, at}
+use Rattle.rules.specs.Sound.{AllBelow}
 use Rattle.rules.specs.Parity.{Keeps, Point, pointAgreement, meets, Codeword, agreement}
 use Rattle.rules.specs.Cut.{keep}
 use Rattle.rules.specs.Step.{Entry, inactive, active}
@@ -23,12 +24,7 @@ use Rattle.rules.specs.Round.{State, entriesIn, candidate, isZero, certi
 use Rattle.rules.proofs.Basics.{and-both, none≢some, some-inj}
 use Rattle.rules.proofs.Pass.{spinsIn, stepsIn, steps-laid, Good, rows-good}
 use Rattle.rules.proofs.RoundTurns.{meets-even}
-use Rattle.rules.proofs.Duality.{Below, AllKept, weak-duality, optimal, spinsOf, spins-within, codeword-keeps, agreement-is}
-
--- all members are bits of the table
-abbrev pub AllBelow : ℕ → List (List ℕ) → Type 0
-AllBelow n [] = Unit {0}
-AllBelow n (ms ∷ cs) = Below n ms × AllBelow n cs
+use Rattle.rules.proofs.Duality.{AllKept, weak-duality, optimal, spinsOf, spins-within, codeword-keeps, agreement-is}
 
 -- a point that keeps the table's inequalities keeps those of the rows
 abbrev pub Implied : Table → List Row → Type 0

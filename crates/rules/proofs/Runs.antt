@@ -21,7 +21,7 @@ use Rattle.rules.specs.Input.{eachWithin}
 use Rattle.rules.specs.Step.{Entry}
 use Rattle.rules.specs.Round.{State, spin, offsetsIn, entriesIn, Round, round}
 use Rattle.rules.specs.Buffers.{Buffers, lengthsOf, needs, multiplierOf, Part, overBy, wordLeft, certificateLeft}
-use Rattle.rules.specs.Run.{Status, running, certified, spent, Run, statusAt, moved, tooLarge, nextBy, stateIn, next, iterate, sound, written}
+use Rattle.rules.specs.Run.{Status, running, certified, spent, Run, statusAt, moved, tooLarge, nextBy, stateIn, next, iterate, sound, Safe, written}
 use Rattle.rules.proofs.Pass.{spinsIn, stepsIn, steps-laid, copies-within, offsets-within, AtMost, multipliers-within}
 use Rattle.rules.proofs.RoundSizes.{round-sized, state-written, written-past}
 use Rattle.rules.proofs.BufferLaws.{AllPast, all-past-refl, all-past-trans, past-lengths}
@@ -108,11 +108,6 @@ pub iterate-held : (t : Table) (l : List ℤ) (k : ℕ) (b : Buffers) (r : Run) 
 iterate-held t l k b r h = iterate-keeps t l (Held t b) (λ q m. held-moved t l b q) k r h
 
 -- ---- 43's limits hold before every round of a run that they held of at first
-pub record Safe (t : Table) (r : Run) : Type 0 where
-  pub copies : AllWithin unit (stateIn t (r .buffers) .copies)
-  pub offsets : AllWithin (offsetPerRound * r .progress .rounds) (stateIn t (r .buffers) .offsets)
-  pub early : r .progress .status ≡ running → r .progress .rounds < roundLimit
-
 pub spin-within : (u : ℕ) (es : List ℕ) (l : List ℤ) (s : State) (i : ℕ) → Within u (spin u es l s i)
 unfolding spin
 spin-within u es l s i = clip-within u _

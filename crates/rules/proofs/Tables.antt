@@ -12,39 +12,17 @@ use Rattle.integers.specs.Count.{none-left, after-first, before-end}
 use Rattle.rules.specs.Limits.{maxBits, maxChecks, minDegree, maxDegree, maxEdges, maxBitDegree, contentsEnd, fileLength}
 use Rattle.rules.specs.Refusal.{gives, headerShort, sizeRange, countRange, startWrong, lengthWrong, memberWrong, bitDegree}
 use Rattle.rules.specs.Bytes.{u16At}
-use Rattle.rules.specs.Table.{Table, edges, edgesOf, checksOf, degreeOf}
+use Rattle.rules.specs.Table.{Table, edges, degreeOf}
 use Rattle.rules.specs.CodeFile.{Content, inRange, contents, countsRight, startsRight, totalCount, numbersAt, bodies, ascends, membersRight, bitsRight, tableAt, fileOf, codeFile}
+use Rattle.rules.specs.Sound.{Below, AllBelow, Ascending, AllAscending, Degrees, Sound}
 use Rattle.rules.proofs.Basics.{and-both}
 use Rattle.rules.proofs.AnswerLaws.{gives-inj, must-gives, range-both}
 use Rattle.rules.proofs.FileLaws.{numbers-length, bodies-length, edges-length}
-use Rattle.rules.proofs.Duality.{Below}
-use Rattle.rules.proofs.Optimal.{AllBelow}
-
-abbrev pub Ascending : ℕ → List ℕ → Type 0
-Ascending least [] = Unit {0}
-Ascending least (x ∷ xs) = (least ≤ x) × Ascending (x + 1) xs
-
-abbrev pub AllAscending : List (List ℕ) → Type 0
-AllAscending [] = Unit {0}
-AllAscending (ms ∷ cs) = Ascending 0 ms × AllAscending cs
-
-abbrev pub Degrees : List (List ℕ) → Type 0
-Degrees [] = Unit {0}
-Degrees (ms ∷ cs) = ((minDegree ≤ length ms) × (length ms ≤ maxDegree)) × Degrees cs
 
 pub degree-at : (cs : List (List ℕ)) (j : ℕ) → j < length cs → Degrees cs → (minDegree ≤ length (getD cs j [])) × (length (getD cs j []) ≤ maxDegree)
 degree-at [] j h d = absurd (not-suc-le-zero h)
 degree-at (ms ∷ cs) zero h d = d .0
 degree-at (ms ∷ cs) (suc j) h d = degree-at cs j (le-of-suc-le-suc h) (d .1)
-
-pub record Sound (t : Table) : Type 0 where
-  pub bits : (1 ≤ t .bits) × (t .bits ≤ maxBits)
-  pub checks : (1 ≤ checksOf t) × (checksOf t ≤ maxChecks)
-  pub below : AllBelow (t .bits) (t .checks)
-  pub ascending : AllAscending (t .checks)
-  pub degrees : Degrees (t .checks)
-  pub few : edgesOf t ≤ maxEdges
-  pub standing : (i : ℕ) → i < t .bits → (1 ≤ degreeOf i (edges (t .checks))) × (degreeOf i (edges (t .checks)) ≤ maxBitDegree)
 
 -- ---- every test of an accepted file
 pub record Passed (file : List ℕ) (n m : ℕ) : Type 0 where

@@ -20,6 +20,7 @@ use Rattle.rules.specs.Table.{Table, checksOf}
 use Rattle.rules.specs.Parity.{odd, Alike}
 use Rattle.rules.specs.Mask.{digit, maskOf, setOf, maskRight}
 use Rattle.rules.specs.CodeFile.{inRange, codeFile}
+use Rattle.rules.specs.Sound.{Degrees, Sound}
 use Rattle.rules.specs.Input.{eachWithin, onFrame, eachBit, onWord, bitsOf}
 use Rattle.rules.specs.Step.{Entry, inactive, active}
 use Rattle.rules.specs.Bound.{Row, rowsOf}
@@ -31,7 +32,7 @@ use Rattle.rules.proofs.Basics.{or-false}
 use Rattle.rules.proofs.Signs.{alike-length}
 use Rattle.rules.proofs.Masks.{digit-back, set-mask, mask-below, set-right}
 use Rattle.rules.proofs.AnswerLaws.{must-true, then-of}
-use Rattle.rules.proofs.Tables.{Degrees, Sound, file-sound}
+use Rattle.rules.proofs.Tables.{file-sound}
 use Rattle.rules.proofs.Steps.{Proper}
 use Rattle.rules.proofs.Optimal.{Passed}
 use Rattle.rules.proofs.Written.{cuts-few, certificate-length, entries-written, scale-written, listed, Narrow, items-written}

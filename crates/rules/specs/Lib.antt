@@ -4,6 +4,7 @@ pub mod Bytes
 pub mod Table
 pub mod CodeFile
 pub mod FileBytes
+pub mod Sound
 pub mod Parity
 pub mod Mask
 pub mod Input

@@ -1,12 +1,14 @@
 -- A run: its record, its start, a call for rounds, and what each buffer holds afterwards (document 01, "One round" and "Turned down because of how
 -- the run stands"). Definitions only. Assumes nothing.
+use mathlib.Core.Path.{_≡_}
 use mathlib.Core.Bool.{Bool, true, false, cond, _&&_, _||_}
 use mathlib.Core.List.{List, [], _∷_}
 use mathlib.Core.Option.{Option, some, none}
-use Prim.Native.Nat.{ℕ, zero, suc, _+_, _*_}
+use Prim.Native.Nat.{ℕ, zero, suc, _+_, _*_, _<_}
 use lib.Dec.{leb, ltb, eqb}
 use lib.ListN.{take}
 use lib.IntN.{ℤ, pos}
+use Rattle.integers.specs.Sum.{AllWithin}
 use Rattle.rules.specs.Limits.{unit, roundLimit, offsetPerRound, maxMultiplier}
 use Rattle.rules.specs.Refusal.{Answer, refused, gives, must, then, Reply, replyOf, askedTooMuch, bufferShort, runEnded, runDamaged, multiplierLarge}
 use Rattle.rules.specs.Table.{Table, edgesOf}
@@ -82,6 +84,12 @@ isRunning spent = false
 -- "43 rounds done above 1,024, or 1,024 in a running run, a copy outside −U..U, or an offset beyond 8,192 × rounds done"
 unfoldable pub sound : ℕ → State → Bool
 sound k s = (ltb k roundLimit && eachWithin unit (s .copies)) && eachWithin (offsetPerRound * k) (s .offsets)
+
+-- 43's limits as facts of a run that may have ended
+pub record Safe (t : Table) (r : Run) : Type 0 where
+  pub copies : AllWithin unit (stateIn t (r .buffers) .copies)
+  pub offsets : AllWithin (offsetPerRound * r .progress .rounds) (stateIn t (r .buffers) .offsets)
+  pub early : r .progress .status ≡ running → r .progress .rounds < roundLimit
 
 -- what a call with these parts lent must meet
 unfoldable pub admits : Table → List ℤ → ℕ → Lengths → Run → Answer (Unit {0})

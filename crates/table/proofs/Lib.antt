@@ -7,6 +7,6 @@ pub mod FillLaws
 pub mod StageLaws
 pub mod AcceptedLaws
 pub mod LoadedLaws
-pub mod HeldLaws
+pub mod LayoutLaws
 pub mod ViewLaws
 pub mod AnnouncedLaws

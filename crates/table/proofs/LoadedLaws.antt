@@ -57,7 +57,7 @@ module _ (file s ms : List ℕ) (hs : maxChecks < length s) (hm : maxEdges ≤ l
 
 -- ---- the same in the code's numbers
 module _ (file : List ℕ) (n m e : ℕ) (r : Readable file n m e) where
-  checks-are : checksOf (tableAt file n m) ≡ m
+  pub checks-are : checksOf (tableAt file n m) ≡ m
   checks-are = bodies-length file (contentsEnd m) m
 
   pub edges-are : edgesOf (tableAt file n m) ≡ e

@@ -1,6 +1,6 @@
 pub mod Reply
 pub mod Starts
-pub mod Held
+pub mod Layout
 pub mod Stages
 pub mod Loaded
 pub mod Examples

@@ -1,8 +1,11 @@
 -- `search_table` meets its contract: each return has the refusal or the mask. Assumes nothing.
-use mathlib.Core.Path.{_≡_, sym, _∙_, subst}
-use Prim.Native.Nat.{_<_}
-use Rattle.table.specs.Held.{Part}
-use Rattle.inputs.specs.Refusals.{pointRefusal}
+use mathlib.Core.Path.{_≡_, sym, _∙_, ap, subst}
+use Prim.Native.Nat.{ℕ}
+use native.Mathlib.Omega.{arith}
+use lib.ListN.{length}
+use Rattle.table.specs.Layout.{checksFrom, Holds}
+use Rattle.table.proofs.LayoutLaws.{starts-long}
+use Rattle.cut.specs.Search.{searchRefusal}
 use Rattle.cut.proofs.ReplyLaws.{point-right, none-refused, search-turned, search-mask}
 use Rattle.cut.proofs.search_table.Statement.{statement}
 use Rattle.cut.proofs.search_table.Tie as tie
@@ -10,17 +13,23 @@ use Rattle.cut.proofs.search_table.Tie as tie
 refusal-requires : tie.Need-refusal-requires
 refusal-requires c κs = tt
 
-returns : tie.Need-returns
-returns c = search-turned _ _ _ _ _ _ _ (c .before .refusal .ensures) (c .if1 .taken)
+-- the table has as many checks as it was said to have
+checks-are : (start : tie.Start) → start .args .checks ≡ length (checksFrom (start .args .starts .now) (start .args .members .now))
+checks-are start = omega (arith, start .pre .1, starts-long _ _ _ (start .pre .0))
 
--- past the refusals
-passed : (c : tie.Else1) → (pointRefusal (c .before .before .before .before .args .bits) (c .before .before .before .before .args .spins .now) ≡ 0) × (c .before .before .before .before .args .check < c .before .before .before .before .args .checks)
-passed c = none-refused _ _ _ _ (sym (c .before .refusal .ensures) ∙ c .if1 .left)
+-- the refusal that was found is the table's
+refusal-is : (start : tie.Start) (r : ℕ) → r ≡ searchRefusal (start .args .bits) (start .args .checks) (start .args .spins .now) (start .args .check)
+    → r ≡ searchRefusal (start .args .bits) (length (checksFrom (start .args .starts .now) (start .args .members .now))) (start .args .spins .now) (start .args .check)
+refusal-is start r e = e ∙ ap (λ m. searchRefusal (start .args .bits) m (start .args .spins .now) (start .args .check)) (checks-are start)
+
+returns : tie.Need-returns
+returns c = search-turned _ _ _ _ (refusal-is (c .before .before .before .before) _ (c .before .refusal .ensures)) (c .if1 .taken)
 
 check-cut-requires : tie.Need-check-cut-requires
 check-cut-requires c κs =
     let start = c .before .before .before .before in
-    subst (λ n. Part n (start .args .starts .now) (start .args .members .now) (start .args .check)) (sym (point-right _ _ (passed c .0) .0)) (start .pre (passed c .1))
+    let passed = none-refused _ _ _ _ (sym (c .before .refusal .ensures) ∙ c .if1 .left) in
+    (subst (λ n. Holds n (start .args .starts .now) (start .args .members .now)) (sym (point-right _ _ (passed .0) .0)) (start .pre .0), omega (arith, passed .1, start .pre .1))
 
 answer-of-requires : tie.Need-answer-of-requires
 answer-of-requires c κs = tt
@@ -28,7 +37,8 @@ answer-of-requires c κs = tt
 returns-2 : tie.Need-returns-2
 returns-2 c =
     let refused = c .before .before .before in
-    search-mask _ _ _ _ _ _ _ _ (sym (refused .refusal .ensures) ∙ c .before .before .if1 .left) (c .before .check-cut .ensures) (c .answer-of .ensures)
+    let none = sym (refusal-is (refused .before .before .before) _ (refused .refusal .ensures)) ∙ c .before .before .if1 .left in
+    search-mask _ _ _ _ _ none (c .before .check-cut .ensures) (c .answer-of .ensures)
 
 pub search-table-spec : {M : Type 1} → statement M
 search-table-spec =

@@ -1,7 +1,9 @@
 -- `agreement` meets its contract: a refused file, or its n. Assumes nothing.
-use mathlib.Core.Path.{sym, _∙_, ap}
+use mathlib.Core.Path.{_≡_, sym, _∙_, ap}
+use Prim.Native.Nat.{ℕ}
 use borrow.Author.Needs.{needs}
 use Rattle.rules.proofs.Tables.{file-sound}
+use Rattle.table.specs.declared.Checked.the-variants.{Accepted}
 use Rattle.table.specs.Reply.{numbered}
 use Rattle.table.proofs.AcceptedLaws.{Readable, readable, refused-is}
 use Rattle.judge.proofs.StageLaws.{agreement-none, agreement-table}
@@ -18,17 +20,17 @@ enum-known-answer-2 : tie.Need-enum-known-answer-2
 enum-known-answer-2 c = search needs
 
 -- the file was accepted
-accepted : (c : tie.After-known-told2) → Readable (c .before .before .before .before .before .before .args .code .now) (c .before .answer2 .given .0 .0) (c .before .answer2 .given .0 .1 .0) (c .before .answer2 .given .0 .1 .1 .0)
-accepted c = readable _ _ _ _ (ap numbered (sym (c .before .answer2 .given .1)) ∙ c .before .before .before .check .ensures)
+accepted : (c : tie.After-check) {n m e : ℕ} → c .check .result ≡ Accepted n m e → Readable (c .before .before .before .args .code .now) n m e
+accepted c h = readable _ _ _ _ (ap numbered (sym h) ∙ c .check .ensures)
 
 agreement-table-requires : tie.Need-agreement-table-requires
-agreement-table-requires c κs = file-sound (c .before .before .before .before .before .before .args .code .now) _ (accepted c .table) .bits .1
+agreement-table-requires c κs = file-sound _ _ (accepted (c .before .before .before) (c .before .answer2 .given .1) .table) .bits .1
 
 returns : tie.Need-returns
-returns c = agreement-none (c .before .before .before .before .before .before .args .code .now) _ (refused-is _ _ (ap numbered (sym (c .before .answer .given .1)) ∙ c .before .before .before .check .ensures)) (c .before .before .before .before .before .before .args .frame .now) (c .before .before .before .before .before .before .args .word .now)
+returns c = agreement-none _ _ (refused-is _ _ (ap numbered (sym (c .before .answer .given .1)) ∙ c .before .before .before .check .ensures)) _ _
 
 returns-2 : tie.Need-returns-2
-returns-2 c = c .agreement-table .ensures ∙ agreement-table (c .before .before .before .before .before .before .before .args .code .now) _ (accepted (c .before) .table) (c .before .before .before .before .before .before .before .args .frame .now) (c .before .before .before .before .before .before .before .args .word .now)
+returns-2 c = c .agreement-table .ensures ∙ agreement-table _ _ (accepted (c .before .before .before .before) (c .before .before .answer2 .given .1) .table) _ _
 
 pub agreement-spec : {M : Type 1} → statement M
 agreement-spec =

@@ -1,9 +1,12 @@
 -- `judge` meets its contract: a refused file, or the table that was loaded. Assumes nothing.
-use mathlib.Core.Path.{_∙_, ap}
+use mathlib.Core.Path.{_≡_, sym, _∙_}
+use Prim.Native.Nat.{ℕ}
 use native.Mathlib.Omega.{arith}
+use lib.Seq.{length-take-le}
 use borrow.Author.Needs.{needs}
-use Rattle.table.specs.Reply.{numbered}
-use Rattle.table.proofs.HeldLaws.{Opened, load-refused, load-table}
+use Rattle.table.specs.declared.Checked.the-variants.{Accepted}
+use Rattle.table.specs.Layout.{Opened}
+use Rattle.table.proofs.LayoutLaws.{opened-starts, opened-few, load-refused, load-opened}
 use Rattle.judge.proofs.StageLaws.{judge-none, judge-table}
 use Rattle.judge.proofs.judge.Statement.{statement}
 use Rattle.judge.proofs.judge.Tie as tie
@@ -23,28 +26,40 @@ enum-known-answer c = search needs
 enum-known-answer-2 : tie.Need-enum-known-answer-2
 enum-known-answer-2 c = search needs
 
+-- the file was accepted
+opened : (c : tie.After-load) {n m e : ℕ} → c .load .result ≡ Accepted n m e
+    → Opened (c .before .before .before .before .before .before .args .code .now) n m e (c .load .last .1 .0) (c .load .last .1 .1 .0)
+opened c h = load-opened _ _ _ _ (c .load .ensures) (omega arith) (omega arith) h
+
+add-end : tie.Need-add-end
+add-end c = omega (arith, opened-few (opened (c .before .before .before .before .before) (c .before .answer2 .given .1)))
+
+array-share-prefix-starts : tie.Need-array-share-prefix-starts
+array-share-prefix-starts c = omega (arith, opened-few (opened (c .before .before .before .before .before) (c .before .answer2 .given .1)))
+
 slice-aggregate-judge-table : tie.Need-slice-aggregate-judge-table
-slice-aggregate-judge-table c = search needs
+slice-aggregate-judge-table c = sym (opened-starts (opened (c .before .before .before .before .before .before) (c .before .before .answer2 .given .1)))
+
+array-share-prefix-members : tie.Need-array-share-prefix-members
+array-share-prefix-members c = omega (arith, opened-few (opened (c .before .before .before .before .before .before) (c .before .before .answer2 .given .1)))
 
 slice-aggregate-judge-table-2 : tie.Need-slice-aggregate-judge-table-2
-slice-aggregate-judge-table-2 c = search needs
-
--- the file was accepted
-opened : (c : tie.After-known-told2) → Opened (c .before .before .before .before .before .before .before .before .before .before .before .args .code .now) (c .before .answer2 .given .0 .0) (c .before .answer2 .given .0 .1 .0) (c .before .before .before .before .before .load .last .1 .0) (c .before .before .before .before .before .load .last .1 .1 .0)
-opened c = load-table _ _ _ _ _ _ (omega arith) (omega arith) (c .before .before .before .before .before .load .ensures) _ _ _ (ap numbered (c .before .answer2 .given .1))
+slice-aggregate-judge-table-2 c =
+    let o = opened (c .before .before .before .before .before .before .before) (c .before .before .before .answer2 .given .1) in
+    sym (length-take-le _ _ (o .membersRoom))
 
 judge-table-requires : tie.Need-judge-table-requires
 judge-table-requires c κs =
-    let o = opened (c .before .before) in
-    (o .held, o .few)
+    let o = opened (c .before .before .before .before .before .before .before) (c .before .before .before .answer2 .given .1) in
+    (o .holds, opened-starts o)
 
 returns : tie.Need-returns
-returns c = judge-none (c .before .before .before .before .before .before .before .before .before .before .before .args .code .now) _ (load-refused _ _ _ _ _ _ (omega arith) (omega arith) (c .before .before .before .before .before .load .ensures) _ (ap numbered (c .before .answer .given .1))) (c .before .before .before .before .before .before .before .before .before .before .before .args .frame .now) (c .before .before .before .before .before .before .before .before .before .before .before .args .word .now) (c .before .before .before .before .before .before .before .before .before .before .before .args .certificate .now)
+returns c = judge-none _ _ (load-refused _ _ _ _ (c .before .before .before .before .before .load .ensures) (omega arith) (omega arith) (c .before .answer .given .1)) _ _ _
 
 returns-2 : tie.Need-returns-2
 returns-2 c =
-    let o = opened (c .before .before .before) in
-    c .judge-table .ensures ∙ judge-table (c .before .before .before .before .before .before .before .before .before .before .before .before .before .before .args .code .now) _ (o .isFile) _ (c .before .before .before .before .before .before .before .before .before .before .before .before .before .before .args .frame .now) (c .before .before .before .before .before .before .before .before .before .before .before .before .before .before .args .word .now) (c .before .before .before .before .before .before .before .before .before .before .before .before .before .before .args .certificate .now) (o .same)
+    let o = opened (c .before .before .before .before .before .before .before .before) (c .before .before .before .before .answer2 .given .1) in
+    c .judge-table .ensures ∙ judge-table _ _ (o .isFile) _ _ _
 
 pub judge-spec : {M : Type 1} → statement M
 judge-spec =
@@ -55,7 +70,10 @@ judge-spec =
     load-requires
     enum-known-answer
     enum-known-answer-2
+    add-end
+    array-share-prefix-starts
     slice-aggregate-judge-table
+    array-share-prefix-members
     slice-aggregate-judge-table-2
     judge-table-requires
     returns

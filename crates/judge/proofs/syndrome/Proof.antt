@@ -1,9 +1,12 @@
 -- `syndrome` meets its contract: a refused file, or the table that was loaded. Assumes nothing.
-use mathlib.Core.Path.{_∙_, ap}
+use mathlib.Core.Path.{_≡_, sym, _∙_}
+use Prim.Native.Nat.{ℕ}
 use native.Mathlib.Omega.{arith}
+use lib.Seq.{length-take-le}
 use borrow.Author.Needs.{needs}
-use Rattle.table.specs.Reply.{numbered}
-use Rattle.table.proofs.HeldLaws.{Opened, load-refused, load-table}
+use Rattle.table.specs.declared.Checked.the-variants.{Accepted}
+use Rattle.table.specs.Layout.{Opened}
+use Rattle.table.proofs.LayoutLaws.{opened-starts, opened-few, load-refused, load-opened}
 use Rattle.judge.proofs.StageLaws.{syndrome-none, syndrome-table}
 use Rattle.judge.proofs.syndrome.Statement.{statement}
 use Rattle.judge.proofs.syndrome.Tie as tie
@@ -23,26 +26,40 @@ enum-known-answer c = search needs
 enum-known-answer-2 : tie.Need-enum-known-answer-2
 enum-known-answer-2 c = search needs
 
+-- the file was accepted
+opened : (c : tie.After-load) {n m e : ℕ} → c .load .result ≡ Accepted n m e
+    → Opened (c .before .before .before .before .before .args .code .now) n m e (c .load .last .1 .0) (c .load .last .1 .1 .0)
+opened c h = load-opened _ _ _ _ (c .load .ensures) (omega arith) (omega arith) h
+
+add-end : tie.Need-add-end
+add-end c = omega (arith, opened-few (opened (c .before .before .before .before .before) (c .before .answer2 .given .1)))
+
+array-share-prefix-starts : tie.Need-array-share-prefix-starts
+array-share-prefix-starts c = omega (arith, opened-few (opened (c .before .before .before .before .before) (c .before .answer2 .given .1)))
+
 slice-aggregate-syndrome-table : tie.Need-slice-aggregate-syndrome-table
-slice-aggregate-syndrome-table c = search needs
+slice-aggregate-syndrome-table c = sym (opened-starts (opened (c .before .before .before .before .before .before) (c .before .before .answer2 .given .1)))
+
+array-share-prefix-members : tie.Need-array-share-prefix-members
+array-share-prefix-members c = omega (arith, opened-few (opened (c .before .before .before .before .before .before) (c .before .before .answer2 .given .1)))
 
 slice-aggregate-syndrome-table-2 : tie.Need-slice-aggregate-syndrome-table-2
-slice-aggregate-syndrome-table-2 c = search needs
-
--- the file was accepted
-opened : (c : tie.After-known-told2) → Opened (c .before .before .before .before .before .before .before .before .before .before .args .code .now) (c .before .answer2 .given .0 .0) (c .before .answer2 .given .0 .1 .0) (c .before .before .before .before .before .load .last .1 .0) (c .before .before .before .before .before .load .last .1 .1 .0)
-opened c = load-table _ _ _ _ _ _ (omega arith) (omega arith) (c .before .before .before .before .before .load .ensures) _ _ _ (ap numbered (c .before .answer2 .given .1))
+slice-aggregate-syndrome-table-2 c =
+    let o = opened (c .before .before .before .before .before .before .before) (c .before .before .before .answer2 .given .1) in
+    sym (length-take-le _ _ (o .membersRoom))
 
 syndrome-table-requires : tie.Need-syndrome-table-requires
-syndrome-table-requires c κs = opened (c .before .before) .held
+syndrome-table-requires c κs =
+    let o = opened (c .before .before .before .before .before .before .before) (c .before .before .before .answer2 .given .1) in
+    (o .holds, opened-starts o)
 
 returns : tie.Need-returns
-returns c = syndrome-none (c .before .before .before .before .before .before .before .before .before .before .args .code .now) _ (load-refused _ _ _ _ _ _ (omega arith) (omega arith) (c .before .before .before .before .before .load .ensures) _ (ap numbered (c .before .answer .given .1))) (c .before .before .before .before .before .before .before .before .before .before .args .word .now)
+returns c = syndrome-none _ _ (load-refused _ _ _ _ (c .before .before .before .before .before .load .ensures) (omega arith) (omega arith) (c .before .answer .given .1)) _
 
 returns-2 : tie.Need-returns-2
 returns-2 c =
-    let o = opened (c .before .before .before) in
-    c .syndrome-table .ensures ∙ syndrome-table (c .before .before .before .before .before .before .before .before .before .before .before .before .before .args .code .now) _ (o .isFile) _ (c .before .before .before .before .before .before .before .before .before .before .before .before .before .args .word .now) (o .same)
+    let o = opened (c .before .before .before .before .before .before .before .before) (c .before .before .before .before .answer2 .given .1) in
+    c .syndrome-table .ensures ∙ syndrome-table _ _ (o .isFile) _
 
 pub syndrome-spec : {M : Type 1} → statement M
 syndrome-spec =
@@ -53,7 +70,10 @@ syndrome-spec =
     load-requires
     enum-known-answer
     enum-known-answer-2
+    add-end
+    array-share-prefix-starts
     slice-aggregate-syndrome-table
+    array-share-prefix-members
     slice-aggregate-syndrome-table-2
     syndrome-table-requires
     returns

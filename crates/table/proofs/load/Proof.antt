@@ -20,7 +20,8 @@ enum-known-answer-2 : tie.Need-enum-known-answer-2
 enum-known-answer-2 c = search needs
 
 -- the file was accepted
-accepted : (c : tie.After-answer2) → Readable (c .before .before .before .before .before .before .args .code .now) (c .answer2 .given .0 .0) (c .answer2 .given .0 .1 .0) (c .answer2 .given .0 .1 .1 .0)
+accepted : (c : tie.After-answer2)
+    → Readable (c .before .before .before .before .before .before .args .code .now) (c .answer2 .given .0 .0) (c .answer2 .given .0 .1 .0) (c .answer2 .given .0 .1 .1 .0)
 accepted c = readable _ _ _ _ (ap numbered (sym (c .answer2 .given .1)) ∙ c .before .before .check .ensures)
 
 returns : tie.Need-returns

@@ -33,8 +33,8 @@ wide-requires c κs = tt
 
 reads-inside : (c : tie.After-wide Inv-loop μ-loop) → c .wide .result < length (c .before .before .before .before .before .args .spins .now)
 reads-inside c =
-    let args = c .before .before .before .before .before .args in
-    omega (arith, c .wide .ensures, below-at (length (args .spins .now)) (args .members .now) (c .before .before .before .loop .k) (c .before .before .loop-test .taken) (c .before .before .before .before .before .pre .1))
+    let start = c .before .before .before .before .before in
+    omega (arith, c .wide .ensures, below-at (length (start .args .spins .now)) (start .args .members .now) (c .before .before .before .loop .k) (c .before .before .loop-test .taken) (start .pre .1))
 
 mul-values : tie.Need-mul-values Inv-loop μ-loop
 mul-values c =
@@ -58,12 +58,13 @@ loop-less c = omega arith
 
 loop-again : tie.Need-loop-again Inv-loop μ-loop
 loop-again c =
-    let args = c .before .before .before .before .before .before .args in
+    let start = c .before .before .before .before .before .before in
+    let args = start .args in
     let loop = c .before .before .before .before .loop in
     let read = toZ-ofZ (fit w32 (at (args .spins .now) (c .before .wide .result)) (c .values .given)) in (
       omega arith,
       search needs,
-      gather-more (at (args .spins .now)) (args .members .now) (args .values .now) (loop .values) (loop .k) _ (c .before .before .before .loop-test .taken) (c .before .before .before .before .before .before .pre .0) (loop .inv .2)
+      gather-more (at (args .spins .now)) (args .members .now) (args .values .now) (loop .values) (loop .k) _ (c .before .before .before .loop-test .taken) (start .pre .0) (loop .inv .2)
           (read ∙ ap (at (args .spins .now)) (c .before .wide .ensures)),
     )
 

@@ -4,7 +4,7 @@ use Prim.Native.Nat.{_-_, _≤_}
 use native.Mathlib.Omega.{arith}
 use lib.ListN.{length, take, length-set}
 use lib.Seq.{take-all}
-use lib.IntN.{pos}
+use lib.IntN.{ℤ, pos}
 use mir.Syntax.{w32}
 use mir.Val.{toZ, ofZ}
 use mir.Facts.{toZ-ofZ}
@@ -52,13 +52,16 @@ slice-set-from-h : tie.Need-slice-set-from-h Inv-loop μ-loop
 slice-set-from-h c = omega arith
 
 -- the value that is read
-value : (c : tie.After-x Inv-loop μ-loop) → toZ w32 (ofZ w32 (at (c .before .before .before .before .args .v .now) (c .before .before .loop .i))) ≡ at (c .before .before .before .before .args .v .now) (c .before .before .loop .i)
-value c = toZ-ofZ (fit w32 (at (c .before .before .before .before .args .v .now) (c .before .before .loop .i)) (c .x .given))
+abbrev valueAt : tie.At-loop Inv-loop μ-loop → ℤ
+valueAt c = at (c .before .before .args .v .now) (c .loop .i)
+
+value : (c : tie.After-x Inv-loop μ-loop) → toZ w32 (ofZ w32 (valueAt (c .before .before))) ≡ valueAt (c .before .before)
+value c = toZ-ofZ (fit w32 (valueAt (c .before .before)) (c .x .given))
 
 -- its height
 sight : (c : tie.After-height-of Inv-loop μ-loop)
     → toZ w32 (ofZ w32 (c .height-of .result))
-    ≡ height (isNeg (at (c .before .before .before .before .before .args .v .now) (c .before .before .before .loop .i))) (at (c .before .before .before .before .before .args .v .now) (c .before .before .before .loop .i))
+    ≡ height (isNeg (valueAt (c .before .before .before))) (valueAt (c .before .before .before))
 sight c = toZ-ofZ (fit w32 (c .height-of .result) (c .height-of .ok)) ∙ c .height-of .ensures ∙ ap (λ z. height (isNeg z) z) (value (c .before))
 
 with-requires : tie.Need-with-requires Inv-loop μ-loop

@@ -4,12 +4,12 @@ use Prim.Native.Nat.{_+_, _-_, _<_}
 use native.Mathlib.Omega.{arith}
 use lib.ListN.{length, drop}
 use borrow.Author.Needs.{needs}
+use Rattle.rules.specs.Sound.{Below}
 use Rattle.rules.specs.Parity.{meets}
 use Rattle.rules.specs.Cut.{negatives}
-use Rattle.rules.proofs.Duality.{Below}
 use Rattle.rules.proofs.ParityLaws.{meets-odd, meets-even, meets-end}
-use Rattle.decoder.specs.Layout.{checksFrom}
-use Rattle.decoder.proofs.CheckLaws.{starts-long, part-is, part-in, part-below}
+use Rattle.table.specs.Layout.{checksFrom}
+use Rattle.table.proofs.LayoutLaws.{starts-long, part-is, part-in, part-below}
 use Rattle.decoder.proofs.candidate.all_even.Statement.{statement}
 use Rattle.decoder.proofs.candidate.all_even.Tie as tie
 

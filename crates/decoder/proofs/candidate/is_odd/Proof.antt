@@ -4,9 +4,9 @@ use native.Mathlib.Omega.{arith}
 use lib.ListN.{length, length-take}
 use borrow.Author.Needs.{needs}
 use Rattle.rules.specs.Table.{bitsAt}
+use Rattle.rules.specs.Sound.{Below}
 use Rattle.rules.specs.Parity.{odd}
 use Rattle.rules.specs.Cut.{negatives}
-use Rattle.rules.proofs.Duality.{Below}
 use Rattle.decoder.proofs.ExactLaws.{take-exact}
 use Rattle.decoder.proofs.candidate.is_odd.Statement.{statement}
 use Rattle.decoder.proofs.candidate.is_odd.Tie as tie

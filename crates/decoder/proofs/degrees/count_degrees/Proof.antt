@@ -9,8 +9,7 @@ use lib.Seq.{drop-cons, drop-length}
 use borrow.Author.Needs.{needs}
 use Rattle.rules.specs.Limits.{maxBits}
 use Rattle.rules.specs.Table.{degreeOf}
-use Rattle.table.proofs.DegreesLaws.{Counted, counted-more}
-use Rattle.table.proofs.DegreesLaws.{degree-length}
+use Rattle.table.proofs.DegreesLaws.{Counted, counted-more, degree-length}
 use Rattle.rules.proofs.Duality.{below-at}
 use Rattle.decoder.proofs.degrees.count_degrees.Statement.{statement}
 use Rattle.decoder.proofs.degrees.count_degrees.Tie as tie

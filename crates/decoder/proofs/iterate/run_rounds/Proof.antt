@@ -4,7 +4,7 @@ use native.Mathlib.Omega.{arith}
 use lib.ListN.{length}
 use Rattle.rules.specs.Buffers.{spins, copies, offsets, multipliers, masks}
 use Rattle.run.specs.Reply.{statusOf, progressOf}
-use Rattle.decoder.specs.Layout.{tableOf}
+use Rattle.table.specs.Layout.{tableOf}
 use Rattle.decoder.specs.Rounds.{inner}
 use Rattle.decoder.proofs.IterateLaws.{Going, going-first, going-ready, going-next, left-less, going-last}
 use Rattle.decoder.proofs.iterate.run_rounds.Statement.{statement}

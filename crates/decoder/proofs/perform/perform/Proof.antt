@@ -6,7 +6,7 @@ use lib.ListN.{length, drop}
 use lib.Seq.{length-take-le, length-front}
 use borrow.Author.Needs.{needs}
 use Rattle.rules.specs.Buffers.{spins, copies, offsets, multipliers, masks}
-use Rattle.decoder.proofs.LayoutLaws.{members-fit}
+use Rattle.table.proofs.LayoutLaws.{members-fit}
 use Rattle.decoder.proofs.PerformLaws.{given-all, parts-ready, room-after, finish-fits, performed}
 use Rattle.decoder.proofs.perform.perform.Statement.{statement}
 use Rattle.decoder.proofs.perform.perform.Tie as tie

@@ -9,7 +9,7 @@ use borrow.Author.Needs.{needs}
 use Rattle.integers.specs.Machine.{fit}
 use Rattle.rules.specs.Limits.{maxDegree}
 use Rattle.rules.specs.Scatter.{priceOf}
-use Rattle.rules.proofs.Duality.{Below}
+use Rattle.rules.specs.Sound.{Below}
 use Rattle.rules.proofs.BoundLaws.{row-put}
 use Rattle.judge.proofs.RowLaws.{degree-few, part-order, part-end, part-few, part-read, part-long, row-read}
 use Rattle.judge.proofs.bound.put_entry.Statement.{statement}

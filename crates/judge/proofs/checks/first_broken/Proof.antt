@@ -1,62 +1,78 @@
--- `first_broken` meets its contract: the checks from j on decide. Assumes nothing.
-use mathlib.Core.Path.{_≡_, sym, _∙_, ap, ap₂, subst}
-use Prim.Native.Nat.{_-_, _≤_}
+-- `first_broken` meets its contract: the checks from j on decide, and check j's part of the members is that check. Assumes nothing.
+use mathlib.Core.Path.{_≡_, refl, sym, _∙_, subst}
+use Prim.Native.Nat.{_-_, _≤_, _<_}
 use native.Mathlib.Omega.{arith}
-use lib.ListN.{length, take, drop}
-use Rattle.rules.specs.Table.{bitsAt}
-use Rattle.rules.specs.Parity.{odd, firstBroken}
+use lib.ListN.{length, drop}
+use Rattle.rules.specs.Sound.{Below}
+use Rattle.rules.specs.Parity.{firstBroken}
 use Rattle.rules.specs.Input.{bitsOf}
-use Rattle.rules.proofs.Duality.{Below}
-use Rattle.table.specs.Held.{partAt, partsFrom}
-use Rattle.judge.proofs.CheckLaws.{broken-here, broken-later, broken-none, parts-all}
+use Rattle.table.specs.Layout.{checksFrom}
+use Rattle.table.proofs.LayoutLaws.{starts-long, part-lent, part-below, part-in}
+use Rattle.judge.proofs.CheckLaws.{broken-here, broken-later, broken-none}
 use Rattle.judge.proofs.checks.first_broken.Statement.{statement}
 use Rattle.judge.proofs.checks.first_broken.Tie as tie
 
 abbrev Inv-loop : tie.InvT-loop
-Inv-loop starts members m word j₀ j = (j ≤ m) × (firstBroken 0 (bitsOf word) (partsFrom starts members 0 m) ≡ firstBroken j (bitsOf word) (partsFrom starts members j (m - j)))
+Inv-loop starts members m word j₀ j =
+    (j ≤ m) × (firstBroken 0 (bitsOf word) (checksFrom starts members) ≡ firstBroken j (bitsOf word) (drop j (checksFrom starts members)))
 
 abbrev μ-loop : tie.MeasureT-loop
 μ-loop starts members m word j₀ j = m - j
 
+-- there is a check j
+check : (c : tie.In-loop Inv-loop μ-loop)
+    → c .before .loop .j < length (checksFrom (c .before .before .before .before .before .args .starts .now) (c .before .before .before .before .before .args .members .now))
+check c =
+    let start = c .before .before .before .before .before in
+    omega (arith, c .loop-test .taken, start .pre .1, starts-long _ _ _ (start .pre .0))
+
 loop-holds : tie.Need-loop-holds Inv-loop μ-loop
-loop-holds c = (omega arith, ap (firstBroken 0 (bitsOf (c .before .before .before .args .word .now))) (sym (parts-all (c .before .before .before .args .starts .now) (c .before .before .before .args .members .now) (c .before .before .before .args .m))))
+loop-holds c = (omega arith, refl)
 
 start-at-requires : tie.Need-start-at-requires Inv-loop μ-loop
-start-at-requires c κs = omega (arith, c .before .before .before .before .before .pre (c .before .loop .j) (c .loop-test .taken) .start .room)
+start-at-requires c κs = omega (arith, c .loop-test .taken, c .before .before .before .before .before .pre .1)
 
 add-start-at : tie.Need-add-start-at Inv-loop μ-loop
 add-start-at c = omega arith
 
 start-at-requires-2 : tie.Need-start-at-requires-2 Inv-loop μ-loop
-start-at-requires-2 c κs = c .before .before .before .before .before .before .pre (c .before .before .loop .j) (c .before .loop-test .taken) .start .room
+start-at-requires-2 c κs = omega (arith, c .before .loop-test .taken, c .before .before .before .before .before .before .pre .1)
 
 mul-odd-check : tie.Need-mul-odd-check Inv-loop μ-loop
 mul-odd-check c = omega arith
 
+-- its part of the members
+inside : (c : tie.After-start-at2 Inv-loop μ-loop) → (c .before .start-at .result ≤ c .start-at2 .result)
+    × (c .start-at2 .result ≤ length (c .before .before .before .before .before .before .before .args .members .now))
+inside c =
+    let here = c .before .before in
+    let start = here .before .before .before .before .before in
+    omega (arith, c .before .start-at .ensures .0, c .start-at2 .ensures .0, part-in _ _ _ (start .pre .0) _ (check here))
+
 sub-odd-check : tie.Need-sub-odd-check Inv-loop μ-loop
-sub-odd-check c = omega (arith, c .before .before .before .before .before .before .before .pre (c .before .before .before .loop .j) (c .before .before .loop-test .taken) .start .order)
+sub-odd-check c = inside c .0
 
 part-odd-check-start : tie.Need-part-odd-check-start Inv-loop μ-loop
-part-odd-check-start c = sub-odd-check c
+part-odd-check-start c = inside c .0
 
 part-odd-check-end : tie.Need-part-odd-check-end Inv-loop μ-loop
-part-odd-check-end c = omega (arith, c .start-at2 .ensures .0, c .before .before .before .before .before .before .before .pre (c .before .before .before .loop .j) (c .before .before .loop-test .taken) .end)
-
--- the part that is lent is check j's
-part : (c : tie.After-odd-check-arg Inv-loop μ-loop)
-    → partAt (c .before .before .before .before .before .before .before .before .args .starts .now) (c .before .before .before .before .before .before .before .before .args .members .now) (c .before .before .before .before .loop .j)
-    ≡ take (c .before .start-at2 .result - c .before .before .start-at .result) (drop (c .before .before .start-at .result) (c .before .before .before .before .before .before .before .before .args .members .now))
-part c = ap₂ (λ a e. take (e - a) (drop a (c .before .before .before .before .before .before .before .before .args .members .now))) (sym (c .before .before .start-at .ensures .0)) (sym (c .before .start-at2 .ensures .0))
+part-odd-check-end c = inside c .1
 
 odd-check-requires : tie.Need-odd-check-requires Inv-loop μ-loop
-odd-check-requires c κs = subst (Below (length (c .before .before .before .before .before .before .before .before .args .word .now))) (part c) (c .before .before .before .before .before .before .before .before .pre (c .before .before .before .before .loop .j) (c .before .before .before .loop-test .taken) .inside)
+odd-check-requires c κs =
+    let read = c .before in
+    let here = read .before .before in
+    let start = here .before .before .before .before .before in
+    let part = part-lent _ _ _ (start .pre .0) _ (check here) (read .before .start-at .ensures .0) (read .start-at2 .ensures .0) in
+    subst (Below (length (start .args .word .now))) (sym part) (part-below _ _ _ (start .pre .0) _ (check here))
 
 returns : tie.Need-returns Inv-loop μ-loop
 returns c =
-    let args = c .before .before .before .before .before .before .before .before .before .before .args in
-    sym (c .before .before .before .before .before .before .loop .inv .1
-    ∙ broken-here (args .starts .now) (args .members .now) (args .m) (c .before .before .before .before .before .before .loop .j) (bitsOf (args .word .now)) (c .before .before .before .before .before .loop-test .taken)
-    (ap (λ l. odd (bitsAt (bitsOf (args .word .now)) l)) (part (c .before .before)) ∙ sym (c .before .odd-check .ensures) ∙ c .if1 .taken))
+    let read = c .before .before .before in
+    let here = read .before .before in
+    let start = here .before .before .before .before .before in
+    let part = part-lent _ _ _ (start .pre .0) _ (check here) (read .before .start-at .ensures .0) (read .start-at2 .ensures .0) in
+    sym (here .before .loop .inv .1 ∙ broken-here (bitsOf (start .args .word .now)) _ _ _ (check here) part (sym (c .before .odd-check .ensures) ∙ c .if1 .taken))
 
 add-j : tie.Need-add-j Inv-loop μ-loop
 add-j c = omega arith
@@ -66,15 +82,17 @@ loop-less c = omega arith
 
 loop-again : tie.Need-loop-again Inv-loop μ-loop
 loop-again c =
-    let args = c .before .before .before .before .before .before .before .before .before .before .args in (
-      omega arith,
-      c .before .before .before .before .before .before .loop .inv .1
-          ∙ broken-later (args .starts .now) (args .members .now) (args .m) (c .before .before .before .before .before .before .loop .j) (bitsOf (args .word .now)) (c .before .before .before .before .before .loop-test .taken)
-          (ap (λ l. odd (bitsAt (bitsOf (args .word .now)) l)) (part (c .before .before)) ∙ sym (c .before .odd-check .ensures) ∙ c .if1 .left),
-    )
+    let read = c .before .before .before in
+    let here = read .before .before in
+    let start = here .before .before .before .before .before in
+    let part = part-lent _ _ _ (start .pre .0) _ (check here) (read .before .start-at .ensures .0) (read .start-at2 .ensures .0) in
+    (omega arith, here .before .loop .inv .1 ∙ broken-later (bitsOf (start .args .word .now)) _ _ _ (check here) part (sym (c .before .odd-check .ensures) ∙ c .if1 .left))
 
 returns-2 : tie.Need-returns-2 Inv-loop μ-loop
-returns-2 c = sym (c .before .loop .inv .1 ∙ broken-none (c .before .before .before .before .before .args .starts .now) (c .before .before .before .before .before .args .members .now) (c .before .before .before .before .before .args .m) (c .before .loop .j) (bitsOf (c .before .before .before .before .before .args .word .now)) (c .loop-test .left))
+returns-2 c =
+    let start = c .before .before .before .before .before in
+    let done : length (checksFrom (start .args .starts .now) (start .args .members .now)) ≤ c .before .loop .j = omega (arith, c .loop-test .left, start .pre .1, starts-long _ _ _ (start .pre .0)) in
+    sym (c .before .loop .inv .1 ∙ broken-none (bitsOf (start .args .word .now)) _ _ done)
 
 pub first-broken-spec : {M : Type 1} → statement M
 first-broken-spec =

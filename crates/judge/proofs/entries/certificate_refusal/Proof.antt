@@ -2,23 +2,18 @@
 use mathlib.Core.Path.{sym, _∙_}
 use borrow.Author.Tests.{not-true, not-false}
 use borrow.Author.Needs.{needs}
-use Rattle.table.specs.Held.{degreeAt}
 use Rattle.judge.proofs.RefusalLaws.{certificate-short, certificate-many, certificate-long, certificate-scale, certificate-items}
 use Rattle.judge.proofs.entries.certificate_refusal.Statement.{statement}
 use Rattle.judge.proofs.entries.certificate_refusal.Tie as tie
 
 returns : tie.Need-returns
-returns c =
-    let args = c .before .before .before .args in
-    certificate-short (args .m) (degreeAt (args .starts .now)) (args .bytes .now) (c .if1 .taken)
+returns c = certificate-short _ _ _ (c .if1 .taken)
 
 u16-at-requires : tie.Need-u16-at-requires
 u16-at-requires c κs = search needs
 
 returns-2 : tie.Need-returns-2
-returns-2 c =
-    let args = c .before .before .before .before .before .args in
-    certificate-many (args .m) (degreeAt (args .starts .now)) (args .bytes .now) (c .before .u16-at .result) (c .before .u16-at .ensures .0) (c .before .before .if1 .left) (c .if2 .taken)
+returns-2 c = certificate-many _ _ _ _ (c .before .u16-at .ensures .0) (c .before .before .if1 .left) (c .if2 .taken)
 
 mul-if3 : tie.Need-mul-if3
 mul-if3 c = search needs
@@ -27,9 +22,7 @@ add-if3 : tie.Need-add-if3
 add-if3 c = search needs
 
 returns-3 : tie.Need-returns-3
-returns-3 c =
-    let args = c .before .before .before .before .before .before .args in
-    certificate-long (args .m) (degreeAt (args .starts .now)) (args .bytes .now) (c .before .before .u16-at .result) (c .before .before .u16-at .ensures .0) (c .before .before .before .if1 .left) (c .before .if2 .left) (c .if3 .taken)
+returns-3 c = certificate-long _ _ _ _ (c .before .before .u16-at .ensures .0) (c .before .before .before .if1 .left) (c .before .if2 .left) (c .if3 .taken)
 
 u16-at-requires-2 : tie.Need-u16-at-requires-2
 u16-at-requires-2 c κs = search needs
@@ -39,19 +32,23 @@ in-range-requires c κs = tt
 
 returns-4 : tie.Need-returns-4
 returns-4 c =
-    let args = c .before .before .before .before .before .before .before .before .before .args in
-    certificate-scale (args .m) (degreeAt (args .starts .now)) (args .bytes .now) (c .before .before .before .before .before .u16-at .result) (c .before .before .before .before .before .u16-at .ensures .0) (c .before .before .before .before .before .before .if1 .left) (c .before .before .before .before .if2 .left) (c .before .before .before .if3 .left)
-    (c .before .before .u16-at2 .result) (c .before .before .u16-at2 .ensures .0) (sym (c .before .in-range .ensures) ∙ not-true _ (c .if4 .taken))
+    let long = c .before .before .before in
+    let read = long .before .before in
+    certificate-scale _ _ _ _ (read .u16-at .ensures .0) (read .before .if1 .left) (long .before .if2 .left) (long .if3 .left)
+    _ (c .before .before .u16-at2 .ensures .0) (sym (c .before .in-range .ensures) ∙ not-true _ (c .if4 .taken))
 
 entries-refusal-requires : tie.Need-entries-refusal-requires
-entries-refusal-requires c κs = (c .before .before .before .before .before .before .before .before .before .pre, record { few = c .before .before .before .before .if2 .left; size = c .before .before .before .if3 .left })
+entries-refusal-requires c κs =
+    let long = c .before .before .before in
+    (long .before .before .before .before .before .before .pre, record { few = long .before .if2 .left; size = long .if3 .left })
 
 returns-5 : tie.Need-returns-5
 returns-5 c =
-    let args = c .before .before .before .before .before .before .before .before .before .before .args in
+    let long = c .before .before .before .before in
+    let read = long .before .before in
     c .entries-refusal .ensures
-    ∙ certificate-items (args .m) (degreeAt (args .starts .now)) (args .bytes .now) (c .before .before .before .before .before .before .u16-at .result) (c .before .before .before .before .before .before .u16-at .ensures .0) (c .before .before .before .before .before .before .before .if1 .left) (c .before .before .before .before .before .if2 .left) (c .before .before .before .before .if3 .left)
-    (c .before .before .before .u16-at2 .result) (c .before .before .before .u16-at2 .ensures .0) (sym (c .before .before .in-range .ensures) ∙ not-false _ (c .before .if4 .left))
+    ∙ certificate-items _ _ _ _ (read .u16-at .ensures .0) (read .before .if1 .left) (long .before .if2 .left) (long .if3 .left)
+    _ (c .before .before .before .u16-at2 .ensures .0) (sym (c .before .before .in-range .ensures) ∙ not-false _ (c .before .if4 .left))
 
 pub certificate-refusal-spec : {M : Type 1} → statement M
 certificate-refusal-spec =

@@ -1,13 +1,11 @@
 -- `entries_refusal` meets its contract: the entries from k on decide. Assumes nothing.
-use mathlib.Core.Path.{_≡_, sym, _∙_, ap}
-use Prim.Native.Nat.{_-_, _≤_, _+_}
+use mathlib.Core.Path.{_≡_, sym, _∙_}
+use Prim.Native.Nat.{_-_, _≤_}
 use native.Mathlib.Omega.{arith}
 use Rattle.rules.specs.Certificate.{itemsAt}
-use Rattle.table.specs.Held.{degreeAt}
-use Rattle.inputs.specs.Refusals.{orElse}
+use Rattle.table.specs.Layout.{degreeAt}
 use Rattle.judge.specs.Refusals.{beforeAt, itemsRefusal}
-use Rattle.inputs.proofs.RefusalLaws.{else-refused, else-next}
-use Rattle.judge.proofs.RefusalLaws.{items-more, items-end, items-all}
+use Rattle.judge.proofs.RefusalLaws.{items-stop, items-next, items-end, items-all}
 use Rattle.judge.proofs.entries.entries_refusal.Statement.{statement}
 use Rattle.judge.proofs.entries.entries_refusal.Tie as tie
 
@@ -20,7 +18,9 @@ abbrev μ-loop : tie.MeasureT-loop
 μ-loop starts m bytes q k₀ k = q - k
 
 loop-holds : tie.Need-loop-holds Inv-loop μ-loop
-loop-holds c = (omega arith, sym (items-all (c .before .before .args .m) (degreeAt (c .before .before .args .starts .now)) (c .before .before .args .bytes .now) (c .before .before .args .q)))
+loop-holds c =
+    let args = c .before .before .args in
+    (omega arith, sym (items-all (args .m) (degreeAt (args .starts .now)) (args .bytes .now) (args .q)))
 
 entry-refusal-requires : tie.Need-entry-refusal-requires Inv-loop μ-loop
 entry-refusal-requires c κs = (c .before .before .before .before .pre .0, record { long = c .before .before .before .before .pre .1; inside = c .loop-test .taken })
@@ -28,11 +28,9 @@ entry-refusal-requires c κs = (c .before .before .before .before .pre .0, recor
 returns : tie.Need-returns Inv-loop μ-loop
 returns c =
     let args = c .before .before .before .before .before .before .args in
-    let rest = itemsRefusal (args .m) (degreeAt (args .starts .now)) (beforeAt (args .bytes .now) (args .q) (c .before .before .before .loop .k + 1)) (itemsAt (args .bytes .now) (args .q) (c .before .before .before .loop .k + 1) (args .q - (c .before .before .before .loop .k + 1))) in
-    sym (c .before .before .before .loop .inv .1
-    ∙ items-more (args .m) (degreeAt (args .starts .now)) (args .bytes .now) (args .q) (c .before .before .before .loop .k) (c .before .before .loop-test .taken)
-    ∙ ap (λ r. orElse r rest) (sym (c .before .entry-refusal .ensures))
-    ∙ else-refused (c .before .entry-refusal .result) rest (c .if1 .taken))
+    let loop = c .before .before .before .loop in
+    sym (loop .inv .1
+    ∙ items-stop (args .m) (degreeAt (args .starts .now)) (args .bytes .now) (args .q) (loop .k) _ (c .before .before .loop-test .taken) (c .before .entry-refusal .ensures) (c .if1 .taken))
 
 add-k : tie.Need-add-k Inv-loop μ-loop
 add-k c = omega arith
@@ -43,16 +41,16 @@ loop-less c = omega arith
 loop-again : tie.Need-loop-again Inv-loop μ-loop
 loop-again c =
     let args = c .before .before .before .before .before .before .args in
-    let rest = itemsRefusal (args .m) (degreeAt (args .starts .now)) (beforeAt (args .bytes .now) (args .q) (c .before .before .before .loop .k + 1)) (itemsAt (args .bytes .now) (args .q) (c .before .before .before .loop .k + 1) (args .q - (c .before .before .before .loop .k + 1))) in (
+    let loop = c .before .before .before .loop in (
       omega arith,
-      c .before .before .before .loop .inv .1
-          ∙ items-more (args .m) (degreeAt (args .starts .now)) (args .bytes .now) (args .q) (c .before .before .before .loop .k) (c .before .before .loop-test .taken)
-          ∙ ap (λ r. orElse r rest) (sym (c .before .entry-refusal .ensures))
-          ∙ else-next (c .before .entry-refusal .result) rest (c .if1 .left),
+      loop .inv .1
+          ∙ items-next (args .m) (degreeAt (args .starts .now)) (args .bytes .now) (args .q) (loop .k) _ (c .before .before .loop-test .taken) (c .before .entry-refusal .ensures) (c .if1 .left),
     )
 
 returns-2 : tie.Need-returns-2 Inv-loop μ-loop
-returns-2 c = sym (c .before .loop .inv .1 ∙ items-end (c .before .before .before .before .args .m) (degreeAt (c .before .before .before .before .args .starts .now)) (c .before .before .before .before .args .bytes .now) (c .before .before .before .before .args .q) (c .before .loop .k) (c .loop-test .left))
+returns-2 c =
+    let args = c .before .before .before .before .args in
+    sym (c .before .loop .inv .1 ∙ items-end (args .m) (degreeAt (args .starts .now)) (args .bytes .now) (args .q) (c .before .loop .k) (c .loop-test .left))
 
 pub entries-refusal-spec : {M : Type 1} → statement M
 entries-refusal-spec =

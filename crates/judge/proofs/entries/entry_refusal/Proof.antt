@@ -3,9 +3,6 @@ use mathlib.Core.Path.{refl, sym, _∙_}
 use native.Mathlib.Omega.{arith}
 use borrow.Author.Tests.{not-true, not-false}
 use borrow.Author.Needs.{needs}
-use Rattle.rules.specs.Certificate.{itemAt}
-use Rattle.table.specs.Held.{degreeAt}
-use Rattle.judge.specs.Refusals.{beforeAt}
 use Rattle.judge.proofs.RefusalLaws.{entry-check, entry-multiplier, entry-mask, entry-order, entry-right}
 use Rattle.judge.proofs.entries.entry_refusal.Statement.{statement}
 use Rattle.judge.proofs.entries.entry_refusal.Tie as tie
@@ -14,9 +11,7 @@ check-at-requires : tie.Need-check-at-requires
 check-at-requires c κs = search needs
 
 returns : tie.Need-returns
-returns c =
-    let args = c .before .before .before .before .args in
-    entry-check (args .m) (degreeAt (args .starts .now)) (beforeAt (args .bytes .now) (args .q) (args .k)) (itemAt (args .bytes .now) (args .q) (args .k)) (c .before .check-at .result) _ (c .before .check-at .ensures .0) refl (c .if1 .taken)
+returns c = entry-check _ _ _ _ _ _ (c .before .check-at .ensures .0) refl (c .if1 .taken)
 
 multiplier-at-requires : tie.Need-multiplier-at-requires
 multiplier-at-requires c κs = search needs
@@ -29,28 +24,29 @@ in-range-requires c κs = tt
 
 returns-2 : tie.Need-returns-2
 returns-2 c =
-    let args = c .before .before .before .before .before .before .before .args in
-    entry-multiplier (args .m) (degreeAt (args .starts .now)) (beforeAt (args .bytes .now) (args .q) (args .k)) (itemAt (args .bytes .now) (args .q) (args .k))
-    (c .before .before .before .before .check-at .result) (c .before .before .multiplier-at .result) (c .before .before .before .before .check-at .ensures .0) (c .before .before .multiplier-at .ensures) (c .before .before .before .if1 .left)
-    (sym (c .before .in-range .ensures) ∙ not-true _ (c .if2 .taken))
+    let listed = c .before .before .before in
+    entry-multiplier _ _ _ _ _ _ (listed .before .check-at .ensures .0) (c .before .before .multiplier-at .ensures) (listed .if1 .left) (sym (c .before .in-range .ensures) ∙ not-true _ (c .if2 .taken))
 
 degree-requires : tie.Need-degree-requires
 degree-requires c κs =
-    let start = c .before .before .before .before .before .before .before .pre .0 (c .before .before .before .before .check-at .result) (c .before .before .before .if1 .left) in
+    let listed = c .before .before .before in
+    let start = listed .before .before .before .before .pre .0 (listed .before .check-at .result) (listed .if1 .left) in
     (start .room, start .order)
 
 mask-at-requires : tie.Need-mask-at-requires
 mask-at-requires c κs = search needs
 
 mask-right-requires : tie.Need-mask-right-requires
-mask-right-requires c κs = omega (arith, c .before .degree .ensures, c .before .before .before .before .before .before .before .before .before .pre .0 (c .before .before .before .before .before .before .check-at .result) (c .before .before .before .before .before .if1 .left) .degree)
+mask-right-requires c κs =
+    let listed = c .before .before .before .before .before in
+    omega (arith, c .before .degree .ensures, listed .before .before .before .before .pre .0 (listed .before .check-at .result) (listed .if1 .left) .degree)
 
 returns-3 : tie.Need-returns-3
 returns-3 c =
-    let args = c .before .before .before .before .before .before .before .before .before .before .before .args in
-    entry-mask (args .m) (degreeAt (args .starts .now)) (beforeAt (args .bytes .now) (args .q) (args .k)) (itemAt (args .bytes .now) (args .q) (args .k))
-    (c .before .before .before .before .before .before .before .before .check-at .result) (c .before .before .before .before .before .before .multiplier-at .result) (c .before .before .before .before .before .before .before .before .check-at .ensures .0) (c .before .before .before .before .before .before .multiplier-at .ensures) (c .before .before .before .before .before .before .before .if1 .left)
-    (sym (c .before .before .before .before .before .in-range .ensures) ∙ not-false _ (c .before .before .before .before .if2 .left)) (c .before .before .mask-at .result) (c .before .before .before .degree .result) (c .before .before .mask-at .ensures) (c .before .before .before .degree .ensures)
+    let ranged = c .before .before .before .before in
+    let listed = ranged .before .before .before in
+    entry-mask _ _ _ _ _ _ (listed .before .check-at .ensures .0) (ranged .before .before .multiplier-at .ensures) (listed .if1 .left)
+    (sym (ranged .before .in-range .ensures) ∙ not-false _ (ranged .if2 .left)) _ _ (c .before .before .mask-at .ensures) (c .before .before .before .degree .ensures)
     (sym (c .before .mask-right .ensures) ∙ not-true _ (c .if3 .taken))
 
 ordered-requires : tie.Need-ordered-requires
@@ -58,19 +54,21 @@ ordered-requires c κs = search needs
 
 returns-4 : tie.Need-returns-4
 returns-4 c =
-    let args = c .before .before .before .before .before .before .before .before .before .before .before .before .before .args in
-    entry-order (args .m) (degreeAt (args .starts .now)) (beforeAt (args .bytes .now) (args .q) (args .k)) (itemAt (args .bytes .now) (args .q) (args .k))
-    (c .before .before .before .before .before .before .before .before .before .before .check-at .result) (c .before .before .before .before .before .before .before .before .multiplier-at .result) (c .before .before .before .before .before .before .before .before .before .before .check-at .ensures .0) (c .before .before .before .before .before .before .before .before .multiplier-at .ensures) (c .before .before .before .before .before .before .before .before .before .if1 .left)
-    (sym (c .before .before .before .before .before .before .before .in-range .ensures) ∙ not-false _ (c .before .before .before .before .before .before .if2 .left)) (c .before .before .before .before .mask-at .result) (c .before .before .before .before .before .degree .result) (c .before .before .before .before .mask-at .ensures) (c .before .before .before .before .before .degree .ensures)
-    (sym (c .before .before .before .mask-right .ensures) ∙ not-false _ (c .before .before .if3 .left)) (sym (c .before .ordered .ensures) ∙ not-true _ (c .if4 .taken))
+    let masked = c .before .before in
+    let ranged = masked .before .before .before .before in
+    let listed = ranged .before .before .before in
+    entry-order _ _ _ _ _ _ (listed .before .check-at .ensures .0) (ranged .before .before .multiplier-at .ensures) (listed .if1 .left)
+    (sym (ranged .before .in-range .ensures) ∙ not-false _ (ranged .if2 .left)) _ _ (masked .before .before .mask-at .ensures) (masked .before .before .before .degree .ensures)
+    (sym (masked .before .mask-right .ensures) ∙ not-false _ (masked .if3 .left)) (sym (c .before .ordered .ensures) ∙ not-true _ (c .if4 .taken))
 
 returns-5 : tie.Need-returns-5
 returns-5 c =
-    let args = c .before .before .before .before .before .before .before .before .before .before .before .before .before .args in
-    entry-right (args .m) (degreeAt (args .starts .now)) (beforeAt (args .bytes .now) (args .q) (args .k)) (itemAt (args .bytes .now) (args .q) (args .k))
-    (c .before .before .before .before .before .before .before .before .before .before .check-at .result) (c .before .before .before .before .before .before .before .before .multiplier-at .result) (c .before .before .before .before .before .before .before .before .before .before .check-at .ensures .0) (c .before .before .before .before .before .before .before .before .multiplier-at .ensures) (c .before .before .before .before .before .before .before .before .before .if1 .left)
-    (sym (c .before .before .before .before .before .before .before .in-range .ensures) ∙ not-false _ (c .before .before .before .before .before .before .if2 .left)) (c .before .before .before .before .mask-at .result) (c .before .before .before .before .before .degree .result) (c .before .before .before .before .mask-at .ensures) (c .before .before .before .before .before .degree .ensures)
-    (sym (c .before .before .before .mask-right .ensures) ∙ not-false _ (c .before .before .if3 .left)) (sym (c .before .ordered .ensures) ∙ not-false _ (c .if4 .left))
+    let masked = c .before .before in
+    let ranged = masked .before .before .before .before in
+    let listed = ranged .before .before .before in
+    entry-right _ _ _ _ _ _ (listed .before .check-at .ensures .0) (ranged .before .before .multiplier-at .ensures) (listed .if1 .left)
+    (sym (ranged .before .in-range .ensures) ∙ not-false _ (ranged .if2 .left)) _ _ (masked .before .before .mask-at .ensures) (masked .before .before .before .degree .ensures)
+    (sym (masked .before .mask-right .ensures) ∙ not-false _ (masked .if3 .left)) (sym (c .before .ordered .ensures) ∙ not-false _ (c .if4 .left))
 
 pub entry-refusal-spec : {M : Type 1} → statement M
 entry-refusal-spec =

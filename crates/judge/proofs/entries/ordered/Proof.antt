@@ -8,7 +8,9 @@ use Rattle.judge.proofs.entries.ordered.Statement.{statement}
 use Rattle.judge.proofs.entries.ordered.Tie as tie
 
 returns : tie.Need-returns
-returns c = follows-first (c .before .before .args .bytes .now) (c .before .before .args .q) (c .before .before .args .k) (itemAt (c .before .before .args .bytes .now) (c .before .before .args .q) (c .before .before .args .k)) (c .if1 .taken)
+returns c =
+    let args = c .before .before .args in
+    follows-first (args .bytes .now) (args .q) (args .k) (itemAt (args .bytes .now) (args .q) (args .k)) (c .if1 .taken)
 
 sub-check-at : tie.Need-sub-check-at
 sub-check-at c = search needs
@@ -41,9 +43,10 @@ mask-at-requires-2 c κs = search needs
 
 returns-3 : tie.Need-returns-3
 returns-3 c =
-    let args = c .before .before .before .before .before .before .before .before .args in
-    follows-mask (args .bytes .now) (args .q) (args .k) (c .before .before .before .before .before .check-at .result) (c .before .before .before .before .check-at2 .result) (itemAt (args .bytes .now) (args .q) (args .k))
-    (c .before .before .before .before .before .before .if1 .left) (c .before .before .before .before .before .check-at .ensures .0) (c .before .before .before .before .check-at2 .ensures .0)
+    let checked = c .before .before .before .before in
+    let args = checked .before .before .before .before .args in
+    follows-mask (args .bytes .now) (args .q) (args .k) (checked .before .check-at .result) (checked .check-at2 .result) (itemAt (args .bytes .now) (args .q) (args .k))
+    (checked .before .before .if1 .left) (checked .before .check-at .ensures .0) (checked .check-at2 .ensures .0)
     (c .before .mask-at .result) (c .mask-at2 .result) (at-most (c .before .before .before)) (c .before .before .if3 .taken) (c .before .mask-at .ensures) (c .mask-at2 .ensures)
 
 returns-4 : tie.Need-returns-4

@@ -2,8 +2,9 @@
 use mathlib.Core.Path.{sym, _∙_, ap, ap₂}
 use Rattle.inputs.specs.Refusals.{wordRefusal, orElse}
 use Rattle.inputs.proofs.RefusalLaws.{else-refused, else-next}
-use Rattle.table.specs.Held.{degreeAt}
+use Rattle.table.specs.Layout.{degreeAt}
 use Rattle.judge.specs.Refusals.{certificateRefusal}
+use Rattle.judge.specs.Stages.{judgeRefusal}
 use Rattle.judge.proofs.stages.refusal_of.Statement.{statement}
 use Rattle.judge.proofs.stages.refusal_of.Tie as tie
 
@@ -11,6 +12,7 @@ frame-requires : tie.Need-frame-requires
 frame-requires c κs = tt
 
 returns : tie.Need-returns
+unfolding judgeRefusal
 returns c =
     let args = c .before .before .before .before .before .args in
     let rest = orElse (wordRefusal (args .n) (args .word .now)) (certificateRefusal (args .m) (degreeAt (args .starts .now)) (args .certificate .now)) in
@@ -20,6 +22,7 @@ word-requires : tie.Need-word-requires
 word-requires c κs = tt
 
 returns-2 : tie.Need-returns-2
+unfolding judgeRefusal
 returns-2 c =
     let args = c .before .before .before .before .before .before .before .args in
     let last = certificateRefusal (args .m) (degreeAt (args .starts .now)) (args .certificate .now) in
@@ -30,12 +33,14 @@ certificate-refusal-requires : tie.Need-certificate-refusal-requires
 certificate-refusal-requires c κs = c .before .before .before .before .before .before .before .pre
 
 returns-3 : tie.Need-returns-3
+unfolding judgeRefusal
 returns-3 c =
     let args = c .before .before .before .before .before .before .before .before .args in
     let last = certificateRefusal (args .m) (degreeAt (args .starts .now)) (args .certificate .now) in
     c .certificate-refusal .ensures
     ∙ sym (ap₂ (λ j k. orElse j (orElse k last)) (sym (c .before .before .before .before .frame .ensures)) (sym (c .before .before .word .ensures))
-    ∙ else-next (c .before .before .before .before .frame .result) (orElse (c .before .before .word .result) last) (c .before .before .before .if1 .left) ∙ else-next (c .before .before .word .result) last (c .before .if2 .left))
+    ∙ else-next (c .before .before .before .before .frame .result) (orElse (c .before .before .word .result) last) (c .before .before .before .if1 .left)
+    ∙ else-next (c .before .before .word .result) last (c .before .if2 .left))
 
 pub refusal-of-spec : {M : Type 1} → statement M
 refusal-of-spec =

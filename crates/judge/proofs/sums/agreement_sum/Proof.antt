@@ -12,11 +12,10 @@ use Rattle.integers.specs.Order.{within-wider}
 use Rattle.integers.specs.Linear.{Within}
 use Rattle.integers.specs.Machine.{fit}
 use Rattle.integers.specs.Sum.{sumTo}
-use Rattle.rules.specs.Limits.{maxBits}
+use Rattle.rules.specs.Limits.{maxBits, frameSize}
 use Rattle.rules.specs.Table.{at, bit}
 use Rattle.rules.specs.Parity.{turn, agreement}
 use Rattle.rules.specs.Input.{bitsOf}
-use Rattle.rules.specs.Limits.{frameSize}
 use Rattle.integers.specs.Signed64.{Summed, summed-none, summed-fits, summed-more, sum-next, sized}
 use Rattle.judge.proofs.CheckLaws.{bits-at}
 use Rattle.judge.proofs.sums.agreement_sum.Statement.{statement}

@@ -52,7 +52,8 @@ loop-again c =
       omega arith,
       search needs,
       fill-more (loop .members) (loop .k) (args .e) (c .member-at .result) rest test inside
-          ∙ ap (λ l. take (loop .k) (loop .members) ++ (l ++ drop (args .e) (loop .members))) (ap (λ x. x ∷ rest) (c .member-at .ensures .0) ∙ sym (numbers-more (args .code .now) (args .at) (args .e) (loop .k) test))
+          ∙ ap (λ l. take (loop .k) (loop .members) ++ (l ++ drop (args .e) (loop .members)))
+          (ap (λ x. x ∷ rest) (c .member-at .ensures .0) ∙ sym (numbers-more (args .code .now) (args .at) (args .e) (loop .k) test))
           ∙ loop .inv .2,
     )
 

@@ -58,7 +58,8 @@ loop-again c =
       search needs,
       omega (arith, total-more (args .code .now) (args .m) (loop .j) test),
       fill-more (loop .starts) (loop .j) (args .m + 1) (loop .at) (startsLeft (args .code .now) (args .m) (loop .j + 1) (loop .at + c .count-at .result)) (omega arith) inside
-          ∙ ap (λ l. take (loop .j) (loop .starts) ++ (l ++ drop (args .m + 1) (loop .starts))) (sym (starts-left-more (args .code .now) (args .m) (loop .j) (loop .at) (c .count-at .result) test count))
+          ∙ ap (λ l. take (loop .j) (loop .starts) ++ (l ++ drop (args .m + 1) (loop .starts)))
+          (sym (starts-left-more (args .code .now) (args .m) (loop .j) (loop .at) (c .count-at .result) test count))
           ∙ loop .inv .3,
     )
 

@@ -60,7 +60,8 @@ returns-4 c =
     c .check-bodies .ensures
     ∙ sym (must-holds _ _ _ _ (counts (c .before .before .before .before .before))
     ∙ must-holds _ _ _ _ (sym (c .before .before .before .before .before .before .starts-right .ensures) ∙ not-false _ (c .before .before .before .before .if2 .left))
-    ∙ must-holds _ _ _ _ (ap₂ (λ e a. eqb (length file) (a + 2 * e)) (sym (c .before .before .before .total-count .ensures)) (sym (c .before .before .contents-end .ensures)) ∙ eq-eqb _ _ (c .before .if3 .left)))
+    ∙ must-holds _ _ _ _ (ap₂ (λ e a. eqb (length file) (a + 2 * e)) (sym (c .before .before .before .total-count .ensures)) (sym (c .before .before .contents-end .ensures))
+    ∙ eq-eqb _ _ (c .before .if3 .left)))
 
 pub check-contents-spec : {M : Type 1} → statement M
 check-contents-spec =
