@@ -80,16 +80,32 @@ impl Called {
     }
 }
 
-/// The seven buffers lent to a call for rounds.
-pub struct Buffers<'a> {
-    pub spins: &'a mut [i32],
-    pub copies: &'a mut [i32],
-    pub offsets: &'a mut [i32],
-    pub multipliers: &'a mut [u32],
-    pub masks: &'a mut [u32],
-    pub word: &'a mut [u8],
-    pub certificate: &'a mut [u8],
+/// Hands a macro the buffers lent to a call for rounds: the name, the elements, and which number of `Shape`
+/// says how many of them a call needs.
+macro_rules! each_buffer {
+    ($then:ident) => {
+        $then! {
+            spins: i32, bits;
+            copies: i32, edges;
+            offsets: i32, edges;
+            multipliers: u32, checks;
+            masks: u32, checks;
+            word: u8, bits;
+            certificate: u8, certificate;
+        }
+    };
 }
+pub(crate) use each_buffer;
+
+macro_rules! lent {
+    ($($name:ident: $element:ty, $need:ident;)*) => {
+        /// The buffers lent to a call for rounds.
+        pub struct Buffers<'a> {
+            $(pub $name: &'a mut [$element],)*
+        }
+    };
+}
+each_buffer!(lent);
 
 pub trait Decoder: Sync {
     fn name(&self) -> &'static str;

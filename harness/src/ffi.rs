@@ -1,6 +1,6 @@
 //! The C interface of the proved decoder, as in its header.
 
-use crate::decoder::Record;
+use crate::decoder::{each_buffer, Record};
 
 #[repr(C)]
 pub struct Table {
@@ -89,26 +89,21 @@ extern "C" {
         offsets: *mut i32,
         offsets_len: usize,
     ) -> Called;
-    pub fn jugnayap_rounds(
-        code: *const u8,
-        code_len: usize,
-        frame: *const i16,
-        frame_len: usize,
-        run: Run,
-        wanted: u32,
-        spins: *mut i32,
-        spins_len: usize,
-        copies: *mut i32,
-        copies_len: usize,
-        offsets: *mut i32,
-        offsets_len: usize,
-        multipliers: *mut u32,
-        multipliers_len: usize,
-        masks: *mut u32,
-        masks_len: usize,
-        word: *mut u8,
-        word_len: usize,
-        certificate: *mut u8,
-        certificate_len: usize,
-    ) -> Called;
 }
+
+macro_rules! rounds {
+    ($($name:ident: $element:ty, $need:ident;)*) => {
+        extern "C" {
+            pub fn jugnayap_rounds(
+                code: *const u8,
+                code_len: usize,
+                frame: *const i16,
+                frame_len: usize,
+                run: Run,
+                wanted: u32,
+                $($name: *mut $element, _: usize,)*
+            ) -> Called;
+        }
+    };
+}
+each_buffer!(rounds);

@@ -1,6 +1,6 @@
 //! The proved decoder behind safe calls. An answer that the header does not allow is a panic.
 
-use crate::decoder::{Buffers, Called, Decoder, Record, Refusal, Sizes, Verdict};
+use crate::decoder::{each_buffer, Buffers, Called, Decoder, Record, Refusal, Sizes, Verdict};
 use crate::ffi;
 
 pub struct Proved;
@@ -89,30 +89,20 @@ impl Decoder for Proved {
     }
 
     fn rounds(&self, code: &[u8], frame: &[i16], record: Record, wanted: u32, lent: Buffers) -> Called {
-        let raw = unsafe {
-            ffi::jugnayap_rounds(
-                code.as_ptr(),
-                code.len(),
-                frame.as_ptr(),
-                frame.len(),
-                record.into(),
-                wanted,
-                lent.spins.as_mut_ptr(),
-                lent.spins.len(),
-                lent.copies.as_mut_ptr(),
-                lent.copies.len(),
-                lent.offsets.as_mut_ptr(),
-                lent.offsets.len(),
-                lent.multipliers.as_mut_ptr(),
-                lent.multipliers.len(),
-                lent.masks.as_mut_ptr(),
-                lent.masks.len(),
-                lent.word.as_mut_ptr(),
-                lent.word.len(),
-                lent.certificate.as_mut_ptr(),
-                lent.certificate.len(),
-            )
-        };
+        macro_rules! call {
+            ($($name:ident: $element:ty, $need:ident;)*) => {
+                ffi::jugnayap_rounds(
+                    code.as_ptr(),
+                    code.len(),
+                    frame.as_ptr(),
+                    frame.len(),
+                    record.into(),
+                    wanted,
+                    $(lent.$name.as_mut_ptr(), lent.$name.len(),)*
+                )
+            };
+        }
+        let raw = unsafe { each_buffer!(call) };
         let refusal = (raw.number != 0).then_some(Refusal(raw.number));
         Called { refusal, record: raw.run.into() }
     }

@@ -2,7 +2,7 @@
 
 use harness::decoder::{Called, Decoder, Record, Refusal, Sizes, Verdict};
 use harness::gen::code::{bytes_of, three_bits};
-use harness::gen::state::{Shape, State};
+use harness::gen::state::{Lengths, Shape, State};
 use harness::independent::{Independent, Plain};
 use harness::proved::Proved;
 
@@ -130,7 +130,7 @@ fn full_mask() {
 }
 
 /// A call on three bits; `change` edits record, wanted and buffers before it.
-fn call(number: u32, change: impl Fn(&mut Record, &mut u32, &mut State, &mut [usize; 7])) {
+fn call(number: u32, change: impl Fn(&mut Record, &mut u32, &mut State, &mut Lengths)) {
     for decoder in ALL {
         let mut state = State::zeroed(&Shape::of(&three_bits()).unwrap());
         let (mut record, mut wanted) = (Record::FRESH, 1);
@@ -151,7 +151,7 @@ fn call(number: u32, change: impl Fn(&mut Record, &mut u32, &mut State, &mut [us
 fn calls() {
     call(0, |_, wanted, _, _| *wanted = 0);
     call(17, |_, wanted, _, _| *wanted = 1025);
-    for buffer in 0..7 {
+    for buffer in 0..Lengths::default().len() {
         call(41, |_, _, _, lengths| lengths[buffer] -= 1);
     }
     call(42, |record, _, _, _| record.status = Record::CERTIFIED);
@@ -180,7 +180,7 @@ fn calls_in_order() {
     });
     call(41, |record, _, _, lengths| {
         record.status = Record::SPENT;
-        lengths[6] -= 1;
+        *lengths.last_mut().unwrap() -= 1;
     });
     call(42, |record, _, state, _| {
         *record = Record { rounds: 5000, status: Record::CERTIFIED };

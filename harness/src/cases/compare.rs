@@ -2,7 +2,7 @@
 
 use super::{Answer, Case, Run};
 use crate::decoder::{Decoder, Record};
-use crate::gen::state::State;
+use crate::gen::state::{Lengths, State};
 use std::collections::BTreeMap;
 
 /// How often each call gave each kind of answer.
@@ -50,14 +50,14 @@ struct Side<'a> {
 }
 
 impl Side<'_> {
-    fn start(&mut self, run: &Run, lengths: &[usize; 7]) -> Answer {
+    fn start(&mut self, run: &Run, lengths: &Lengths) -> Answer {
         let lent = self.state.lend(lengths);
         let answer = self.decoder.start(&run.code, lent.copies, lent.offsets);
         self.record = answer.unwrap_or(self.record);
         Answer::Start(answer)
     }
 
-    fn call(&mut self, run: &Run, wanted: u32, lengths: &[usize; 7]) -> Answer {
+    fn call(&mut self, run: &Run, wanted: u32, lengths: &Lengths) -> Answer {
         let lent = self.state.lend(lengths);
         let called = self.decoder.rounds(&run.code, &run.frame, self.record, wanted, lent);
         self.record = called.record;
@@ -85,17 +85,7 @@ fn compare_run(decoders: &[&dyn Decoder], run: &Run, tally: &mut Tally) -> Resul
 fn same_buffers(sides: &[Side]) -> Result<(), String> {
     let first = &sides[0];
     for other in &sides[1..] {
-        let (a, b) = (&first.state, &other.state);
-        let differs = [
-            ("spins", a.spins != b.spins),
-            ("copies", a.copies != b.copies),
-            ("offsets", a.offsets != b.offsets),
-            ("multipliers", a.multipliers != b.multipliers),
-            ("masks", a.masks != b.masks),
-            ("word", a.word != b.word),
-            ("certificate", a.certificate != b.certificate),
-        ];
-        if let Some((buffer, _)) = differs.iter().find(|(_, differs)| *differs) {
+        if let Some(buffer) = first.state.differing(&other.state) {
             return Err(format!("{buffer} of {} and {} differ", first.decoder.name(), other.decoder.name()));
         }
     }

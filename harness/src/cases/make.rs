@@ -4,7 +4,7 @@ use super::{Case, Run};
 use crate::decoder::Record;
 use crate::gen::certificate::{self, Draft};
 use crate::gen::rng::Rng;
-use crate::gen::state::{lent_lengths, Shape, State};
+use crate::gen::state::{lent_lengths, Lengths, Shape, State};
 use crate::gen::{code, damage, frame};
 use crate::independent::limits::ROUND_LIMIT;
 use crate::independent::table::Table;
@@ -115,7 +115,7 @@ fn wanted(rng: &mut Rng, shape: &Shape) -> u32 {
     }
 }
 
-fn calls(rng: &mut Rng, shape: &Shape, state: &State) -> Vec<(u32, [usize; 7])> {
+fn calls(rng: &mut Rng, shape: &Shape, state: &State) -> Vec<(u32, Lengths)> {
     let count = rng.between(1, 5);
     (0..count).map(|_| (wanted(rng, shape), lent_lengths(rng, shape, state))).collect()
 }

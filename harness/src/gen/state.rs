@@ -1,7 +1,7 @@
 //! Lent buffers with guards, and half-done runs.
 
 use super::rng::Rng;
-use crate::decoder::{Buffers, Record, Refusal};
+use crate::decoder::{each_buffer, Buffers, Record, Refusal};
 use crate::independent::limits::{certificate_length, OFFSET_STEP, ROUND_LIMIT, UNIT};
 use crate::independent::table::Table;
 
@@ -42,48 +42,60 @@ pub struct Shape {
     pub bits: usize,
     pub checks: usize,
     pub edges: usize,
+    pub certificate: usize,
 }
 
 impl Shape {
     pub fn of(code: &[u8]) -> Result<Shape, Refusal> {
         let table = Table::parse(code)?;
-        Ok(Shape { bits: table.bits, checks: table.checks(), edges: table.edges() })
-    }
-
-    /// The lengths a call needs: spins, copies, offsets, multipliers, masks, word, certificate.
-    pub fn lengths(&self) -> Lengths {
-        let Shape { bits, checks, edges } = *self;
-        [bits, edges, edges, checks, checks, bits, certificate_length(checks)]
+        let (checks, edges) = (table.checks(), table.edges());
+        Ok(Shape { bits: table.bits, checks, edges, certificate: certificate_length(checks) })
     }
 }
 
-/// How much of each buffer is lent, in the order of `State`.
-pub type Lengths = [usize; 7];
+macro_rules! buffers {
+    ($($name:ident: $element:ty, $need:ident;)*) => {
+        /// How much of each buffer is lent, in the order of `State`.
+        pub type Lengths = [usize; [$(stringify!($name)),*].len()];
 
-#[derive(Clone, PartialEq, Eq)]
-pub struct State {
-    pub spins: Guarded<i32>,
-    pub copies: Guarded<i32>,
-    pub offsets: Guarded<i32>,
-    pub multipliers: Guarded<u32>,
-    pub masks: Guarded<u32>,
-    pub word: Guarded<u8>,
-    pub certificate: Guarded<u8>,
+        #[derive(Clone, PartialEq, Eq)]
+        pub struct State {
+            $(pub $name: Guarded<$element>,)*
+        }
+
+        impl Shape {
+            /// The lengths a call needs.
+            pub fn lengths(&self) -> Lengths {
+                [$(self.$need),*]
+            }
+        }
+
+        impl State {
+            fn filled(lengths: Lengths, mut fill: impl FnMut() -> u64) -> State {
+                let [$($name),*] = lengths;
+                State { $($name: Guarded::new($name, || fill() as $element),)* }
+            }
+
+            pub fn lengths(&self) -> Lengths {
+                [$(self.$name.len()),*]
+            }
+
+            pub fn lend(&mut self, lengths: &Lengths) -> Buffers<'_> {
+                let [$($name),*] = *lengths;
+                Buffers { $($name: self.$name.first($name),)* }
+            }
+
+            /// The first buffer that is not the other's.
+            pub fn differing(&self, other: &State) -> Option<&'static str> {
+                let differs = [$((stringify!($name), self.$name != other.$name)),*];
+                differs.into_iter().find(|(_, differs)| *differs).map(|(name, _)| name)
+            }
+        }
+    };
 }
+each_buffer!(buffers);
 
 impl State {
-    fn filled(lengths: Lengths, mut fill: impl FnMut() -> u64) -> State {
-        State {
-            spins: Guarded::new(lengths[0], || fill() as i32),
-            copies: Guarded::new(lengths[1], || fill() as i32),
-            offsets: Guarded::new(lengths[2], || fill() as i32),
-            multipliers: Guarded::new(lengths[3], || fill() as u32),
-            masks: Guarded::new(lengths[4], || fill() as u32),
-            word: Guarded::new(lengths[5], || fill() as u8),
-            certificate: Guarded::new(lengths[6], || fill() as u8),
-        }
-    }
-
     pub fn zeroed(shape: &Shape) -> State {
         State::filled(shape.lengths(), || 0)
     }
@@ -92,24 +104,6 @@ impl State {
     pub fn random(rng: &mut Rng, shape: &Shape) -> State {
         let lengths = shape.lengths().map(|length| length + rng.pick(&[0, 0, 1, 9]));
         State::filled(lengths, || rng.draw())
-    }
-
-    pub fn lengths(&self) -> Lengths {
-        let edges = [self.copies.len(), self.offsets.len()];
-        let checks = [self.multipliers.len(), self.masks.len()];
-        [self.spins.len(), edges[0], edges[1], checks[0], checks[1], self.word.len(), self.certificate.len()]
-    }
-
-    pub fn lend(&mut self, lengths: &Lengths) -> Buffers<'_> {
-        Buffers {
-            spins: self.spins.first(lengths[0]),
-            copies: self.copies.first(lengths[1]),
-            offsets: self.offsets.first(lengths[2]),
-            multipliers: self.multipliers.first(lengths[3]),
-            masks: self.masks.first(lengths[4]),
-            word: self.word.first(lengths[5]),
-            certificate: self.certificate.first(lengths[6]),
-        }
     }
 
     pub fn lend_all(&mut self) -> Buffers<'_> {
