@@ -1,4 +1,4 @@
-/* Answer, record and all seven buffers of starts and calls for rounds, held to document 01's numbers and
+/* Answer, record and all buffers of starts and calls for rounds, held to document 01's numbers and
  * to what follows from them by its steps. Says what differs; exit status 0 only if nothing does. */
 #include <string.h>
 
@@ -14,19 +14,31 @@ static const JugnayapRun fresh = {.rounds = 0, .status = JUGNAYAP_RUNNING};
 /* Each buffer is lent with one element more than is needed, and has one more that is not lent. */
 enum { LENT = 1, SPARE = 2 };
 
+/* The buffers of a call for rounds, in its order: elements, name, how many are needed, and the first of the
+ * numbers that no call writes to it. */
+#define EACH_BUFFER(buffer) \
+    buffer(int32_t, spins, BITS, 10000000) \
+    buffer(int32_t, copies, EDGES, 20000000) \
+    buffer(int32_t, offsets, EDGES, 30000000) \
+    buffer(uint32_t, multipliers, CHECKS, 40000000) \
+    buffer(uint32_t, masks, CHECKS, 50000000) \
+    buffer(uint8_t, word, BITS, 100) \
+    buffer(uint8_t, certificate, CERTIFICATE, 200)
+
+#define ARRAY(element, name, need, first) element name[need + SPARE];
 typedef struct {
-    int32_t spins[BITS + SPARE], copies[EDGES + SPARE], offsets[EDGES + SPARE];
-    uint32_t multipliers[CHECKS + SPARE], masks[CHECKS + SPARE];
-    uint8_t word[BITS + SPARE], certificate[CERTIFICATE + SPARE];
+    EACH_BUFFER(ARRAY)
 } Buffers;
 
+#define LENGTH(element, name, need, first) size_t name;
 typedef struct {
-    size_t spins, copies, offsets, multipliers, masks, word, certificate;
+    EACH_BUFFER(LENGTH)
 } Lengths;
 
-static const Lengths needed = {BITS, EDGES, EDGES, CHECKS, CHECKS, BITS, CERTIFICATE};
-static const Lengths lent = {BITS + LENT,   EDGES + LENT, EDGES + LENT,      CHECKS + LENT,
-                             CHECKS + LENT, BITS + LENT,  CERTIFICATE + LENT};
+#define NEEDED(element, name, need, first) need,
+#define MORE(element, name, need, first) need + LENT,
+static const Lengths needed = {EACH_BUFFER(NEEDED)};
+static const Lengths lent = {EACH_BUFFER(MORE)};
 static const Lengths none = {0};
 
 static void same_called(const char *call, JugnayapCalled got, JugnayapCalled wanted)
@@ -38,33 +50,18 @@ static void same_called(const char *call, JugnayapCalled got, JugnayapCalled wan
 
 static void same_buffers(const char *call, Buffers got, Buffers wanted)
 {
-    SAME_ALL(spins);
-    SAME_ALL(copies);
-    SAME_ALL(offsets);
-    SAME_ALL(multipliers);
-    SAME_ALL(masks);
-    SAME_ALL(word);
-    SAME_ALL(certificate);
+#define SAME_BUFFER(element, name, need, first) SAME_ALL(name);
+    EACH_BUFFER(SAME_BUFFER)
 }
 
 /* Numbers that no call writes, different in each buffer; the copies and offsets are of no run. */
 static Buffers junk(void)
 {
     Buffers b;
-    for (int i = 0; i < BITS + SPARE; i++) {
-        b.spins[i] = 10000000 + i;
-        b.word[i] = (uint8_t)(100 + i);
-    }
-    for (int i = 0; i < EDGES + SPARE; i++) {
-        b.copies[i] = 20000000 + i;
-        b.offsets[i] = 30000000 + i;
-    }
-    for (int i = 0; i < CHECKS + SPARE; i++) {
-        b.multipliers[i] = (uint32_t)(40000000 + i);
-        b.masks[i] = (uint32_t)(50000000 + i);
-    }
-    for (int i = 0; i < CERTIFICATE + SPARE; i++)
-        b.certificate[i] = (uint8_t)(200 + i);
+#define FILL(element, name, need, first) \
+    for (int i = 0; i < need + SPARE; i++) \
+        b.name[i] = (element)(first + i);
+    EACH_BUFFER(FILL)
     return b;
 }
 
@@ -124,9 +121,14 @@ static void starts(void)
 
 static JugnayapCalled rounds(const int16_t *frame, JugnayapRun run, uint32_t wanted, Lengths n, Buffers *b)
 {
-    return jugnayap_rounds(code, sizeof code, frame, BITS, run, wanted, b->spins, n.spins, b->copies,
-                           n.copies, b->offsets, n.offsets, b->multipliers, n.multipliers, b->masks,
-                           n.masks, b->word, n.word, b->certificate, n.certificate);
+#define LEND(element, name, need, first) , b->name, n.name
+    return jugnayap_rounds(code, sizeof code, frame, BITS, run, wanted EACH_BUFFER(LEND));
+}
+
+static JugnayapCalled rounds_on_nothing(const int16_t *frame, size_t frame_len, JugnayapRun run, uint32_t wanted)
+{
+#define LEND_NONE(element, name, need, first) , NULL, 0
+    return jugnayap_rounds(code, sizeof code, frame, frame_len, run, wanted EACH_BUFFER(LEND_NONE));
 }
 
 /* Document 01's first reference frame, a round at a time. */
@@ -237,22 +239,13 @@ static void refused_lengths(void)
 {
     const JugnayapRun run = {.rounds = 2, .status = 9};
     Lengths n = needed;
-    const struct {
-        const char *call;
-        size_t *length;
-    } cases[] = {{"spins short", &n.spins},     {"copies short", &n.copies},
-                 {"offsets short", &n.offsets}, {"multipliers short", &n.multipliers},
-                 {"masks short", &n.masks},     {"word short", &n.word},
-                 {"certificate short", &n.certificate}};
-    for (size_t i = 0; i < COUNT(cases); i++) {
-        --*cases[i].length;
-        refused(cases[i].call, 41, run, 1, n, started());
-        ++*cases[i].length;
-    }
+#define SHORT(element, name, need, first) \
+    n.name--; \
+    refused(#name " short", 41, run, 1, n, started()); \
+    n.name++;
+    EACH_BUFFER(SHORT)
     refused("nothing lent", 41, run, 1, none, started());
-    same_called("nothing lent, NULL",
-                jugnayap_rounds(code, sizeof code, leaning, BITS, run, 1, NULL, 0, NULL, 0, NULL, 0, NULL, 0,
-                                NULL, 0, NULL, 0, NULL, 0),
+    same_called("nothing lent, NULL", rounds_on_nothing(leaning, BITS, run, 1),
                 (JugnayapCalled){.number = 41, .run = run});
 }
 
@@ -275,9 +268,7 @@ static void refused_frames(void)
     Buffers b = started();
     same_called("frame out of range", rounds(too_large, run, 1025, lent, &b),
                 (JugnayapCalled){.number = 9, .run = run});
-    same_called("no frame, no buffers",
-                jugnayap_rounds(code, sizeof code, NULL, 0, run, 1025, NULL, 0, NULL, 0, NULL, 0, NULL, 0,
-                                NULL, 0, NULL, 0, NULL, 0),
+    same_called("no frame, no buffers", rounds_on_nothing(NULL, 0, run, 1025),
                 (JugnayapCalled){.number = 8, .run = run});
     same_buffers("refused frames", b, started());
 }
