@@ -1,8 +1,8 @@
 """Scripts of kind case_calls: the calls as bytes, and the program that plays them.
 
-The program keeps one record and seven buffers of fixed capacity from call to call; a call is
+The program keeps one record and buffers of fixed capacity from call to call; a call is
 lent the first so many elements of each.  After a start or a call for rounds one line tells
-the answer, the record and a checksum of all seven whole buffers, so that every element past
+the answer, the record and a checksum of all whole buffers, so that every element past
 the stated lengths is watched too (document 01: 'Bytes past the stated lengths never change').
 """
 
@@ -16,8 +16,17 @@ from packing import block, counted, i32, u8, u32
 from rounds import CERTIFIED, RUNNING, SPENT, Buffers, Record, buffer_lengths
 from table import parse_code_file
 
-CAPACITY = Buffers(spins=2100, copies=8300, offsets=8300, multipliers=2100, masks=2100,
-                   word=2100, certificate=20600)
+# A buffer of the program: its elements' name, how many there are, how one is packed, and junk.
+Kept = namedtuple("Kept", "element capacity pack junk")
+
+KEPT = Buffers(spins=Kept("spin", 2100, i32, -7),
+               copies=Kept("copy", 8300, i32, 9999),
+               offsets=Kept("offset", 8300, i32, 123456),
+               multipliers=Kept("multiplier", 2100, u32, 77),
+               masks=Kept("mask", 2100, u32, 88),
+               word=Kept("word", 2100, u8, 3),
+               certificate=Kept("certificate", 20600, u8, 170))
+CAPACITY = Buffers(*(kept.capacity for kept in vars(KEPT).values()))
 STATUSES = (RUNNING, CERTIFIED, SPENT)
 
 
@@ -74,14 +83,13 @@ def take_back(whole, part):
     whole[:len(part)] = part
 
 
-class Fill(namedtuple("Fill", "spin copy offset multiplier mask word certificate rounds status",
-                      defaults=(-7, 9999, 123456, 77, 88, 3, 170, 0, RUNNING))):
+class Fill(namedtuple("Fill", [kept.element for kept in vars(KEPT).values()] + ["rounds", "status"],
+                      defaults=[kept.junk for kept in vars(KEPT).values()] + [0, RUNNING])):
     """Sets every element of every buffer, and the record.  The defaults are junk."""
 
     def pack(self):
-        return (u8(0) + i32(self.spin) + i32(self.copy) + i32(self.offset) + u32(self.multiplier)
-                + u32(self.mask) + u8(self.word) + u8(self.certificate) + u32(self.rounds)
-                + u8(STATUSES.index(self.status)))
+        elements = (kept.pack(value) for kept, value in zip(vars(KEPT).values(), self))
+        return u8(0) + b"".join(elements) + u32(self.rounds) + u8(STATUSES.index(self.status))
 
     def play(self, program):
         program.whole = Buffers(*([value] * capacity

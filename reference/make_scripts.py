@@ -1,5 +1,7 @@
 """Scripts of fresh runs: every ending, every way to split a run, tables at their limits."""
 
+from itertools import cycle
+
 import make_inputs as inputs
 import make_runs
 import make_tables as tables
@@ -29,7 +31,9 @@ LATE_RUNS = [(1024, TWO_TRIANGLES, [6, -6, -4, 3, 5]), (1024, TWO_TRIANGLES, [4,
 
 def document_runs():
     """Document 01's frames round by round, until the ended run refuses."""
-    script, extremes = [], Fill(-2**31, 2**31 - 1, -2**31, 2**32 - 1, 2**32 - 1, 255, 255)
+    extremes = Fill(spin=-2**31, copy=2**31 - 1, offset=-2**31, multiplier=2**32 - 1,
+                    mask=2**32 - 1, word=255, certificate=255)
+    script = []
     for table, frame in DOCUMENT_RUNS:
         script += fresh(table, frame) + calls([1] * 4, exact(table))
         script += fresh(table, frame, extremes) + calls([1024, 0], CAPACITY)
@@ -98,7 +102,7 @@ def limit_tables(rng):
     one for each table), all that there is."""
     script = []
     large = tables.limit_tables(rng)[:6] + [tables.half_rate(rng)]
-    for table, name in zip(large, make_runs.BUFFER_NAMES, strict=True):
+    for table, name in zip(cycle(large), make_runs.BUFFER_NAMES):
         lengths = exact(table)
         script += fresh(table, inputs.channel_frame(rng, table[0], 3000, 3000))
         short = changed(lengths, **{name: vars(lengths)[name] - 1})
@@ -143,7 +147,7 @@ def list_pairs(rng, count):
     for table in tables.small_tables(rng, count):
         frame, listed = inputs.lively_frame(rng, table[0]), random_calls(rng, exact(table))
         negated = inputs.negated_under(frame, rng.choice(inputs.codewords(table)))
-        fill = Fill(*(rng.between(0, 255) for _ in range(7)))
+        fill = Fill(*(rng.between(0, 255) for _ in make_runs.BUFFER_NAMES))
         pairs.append((fresh(table, frame, fill) + listed, fresh(table, negated, fill) + listed))
     return pairs
 
