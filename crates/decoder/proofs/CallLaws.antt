@@ -10,18 +10,19 @@ use Rattle.rules.specs.Limits.{frameLimit, maxChecks, maxEdges}
 use Rattle.rules.specs.Refusal.{Answer, refused, gives, multiplierLarge}
 use Rattle.rules.specs.Table.{Table, edges, edgesOf, checksOf}
 use Rattle.rules.specs.CodeFile.{codeFile}
-use Rattle.rules.specs.Buffers.{Lengths, lent, lengthsOf, needs, over}
+use Rattle.rules.specs.Buffers.{Buffers, by-name, lengthsOf, needs, over}
 use Rattle.rules.specs.Run.{Status, running, certified, spent, Progress, Run, stateIn, iterate, isRunning, answerAt, refusedAt, perform, callOn, callBy, call, Safe}
 use Rattle.rules.proofs.AnswerLaws.{refused≢gives, gives-inj}
 use Rattle.rules.proofs.Tables.{file-sound}
-use Rattle.rules.proofs.BufferLaws.{by-name, fits-part}
+use Rattle.rules.proofs.BufferLaws.{fits-part}
 use Rattle.rules.proofs.Counted.{all-counted}
 use Rattle.table.specs.Starts.{startsOf}
 use Rattle.table.specs.Layout.{tableOf, Opened}
 use Rattle.table.proofs.LayoutLaws.{laid-opened}
 use Rattle.cut.proofs.ReplyLaws.{each-all}
 use Rattle.run.specs.declared.Admitted.{Admitted}
-use Rattle.run.specs.Admitted.{Sizes, lentOf, admittedOf, sizesOf, Admission, admissionBy, admission}
+use Rattle.run.specs.declared.Admitted.the-variants.{Refused, Sized}
+use Rattle.run.specs.Admitted.{Sizes, lentOf, toldOf, admittedOf, sizesOf, Admission, admissionBy, admission}
 use Rattle.run.proofs.AdmitLaws.{Admits, admits-refused, admits-gives, admission-room, sound-safe}
 use Rattle.decoder.specs.Finished.{PartsFit}
 
@@ -30,10 +31,14 @@ abbrev admissionOf : Answer Table → List ℤ → ℕ → Run → List ℕ → 
 admissionOf a l wanted r ss ms = admissionBy a l wanted (lengthsOf (r .buffers)) (r .progress) (r .buffers .copies) (r .buffers .offsets) ss ms
 
 abbrev pub admissionIn : List ℕ → List ℤ → ℕ → Run → List ℕ → List ℕ → Admission
-admissionIn file l wanted r ss ms = admission file l wanted (lengthsOf (r .buffers)) (r .progress) (r .buffers .copies) (r .buffers .offsets) ss ms
+admissionIn file l wanted r ss ms = admission file l wanted (lentOf (toldOf (r .buffers)) (r .buffers .copies) (r .buffers .offsets)) (r .progress) (r .buffers .copies) (r .buffers .offsets) ss ms
+
+told-lengths : (b : Buffers) → lentOf (toldOf b) (b .copies) (b .offsets) ≡ lengthsOf b
+told-lengths b = fun-ext (by-name (search))
 
 roomy-in : (file : List ℕ) (l : List ℤ) (wanted : ℕ) (r : Run) (ss ms : List ℕ) → maxChecks < length ss → maxEdges ≤ length ms → admissionIn file l wanted r ss ms ≡ admissionOf (codeFile file) l wanted r ss ms
-roomy-in file l wanted r ss ms hs hm = admission-room file ss ms hs hm l wanted (lengthsOf (r .buffers)) (r .progress) (r .buffers .copies) (r .buffers .offsets)
+roomy-in file l wanted r ss ms hs hm = admission-room file ss ms hs hm l wanted (lentOf (toldOf (r .buffers)) (r .buffers .copies) (r .buffers .offsets)) (r .progress) (r .buffers .copies) (r .buffers .offsets)
+    ∙ ap (λ n. admissionBy (codeFile file) l wanted n (r .progress) (r .buffers .copies) (r .buffers .offsets) ss ms) (told-lengths (r .buffers))
 
 -- ---- refused
 module _ (file : List ℕ) (l : List ℤ) (wanted : ℕ) (r : Run) (ss ms : List ℕ) where
@@ -45,7 +50,7 @@ module _ (file : List ℕ) (l : List ℤ) (wanted : ℕ) (r : Run) (ss ms : List
       same k j e = let z : k ≡ j = cc in ap refused z
   refused-by k (gives t) e = sym (ap (perform t l wanted r) (admits-refused t l wanted (lengthsOf (r .buffers)) r k (sym e)))
 
-  pub call-refused : (k : ℕ) (ss' ms' : List ℕ) → record { answer = refused k; starts = ss'; members = ms' } ≡ admissionIn file l wanted r ss ms
+  call-refused : (k : ℕ) (ss' ms' : List ℕ) → record { answer = refused k; starts = ss'; members = ms' } ≡ admissionIn file l wanted r ss ms
       → maxChecks < length ss → maxEdges ≤ length ms → refusedAt k r ≡ call file l wanted r
   unfolding call
   call-refused k ss' ms' e hs hm = refused-by k (codeFile file) (ap (λ a. a .answer) (e ∙ roomy-in file l wanted r ss ms hs hm))
@@ -140,19 +145,26 @@ module _ (file : List ℕ) (l : List ℤ) (wanted : ℕ) (r : Run) (ss ms : List
 module _ (file : List ℕ) (l : List ℤ) (wanted : ℕ) (r : Run) (ss ms : List ℕ) (n m e : ℕ) (ss' ms' : List ℕ)
     (f : record { answer = gives (record { bits = n; checks = m; edges = e }); starts = ss'; members = ms' } ≡ admissionIn file l wanted r ss ms)
     (hs : maxChecks < length ss) (hm : maxEdges ≤ length ms) where
-  pub admitted-fit : PartsFit n m e l ss' ms' r
+  admitted-fit : PartsFit n m e l ss' ms' r
   admitted-fit = admitted-good file l wanted r ss ms hs hm n m e ss' ms' f .0
 
-  pub admitted-call : Done file l wanted r n m e ss' ms'
+  admitted-call : Done file l wanted r n m e ss' ms'
   admitted-call = admitted-good file l wanted r ss ms hs hm n m e ss' ms' f .1
 
--- ---- the case that the code's answer was found to be, with what is lent told in the code's way or by the buffers
-pub lent-lengths : (s z y : List ℤ) (b k w c : List ℕ)
-    → lentOf (record { spins = length s; multipliers = length b; masks = length k; word = length w; certificate = length c }) z y ≡ lengthsOf (lent s z y b k w c)
-lent-lengths s z y b k w c = fun-ext (by-name (λ x. lentOf (record { spins = length s; multipliers = length b; masks = length k; word = length w; certificate = length c }) z y x
-    ≡ lengthsOf (lent s z y b k w c) x) refl refl refl refl refl refl refl)
+-- ---- by the case that the code's answer a was found to be
+module _ (file : List ℕ) (l : List ℤ) (wanted : ℕ) (r : Run) (ss ms : List ℕ) (a : Admitted) (ss' ms' : List ℕ) where
+  pub found-refused : (k : ℕ) → a ≡ Refused k → record { answer = admittedOf a; starts = ss'; members = ms' } ≡ admissionIn file l wanted r ss ms
+      → maxChecks < length ss → maxEdges ≤ length ms → refusedAt k r ≡ call file l wanted r
+  found-refused k f e = call-refused file l wanted r ss ms k ss' ms' (ap (λ x. record { answer = admittedOf x; starts = ss'; members = ms' }) (sym f) ∙ e)
 
-module _ (file : List ℕ) (l : List ℤ) (wanted : ℕ) (m n : Lengths) (p : Progress) (z y : List ℤ) (ss ms ss' ms' : List ℕ) where
-  pub told : (a b : Admitted) → a ≡ b → m ≡ n → record { answer = admittedOf a; starts = ss'; members = ms' } ≡ admission file l wanted m p z y ss ms
-      → record { answer = admittedOf b; starts = ss'; members = ms' } ≡ admission file l wanted n p z y ss ms
-  told a b f g e = ap (λ x. record { answer = admittedOf x; starts = ss'; members = ms' }) (sym f) ∙ e ∙ ap (λ k. admission file l wanted k p z y ss ms) g
+  module _ (n m z : ℕ) (f : a ≡ Sized n m z) (e : record { answer = admittedOf a; starts = ss'; members = ms' } ≡ admissionIn file l wanted r ss ms)
+      (hs : maxChecks < length ss) (hm : maxEdges ≤ length ms) where
+    sized : record { answer = gives (record { bits = n; checks = m; edges = z }); starts = ss'; members = ms' } ≡ admissionIn file l wanted r ss ms
+    sized = ap (λ x. record { answer = admittedOf x; starts = ss'; members = ms' }) (sym f) ∙ e
+
+    pub found-fit : PartsFit n m z l ss' ms' r
+    found-fit = admitted-fit file l wanted r ss ms n m z ss' ms' sized hs hm
+
+    pub found-call : (x : Answer Status) (q : Run) → q ≡ iterate (tableOf n (take (m + 1) ss') (take z ms')) l wanted r → x ≡ gives (q .progress .status)
+        → record { answer = x; run = q } ≡ call file l wanted r
+    found-call = admitted-call file l wanted r ss ms n m z ss' ms' sized hs hm

@@ -1,5 +1,6 @@
 -- A frame's run on blank buffers that are long enough for every table, and its line. Assumes nothing.
 use mathlib.Core.Path.{_≡_, refl, sym, _∙_, ap, ap₂}
+use mathlib.Core.Bool.{cond}
 use mathlib.Core.List.{List}
 use Prim.Native.Nat.{ℕ, _≤_}
 use native.Mathlib.Omega.{arith}
@@ -13,13 +14,12 @@ use Rattle.rules.specs.Table.{Table}
 use Rattle.rules.specs.CodeFile.{codeFile}
 use Rattle.rules.specs.Sound.{Sound}
 use Rattle.rules.specs.Judge.{passes, agreementOf}
-use Rattle.rules.specs.Buffers.{word, certificate, Buffers, lent, lengthsOf, needs, Part, blank, write, startLent, fitsStart, zeroing}
+use Rattle.rules.specs.Buffers.{by-name, word, certificate, Buffers, the, each, zeroed, lengthsOf, needs, Part, blank, write, startLent, fitsStart, zeroing}
 use Rattle.rules.specs.Run.{Status, running, certified, spent, Progress, fresh, Called, callBy, call, startBy, start}
 use Rattle.rules.specs.Calls.{startedRun}
 use Rattle.rules.specs.Report.{refusedLine, certifiedLine, lineAt, frameLine}
 use Rattle.rules.proofs.AnswerLaws.{refused≢gives, gives-inj}
 use Rattle.rules.proofs.Tables.{file-sound}
-use Rattle.rules.proofs.BufferLaws.{by-name}
 use Rattle.rules.proofs.CallPasses.{call-passes}
 use Rattle.rules.proofs.Fresh.{zero-room, started-on}
 use Rattle.rules.proofs.ReportLaws.{blank-line, refused-line, Asked, judged-asked}
@@ -78,7 +78,7 @@ module _ (file : List ℕ) (b : Buffers) (h : maxEdges ≤ length (b .copies)) (
 
 -- these buffers, with what a start has left of those that it was lent
 abbrev pub withStarted : Buffers → Buffers → Buffers
-withStarted b s = lent (b .spins) (s .copies) (s .offsets) (b .multipliers) (b .masks) (b .word) (b .certificate)
+withStarted b s = each (λ x. cond (zeroed x) (the x s) (the x b))
 
 -- ---- the code's run: s is what a start answered, d what it left of the copies and offsets
 module _ (file : List ℕ) (l : List ℤ) (b : Buffers) (h : maxEdges ≤ length (b .copies)) (k : maxEdges ≤ length (b .offsets))
@@ -118,7 +118,7 @@ module _ (file : List ℕ) (l : List ℤ) (b : Buffers) (h : maxEdges ≤ length
 
 -- ---- and the line
 enough : (t : Table) → Sound t → Part (needs t) greatest
-enough t s = by-name (λ x. needs t x ≤ greatest x) (s .bits .1) (s .few) (s .few) (s .checks .1) (s .checks .1) (s .bits .1) (omega (arith, s .checks .1))
+enough t s = by-name (search arith)
 
 module _ (file : List ℕ) (l : List ℤ) where
   run : Called

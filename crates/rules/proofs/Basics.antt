@@ -15,6 +15,12 @@ pub and-both : (a b : Bool) → a && b ≡ true → (a ≡ true) × (b ≡ true)
 and-both true b e = (refl, e)
 and-both false b e = absurd (false≢true e)
 
+pub and-first : (a b : Bool) → a && b ≡ true → a ≡ true
+and-first a b e = and-both a b e .0
+
+pub and-rest : (a b : Bool) → a && b ≡ true → b ≡ true
+and-rest a b e = and-both a b e .1
+
 pub or-false : (a b : Bool) → a || b ≡ false → (a ≡ false) × (b ≡ false)
 or-false true b e = absurd (true≢false e)
 or-false false b e = (refl, e)

@@ -11,8 +11,8 @@ use borrow.Author.Tests.{leb-true, le-leb}
 use lib.ListN.{length, take, drop, length-drop, length-append, take-append-drop, drop-of-length-le}
 use lib.Seq.{length-take-le, take-all, take-at, drop-drop}
 use lib.IntN.{ℤ}
-use Rattle.rules.specs.Buffers.{Buffer, spins, copies, offsets, multipliers, masks, word, certificate, Elem, Buffers, the, each, every, Lengths, lengthsOf, Part, fits, partOf, over, overAll, Writes, overBy, write}
-use Rattle.rules.proofs.Basics.{and-both}
+use Rattle.rules.specs.Buffers.{Buffer, by-name, Elem, Buffers, the, each, every, Lengths, lengthsOf, Part, fits, partOf, over, overAll, Writes, overBy, write}
+use Rattle.rules.proofs.Basics.{and-first, and-rest}
 
 -- ---- one list
 -- a part given back unchanged
@@ -75,31 +75,14 @@ over-past : {A : Type 0} (n : ℕ) (xs ys : List A) → n ≤ length ys → Past
 over-past n xs ys h p = ap (λ k. take n xs ++ drop k ys) (length-take-le n xs (subst (λ k. n ≤ k) (sym (p .size)) h)) ∙ ap (λ l. take n xs ++ l) (sym (p .rest)) ∙ take-append-drop n xs
 
 -- ---- all buffers, each by its name
-pub by-name : (P : Buffer → Type 0) → P spins → P copies → P offsets → P multipliers → P masks → P word → P certificate → (x : Buffer) → P x
-by-name P p z y b k w c spins = p
-by-name P p z y b k w c copies = z
-by-name P p z y b k w c offsets = y
-by-name P p z y b k w c multipliers = b
-by-name P p z y b k w c masks = k
-by-name P p z y b k w c word = w
-by-name P p z y b k w c certificate = c
-
 pub the-each : (f : (x : Buffer) → List (Elem x)) (x : Buffer) → the x (each f) ≡ f x
-the-each f = by-name (λ x. the x (each f) ≡ f x) refl refl refl refl refl refl refl
+the-each f = by-name (search)
 
 pub buffers-eq : {a b : Buffers} → ((x : Buffer) → the x a ≡ the x b) → a ≡ b
 buffers-eq h = λ i. each (λ x. h x i)
 
 pub every-true : (p : Buffer → Bool) → every p ≡ true → (x : Buffer) → p x ≡ true
-every-true p e1 =
-    let e2 = and-both (p spins) _ e1 .1 in
-    let e3 = and-both (p copies) _ e2 .1 in
-    let e4 = and-both (p offsets) _ e3 .1 in
-    let e5 = and-both (p multipliers) _ e4 .1 in
-    let e6 = and-both (p masks) _ e5 .1 in
-    let e7 = and-both (p word) _ e6 in
-    by-name (λ x. p x ≡ true) (and-both (p spins) _ e1 .0) (and-both (p copies) _ e2 .0) (and-both (p offsets) _ e3 .0) (and-both (p multipliers) _ e4 .0)
-    (and-both (p masks) _ e5 .0) (e7 .0) (e7 .1)
+every-true p e = by-name (search (and-first, and-rest) depth 8)
 
 pub true-every : (p : Buffer → Bool) → ((x : Buffer) → p x ≡ true) → every p ≡ true
 true-every p h = λ i. every (λ x. h x i)

@@ -16,14 +16,14 @@ use Rattle.rules.specs.Step.{Entry}
 use Rattle.rules.specs.Bound.{Row, rowsOf, gap}
 use Rattle.rules.specs.Round.{State, entriesIn, bitOf, join, candidate, isZero, certify, firstOf, Round, round}
 use Rattle.rules.specs.Certificate.{cutsIn, certificateOf}
-use Rattle.rules.specs.Buffers.{Buffer, copies, offsets, Elem, Buffers, Lengths, lengthsOf, Part, needs, partOf, multipliersOf, masksOf, bytesOf, wordLeft, certificateLeft, leaves}
+use Rattle.rules.specs.Buffers.{Buffer, by-name, copies, offsets, Elem, Buffers, Lengths, lengthsOf, Part, needs, partOf, multipliersOf, masksOf, bytesOf, wordLeft, certificateLeft, leaves}
 use Rattle.rules.specs.Run.{written, stateIn}
 use Rattle.rules.proofs.Basics.{none≢some, some-inj}
 use Rattle.rules.proofs.Pass.{spinsIn, stepsIn, steps-laid, entries-length, copies-length, offsets-length}
 use Rattle.rules.proofs.Optimal.{keep-is}
 use Rattle.rules.proofs.Written.{cuts-few, certificate-length}
 use Rattle.rules.proofs.WrittenPasses.{bytes-length}
-use Rattle.rules.proofs.BufferLaws.{take-over, by-name, AllPast, Small, write-past, write-part}
+use Rattle.rules.proofs.BufferLaws.{take-over, AllPast, Small, write-past, write-part}
 
 -- ---- lengths
 pub first-length : (n : ℕ) (f : ℕ → ℤ) → length (firstOf n f) ≡ n
@@ -98,14 +98,15 @@ all-small n l h new e = upTo (ap length (sym (some-inj l new e)) ∙ h) (le-refl
 
 -- what a round writes fits
 pub leaves-small : (t : Table) (d : Round) → Sized t d → Small (needs t) (leaves d)
-leaves-small t d s = by-name (λ x. (new : List (Elem x)) → leaves d x ≡ some new → length new ≤ needs t x)
-    (all-small (t .bits) (d .spins) (s .spins))
-    (all-small (edgesOf t) (d .state .copies) (s .copies))
-    (all-small (edgesOf t) (d .state .offsets) (s .offsets))
-    (all-small (checksOf t) (multipliersOf (d .entries)) (s .multipliers))
-    (all-small (checksOf t) (masksOf (d .entries)) (s .masks))
-    (word-small (t .bits) (d .word) (s .word))
-    (certificate-small (certificateLength (checksOf t)) (d .word) (d .entries) (s .certificate))
+leaves-small t d s = by-name (record {
+  spins = all-small (t .bits) (d .spins) (s .spins);
+  copies = all-small (edgesOf t) (d .state .copies) (s .copies);
+  offsets = all-small (edgesOf t) (d .state .offsets) (s .offsets);
+  multipliers = all-small (checksOf t) (multipliersOf (d .entries)) (s .multipliers);
+  masks = all-small (checksOf t) (masksOf (d .entries)) (s .masks);
+  word = word-small (t .bits) (d .word) (s .word);
+  certificate = certificate-small (certificateLength (checksOf t)) (d .word) (d .entries) (s .certificate);
+})
 
 pub written-past : (t : Table) (d : Round) (b : Buffers) → Sized t d → Part (needs t) (lengthsOf b) → AllPast (needs t) (written d b) b
 written-past t d b s h = write-past (needs t) (leaves d) b (leaves-small t d s) h

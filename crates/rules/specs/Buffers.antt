@@ -76,6 +76,25 @@ each f = record {
 abbrev pub every : (Buffer → Bool) → Bool
 every p = p spins && (p copies && (p offsets && (p multipliers && (p masks && (p word && p certificate)))))
 
+-- something of each, and so of any
+pub record Each (P : Buffer → Type 0) : Type 0 where
+  pub spins : P spins
+  pub copies : P copies
+  pub offsets : P offsets
+  pub multipliers : P multipliers
+  pub masks : P masks
+  pub word : P word
+  pub certificate : P certificate
+
+pub by-name : {P : Buffer → Type 0} → Each P → (x : Buffer) → P x
+by-name e spins = e .spins
+by-name e copies = e .copies
+by-name e offsets = e .offsets
+by-name e multipliers = e .multipliers
+by-name e masks = e .masks
+by-name e word = e .word
+by-name e certificate = e .certificate
+
 -- as a call is lent them, in the order of its parameters
 abbrev pub lent : List ℤ → List ℤ → List ℤ → List ℕ → List ℕ → List ℕ → List ℕ → Buffers
 lent p z y b k w c = record { spins = p; copies = z; offsets = y; multipliers = b; masks = k; word = w; certificate = c }

@@ -15,10 +15,10 @@ use Rattle.rules.specs.Table.{Table, edgesOf, checksOf}
 use Rattle.rules.specs.CodeFile.{codeFile, tableValues}
 use Rattle.rules.specs.Input.{eachWithin, onFrame}
 use Rattle.rules.specs.Round.{State}
-use Rattle.rules.specs.Buffers.{spins, copies, offsets, multipliers, masks, word, certificate, Lengths, needsBy, needs, fits, Part}
+use Rattle.rules.specs.Buffers.{Each, by-name, Lengths, needsBy, needs, fits, Part}
 use Rattle.rules.specs.Run.{Progress, Run, isRunning, sound, stateIn, admits}
 use Rattle.rules.proofs.Basics.{and-both}
-use Rattle.rules.proofs.BufferLaws.{by-name, fits-part, part-fits}
+use Rattle.rules.proofs.BufferLaws.{fits-part, part-fits}
 use Rattle.rules.proofs.AnswerLaws.{refused≢gives, gives-inj, must-gives, must-true, then-gives}
 use Rattle.table.specs.Loaded.{withRoom, laid, loaded}
 use Rattle.table.proofs.AnswerLaws.{and-holds}
@@ -39,9 +39,8 @@ module _ (a b : Lengths) where
       go true e = absurd (h (fits-part a b e))
       go false e = refl
 
-  pub long : a spins ≤ b spins → a copies ≤ b copies → a offsets ≤ b offsets → a multipliers ≤ b multipliers → a masks ≤ b masks → a word ≤ b word → a certificate ≤ b certificate
-      → true ≡ fits a b
-  long p z y m k w c = sym (part-fits a b (by-name (λ x. a x ≤ b x) p z y m k w c))
+  pub long : Each (λ x. a x ≤ b x) → true ≡ fits a b
+  long h = sym (part-fits a b (by-name h))
 
 -- ---- 8, 9
 pub turned-down : {A : Type 0} (j k : ℕ) (a : Answer A) → (k ≡ 0 → ⊥) → k ≡ j → refused k ≡ turnedDown j a

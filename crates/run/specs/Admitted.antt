@@ -9,7 +9,7 @@ use Rattle.rules.specs.Limits.{roundLimit}
 use Rattle.rules.specs.Refusal.{Answer, refused, gives, must, then, askedTooMuch, bufferShort, runEnded, runDamaged}
 use Rattle.rules.specs.Table.{Table, edges, edgesOf, checksOf}
 use Rattle.rules.specs.Round.{State}
-use Rattle.rules.specs.Buffers.{spins, copies, offsets, multipliers, masks, word, certificate, Lengths, needsBy, fits, over}
+use Rattle.rules.specs.Buffers.{spins, copies, offsets, multipliers, masks, word, certificate, Buffers, Lengths, needsBy, fits, over}
 use Rattle.rules.specs.Run.{Status, Progress, isRunning, sound}
 use Rattle.rules.specs.CodeFile.{codeFile}
 use Rattle.table.specs.Starts.{startsOf}
@@ -28,6 +28,16 @@ lentOf b z y multipliers = b .multipliers
 lentOf b z y masks = b .masks
 lentOf b z y word = b .word
 lentOf b z y certificate = b .certificate
+
+-- what a call tells of its buffers
+abbrev pub toldOf : Buffers → Lent
+toldOf b = record {
+  spins = length (b .spins);
+  multipliers = length (b .multipliers);
+  masks = length (b .masks);
+  word = length (b .word);
+  certificate = length (b .certificate);
+}
 
 -- n, m and E
 pub record Sizes : Type 0 where
