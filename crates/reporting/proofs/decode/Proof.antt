@@ -6,42 +6,6 @@ use Rattle.reporting.proofs.LineLaws.{ran-refused, ran-started}
 use Rattle.reporting.proofs.decode.Statement.{statement}
 use Rattle.reporting.proofs.decode.Tie as tie
 
-slice-aggregate-start : tie.Need-slice-aggregate-start
-slice-aggregate-start c = search needs
-
-slice-aggregate-start-2 : tie.Need-slice-aggregate-start-2
-slice-aggregate-start-2 c = search needs
-
-start-requires : tie.Need-start-requires
-start-requires c κs = search needs
-
-enum-known-started : tie.Need-enum-known-started
-enum-known-started c = search needs
-
-fresh-requires : tie.Need-fresh-requires
-fresh-requires c κs = search needs
-
-enum-known-started-2 : tie.Need-enum-known-started-2
-enum-known-started-2 c = search needs
-
-slice-aggregate-rounds : tie.Need-slice-aggregate-rounds
-slice-aggregate-rounds c = search needs
-
-slice-aggregate-rounds-2 : tie.Need-slice-aggregate-rounds-2
-slice-aggregate-rounds-2 c = search needs
-
-slice-aggregate-rounds-3 : tie.Need-slice-aggregate-rounds-3
-slice-aggregate-rounds-3 c = search needs
-
-slice-aggregate-rounds-4 : tie.Need-slice-aggregate-rounds-4
-slice-aggregate-rounds-4 c = search needs
-
-slice-aggregate-rounds-5 : tie.Need-slice-aggregate-rounds-5
-slice-aggregate-rounds-5 c = search needs
-
-rounds-requires : tie.Need-rounds-requires
-rounds-requires c κs = search needs
-
 returns : tie.Need-returns
 unfolding lentWith
 returns c =
@@ -49,12 +13,6 @@ returns c =
     let args = begun .before .before .before .before .before .before .args in
     ran-refused (args .code .now) (args .frame .now) (lentWith (args .word .now) (args .certificate .now)) (omega arith) (omega arith)
     (begun .start .result) _ (begun .start .ensures) _ (c .fresh .result) (c .before .before .started .given .1) (c .fresh .ensures)
-
-same-length : tie.Need-same-length
-same-length c = search needs
-
-same-length-2 : tie.Need-same-length-2
-same-length-2 c = search needs
 
 returns-2 : tie.Need-returns-2
 unfolding lentWith
@@ -70,19 +28,19 @@ pub decode-spec : {M : Type 1} → statement M
 decode-spec =
     tie.close
     (tie.spec
-    slice-aggregate-start
-    slice-aggregate-start-2
-    start-requires
-    enum-known-started
-    fresh-requires
-    enum-known-started-2
-    slice-aggregate-rounds
-    slice-aggregate-rounds-2
-    slice-aggregate-rounds-3
-    slice-aggregate-rounds-4
-    slice-aggregate-rounds-5
-    rounds-requires
+    (λ c. search needs)
+    (λ c. search needs)
+    (λ c κs. search needs)
+    (λ c. search needs)
+    (λ c κs. search needs)
+    (λ c. search needs)
+    (λ c. search needs)
+    (λ c. search needs)
+    (λ c. search needs)
+    (λ c. search needs)
+    (λ c. search needs)
+    (λ c κs. search needs)
     returns
-    same-length
-    same-length-2
+    (λ c. search needs)
+    (λ c. search needs)
     returns-2)
