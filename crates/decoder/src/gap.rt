@@ -18,6 +18,9 @@ ghost use Rattle.rules.specs.Cut.{isNeg, negatives};
 ghost use Rattle.rules.specs.Scatter.{scatterRow, rowOf, priceOf, EachWithin, Put, AllPut};
 ghost use Rattle.decoder.specs.Closing.{withRow, rowsOn, boundOn, gapOn, RowFits, RowsFit, GapFits};
 
+// Codes up to this length have room of their own for the reduced numbers.
+const FEW_BITS: usize = 512;
+
 // A number with a member's weight: the multiplier b, added where the mask's lowest bit is 1 and subtracted where it is 0.
 fn weighted(x: i64, b: u32, mask: u32) -> i64
     requires { ⌜ Within (sizeLimit + rowLimit) x × (b ≤ maxMultiplier) ⌝ }
@@ -181,7 +184,25 @@ fn bound_of(
     sum_sizes(numbers) + prices
 }
 
-// The gap of the word with ones at the negative spins.
+// The gap of the word with ones at the negative spins; the last slice is for the reduced numbers.
+fn gap_in(
+    frame: &[i16],
+    starts: &[u16],
+    members: &[u16],
+    spins: &[i32],
+    multipliers: &[u32],
+    masks: &[u32],
+    numbers: &mut [i64],
+) -> i64
+    requires { ⌜ GapFits (length (now spins)) (now frame) (now spins) (now starts) (now members) (now multipliers) (now masks) ⌝ }
+    requires { ⌜ length (now numbers) ≡ length (now frame) ⌝ }
+    ensures { λ r. ⌜ r ≡ gapOn (now (frame .entry)) (now (spins .entry)) (now (starts .entry)) (now (members .entry)) (now (multipliers .entry)) (now (masks .entry)) ⌝ }
+{
+    let least = bound_of(frame, starts, members, multipliers, masks, numbers);
+    least - agreed(frame, spins)
+}
+
+// The same, with room of its own: less of it for a short code, since clearing it takes time in each round with a codeword.
 pub(crate) fn gap_of(
     frame: &[i16],
     starts: &[u16],
@@ -193,15 +214,27 @@ pub(crate) fn gap_of(
     requires { ⌜ GapFits (length (now spins)) (now frame) (now spins) (now starts) (now members) (now multipliers) (now masks) ⌝ }
     ensures { λ r. ⌜ r ≡ gapOn (now (frame .entry)) (now (spins .entry)) (now (starts .entry)) (now (members .entry)) (now (multipliers .entry)) (now (masks .entry)) ⌝ }
 {
-    let mut numbers = [0i64; MAX_BITS];
     let n = frame.len();
-    let least = bound_of(
+    if n <= FEW_BITS {
+        let mut few = [0i64; FEW_BITS];
+        return gap_in(
+            frame,
+            starts,
+            members,
+            spins,
+            multipliers,
+            masks,
+            &mut few[..n],
+        );
+    }
+    let mut numbers = [0i64; MAX_BITS];
+    gap_in(
         frame,
         starts,
         members,
+        spins,
         multipliers,
         masks,
         &mut numbers[..n],
-    );
-    least - agreed(frame, spins)
+    )
 }

@@ -1,59 +1,44 @@
--- `gap_of` meets its contract: the bound less the agreement. Assumes nothing.
-use mathlib.Core.Path.{_∙_, ap}
-use Prim.Native.Nat.{_≤_}
+-- `gap_of` meets its contract: the reduced numbers stand in the first n places of a local array. Assumes nothing.
+use mathlib.Core.Path.{sym}
 use native.Mathlib.Omega.{arith}
-use lib.ListN.{length-take, length}
-use mir.Syntax.{w64}
+use lib.Seq.{length-take-le}
 use borrow.Author.Needs.{needs}
-use Rattle.integers.specs.Machine.{fit}
-use Rattle.integers.specs.Signed64.{less-fits, less-reads}
-use Rattle.rules.specs.Limits.{maxBits}
-use Rattle.rules.specs.Bound.{bound}
-use Rattle.rules.specs.Cut.{negatives}
-use Rattle.rules.proofs.BoundLaws.{once, gap-is}
-use Rattle.decoder.specs.Closing.{rowsOn}
-use Rattle.decoder.proofs.GapLaws.{rows-fit}
 use Rattle.decoder.proofs.gap.gap_of.Statement.{statement}
 use Rattle.decoder.proofs.gap.gap_of.Tie as tie
+
+array-borrow-prefix-few : tie.Need-array-borrow-prefix-few
+array-borrow-prefix-few c = search needs
+
+slice-aggregate-gap-in : tie.Need-slice-aggregate-gap-in
+slice-aggregate-gap-in c = sym (length-take-le _ _ (omega arith))
+
+gap-in-requires : tie.Need-gap-in-requires
+gap-in-requires c κs = (search needs, length-take-le _ _ (omega arith))
+
+returns : tie.Need-returns
+returns c = search needs
 
 array-borrow-prefix-numbers : tie.Need-array-borrow-prefix-numbers
 array-borrow-prefix-numbers c = search needs
 
-slice-aggregate-bound-of : tie.Need-slice-aggregate-bound-of
-slice-aggregate-bound-of c = simp length-take (omega arith)
+slice-aggregate-gap-in-2 : tie.Need-slice-aggregate-gap-in-2
+slice-aggregate-gap-in-2 c = sym (length-take-le _ _ (omega arith))
 
-bound-of-requires : tie.Need-bound-of-requires
-bound-of-requires c κs =
-    let start = c .before .before .before .before .before in
-    let long : length (start .args .frame .now) ≤ maxBits = omega (arith, start .pre .frameLong, start .pre .holds .sound .bits) in
-    (rows-fit (start .pre), simp length-take (omega arith))
+gap-in-requires-2 : tie.Need-gap-in-requires-2
+gap-in-requires-2 c κs = (search needs, length-take-le _ _ (omega arith))
 
-agreed-requires : tie.Need-agreed-requires
-agreed-requires c κs = search needs
-
-sub-result : tie.Need-sub-result
-sub-result c =
-    let least = c .before .before .bound-of in
-    less-fits (fit w64 (least .result) (least .ok)) (fit w64 (c .agreed .result) (c .agreed .ok)) (least .ensures .1) (c .agreed .ensures .1) (omega arith)
-
-returns : tie.Need-returns
-returns c =
-    let start = c .before .before .before .before .before .before .before .before in
-    let a = start .args in
-    let l = a .frame .now in
-    let least = c .before .before .bound-of in
-    let rows = rowsOn (a .starts .now) (a .members .now) (a .multipliers .now) (a .masks .now) in
-    less-reads (fit w64 (least .result) (least .ok)) (fit w64 (c .agreed .result) (c .agreed .ok)) (sub-result c)
-    ∙ gap-is (length (a .spins .now)) 1 l rows (negatives (a .spins .now))
-    (least .ensures .0 ∙ ap (λ n. bound n 1 l rows) (start .pre .frameLong)) (c .agreed .ensures .0 ∙ once _)
+returns-2 : tie.Need-returns-2
+returns-2 c = search needs
 
 pub gap-of-spec : {M : Type 1} → statement M
 gap-of-spec =
     tie.close
     (tie.spec
+    array-borrow-prefix-few
+    slice-aggregate-gap-in
+    gap-in-requires
+    returns
     array-borrow-prefix-numbers
-    slice-aggregate-bound-of
-    bound-of-requires
-    agreed-requires
-    sub-result
-    returns)
+    slice-aggregate-gap-in-2
+    gap-in-requires-2
+    returns-2)
