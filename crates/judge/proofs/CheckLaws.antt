@@ -1,9 +1,9 @@
 -- The parity checks as the loops go over them: a check's members, then the checks. Assumes nothing.
-use mathlib.Core.Path.{_≡_, refl, sym, _∙_, ap, ap₂}
+use mathlib.Core.Path.{_≡_, sym, _∙_, ap, ap₂}
 use mathlib.Core.Bool.{Bool, true, false, not, cond}
 use mathlib.Core.List.{List, [], _∷_}
 use mathlib.Core.Option.{some, none}
-use Prim.Native.Nat.{ℕ, zero, suc, _+_, _-_, _≤_, _<_}
+use Prim.Native.Nat.{ℕ, _+_, _-_, _≤_, _<_}
 use native.Mathlib.Omega.{arith}
 use native.Mathlib.Nat.{sub-eq-zero-of-le}
 use native.Mathlib.Numerals.{add-one}
@@ -15,6 +15,7 @@ use Rattle.rules.specs.Table.{bit, bitsAt}
 use Rattle.rules.specs.Parity.{_⊕_, odd, firstBroken}
 use Rattle.rules.specs.Input.{bitOfByte, bitsOf}
 use Rattle.rules.proofs.Signs.{⊕-assoc, ⊕-zero, ⊕-true}
+use Rattle.inputs.proofs.AgreedLaws.{bits-at}
 use Rattle.table.specs.Held.{partAt, partsFrom}
 
 -- ---- one bit
@@ -23,12 +24,6 @@ flips s b e = sym (⊕-true s) ∙ ap (λ x. s ⊕ x) (sym (eq-eqb b 1 e))
 
 pub stays : (s : Bool) (b : ℕ) → (b ≡ 1 → ⊥) → s ≡ s ⊕ bitOfByte b
 stays s b f = sym (⊕-zero s) ∙ ap (λ x. s ⊕ x) (sym (ne-eqb b 1 f))
-
-pub bits-at : (w : List ℕ) (i : ℕ) → bit (bitsOf w) i ≡ bitOfByte (getD w i 0)
-bits-at [] zero = refl
-bits-at [] (suc i) = refl
-bits-at (b ∷ w) zero = refl
-bits-at (b ∷ w) (suc i) = bits-at w i
 
 -- ---- a check
 module _ (word ms : List ℕ) (k : ℕ) (s : Bool) where

@@ -2,7 +2,7 @@
 use mathlib.Core.Path.{_≡_, sym, _∙_, ap₂, subst}
 use Prim.Native.Nat.{_*_, _≤_}
 use native.Mathlib.Omega.{arith}
-use lib.IntN.{pos, _-ℤ_, _*ℤ_}
+use lib.IntN.{ℤ, pos, _-ℤ_, _*ℤ_}
 use lib.ListN.{length}
 use lib.Seq.{length-take-le}
 use mir.Syntax.{w64}
@@ -16,6 +16,8 @@ use Rattle.rules.specs.Bound.{bound, gap}
 use Rattle.rules.specs.Parity.{agreement}
 use Rattle.rules.specs.Input.{bitsOf}
 use Rattle.rules.specs.Certificate.{itemsAt}
+use Rattle.inputs.specs.Agreed.{agreementLimit}
+use Rattle.inputs.proofs.AgreedLaws.{agreed-whole}
 use Rattle.judge.specs.Rows.{frameSize, boundLimit, AllPlaced, rowsIn}
 use Rattle.judge.proofs.SignedLaws.{sized, less-fits, less-reads}
 use Rattle.judge.proofs.bound.gap_of.Statement.{statement}
@@ -42,18 +44,23 @@ bound-of-requires c κs =
       subst (AllPlaced (length (args .frame .now)) (args .starts .now) (args .members .now) (args .bytes .now)) (sym (c .before .before .u16-at .ensures .0)) (c .before .before .before .before .before .before .before .pre .3),
     )
 
-agreement-sum-requires : tie.Need-agreement-sum-requires
-agreement-sum-requires c κs = (c .before .before .before .before .before .before .before .before .before .pre .0, c .before .before .before .before .before .before .before .before .before .pre .1)
+agreement-requires : tie.Need-agreement-requires
+agreement-requires c κs = tt
 
-agreed : (c : tie.After-agreement-sum)
-    → (toZ w64 (ofZ w64 (c .agreement-sum .result)) ≡ agreement (length (c .before .before .before .before .before .before .before .before .before .before .args .frame .now)) (c .before .before .before .before .before .before .before .before .before .before .args .frame .now) (bitsOf (c .before .before .before .before .before .before .before .before .before .before .args .word .now)))
-    × Within (maxBits * frameSize) (toZ w64 (ofZ w64 (c .agreement-sum .result)))
-agreed c =
-    let reads = toZ-ofZ (fit w64 (c .agreement-sum .result) (c .agreement-sum .ok)) in
-    (reads ∙ c .agreement-sum .ensures .0, sized reads (c .agreement-sum .ensures .1) .1)
+-- the agreement as the contract of `gap_of` says it
+abbrev agreedOf : (c : tie.After-agreement) → ℤ
+agreedOf c =
+    let args = c .before .before .before .before .before .before .before .before .before .before .args in
+    agreement (length (args .frame .now)) (args .frame .now) (bitsOf (args .word .now))
+
+agreed-is : (c : tie.After-agreement) → (toZ w64 (ofZ w64 (c .agreement .result)) ≡ agreedOf c) × Within agreementLimit (toZ w64 (ofZ w64 (c .agreement .result)))
+agreed-is c =
+    let start = c .before .before .before .before .before .before .before .before .before .before in
+    let reads = toZ-ofZ (fit w64 (c .agreement .result) (c .agreement .ok)) in
+    (reads ∙ c .agreement .ensures .0 ∙ agreed-whole (start .args .frame .now) (start .args .word .now) (start .pre .0) (start .pre .1), sized reads (c .agreement .ensures .1) .1)
 
 times-requires : tie.Need-times-requires
-times-requires c κs = (omega (arith, c .before .before .before .before .u16-at2 .ensures .0, c .before .before .before .before .before .before .before .before .before .before .pre .2), agreed c .1)
+times-requires c κs = (omega (arith, c .before .before .before .before .u16-at2 .ensures .0, c .before .before .before .before .before .before .before .before .before .before .pre .2), agreed-is c .1)
 
 sub-result : tie.Need-sub-result
 sub-result c = less-fits boundLimit (maxScale * (maxBits * frameSize)) (c .before .before .before .bound-of .result) (c .times .result) (fit w64 (c .before .before .before .bound-of .result) (c .before .before .before .bound-of .ok)) (fit w64 (c .times .result) (c .times .ok)) (omega arith) (c .before .before .before .bound-of .ensures .1) (c .times .ensures .1)
@@ -65,7 +72,7 @@ returns c =
     less-reads boundLimit (maxScale * (maxBits * frameSize)) (c .before .before .before .bound-of .result) (c .times .result) (fit w64 (c .before .before .before .bound-of .result) (c .before .before .before .bound-of .ok)) (fit w64 (c .times .result) (c .times .ok)) (omega arith) (c .before .before .before .bound-of .ensures .1) (c .times .ensures .1)
     ∙ ap₂ _-ℤ_
     (c .before .before .before .bound-of .ensures .0 ∙ ap₂ (λ s q. bound (length (args .frame .now)) s (args .frame .now) (rowsIn (args .starts .now) (args .members .now) (itemsAt (args .bytes .now) q 0 q))) (c .before .before .before .before .before .u16-at2 .ensures .0) (c .before .before .before .before .before .before .u16-at .ensures .0))
-    (c .times .ensures .0 ∙ ap₂ (λ s a. pos s *ℤ a) (c .before .before .before .before .before .u16-at2 .ensures .0) (agreed (c .before) .0))
+    (c .times .ensures .0 ∙ ap₂ (λ s a. pos s *ℤ a) (c .before .before .before .before .before .u16-at2 .ensures .0) (agreed-is (c .before) .0))
 
 pub gap-of-spec : {M : Type 1} → statement M
 gap-of-spec =
@@ -76,7 +83,7 @@ gap-of-spec =
     array-borrow-prefix-reduced
     slice-aggregate-bound-of
     bound-of-requires
-    agreement-sum-requires
+    agreement-requires
     times-requires
     sub-result
     returns)
