@@ -11,13 +11,11 @@ use Rattle.rules.specs.Table.{at}
 use Rattle.rules.specs.Mask.{setOf}
 use Rattle.rules.specs.Bound.{Row}
 use Rattle.rules.specs.Certificate.{Item, itemAt}
+use Rattle.inputs.specs.Agreed.{frameSize}
 use Rattle.table.specs.Held.{partAt, Part}
 use Rattle.judge.specs.Refusals.{Long}
 
--- ---- limits: of a 16-bit number, of it times the scale, of what one entry adds, of a reduced number or the sum of prices, and of the bound
-abbrev pub frameSize : ℕ
-frameSize = 32768
-
+-- ---- limits: of a 16-bit number times the scale, of what one entry adds, of a reduced number or the sum of prices, and of the bound
 abbrev pub scaledLimit : ℕ
 scaledLimit = maxScale * frameSize
 

@@ -22,9 +22,10 @@ ghost use Rattle.rules.specs.Input.{bitsOf};
 ghost use Rattle.rules.specs.Bound.{weights, price, bound, gap};
 ghost use Rattle.rules.specs.Certificate.{itemAt, itemsAt, entriesOf, scaleOf, itemsOf};
 ghost use Rattle.rules.proofs.Duality.{Below};
+ghost use Rattle.inputs.specs.Agreed.{frameSize};
 ghost use Rattle.judge.specs.Refusals.{Listed};
 ghost use Rattle.rules.specs.Scatter.{scatter, scatterRow, scatterRows};
-ghost use Rattle.judge.specs.Rows.{frameSize, scaledLimit, sizeLimit, boundLimit, Scaled, rowPrice, rowIn, rowsIn, Placed, AllPlaced};
+ghost use Rattle.judge.specs.Rows.{scaledLimit, sizeLimit, boundLimit, Scaled, rowPrice, rowIn, rowsIn, Placed, AllPlaced};
 
 pub(crate) fn wide(x: i16) -> i64
     ensures { λ r. ⌜ (r ≡ x) × Within frameSize r ⌝ }

@@ -16,9 +16,9 @@ use Rattle.rules.specs.Bound.{bound, gap}
 use Rattle.rules.specs.Parity.{agreement}
 use Rattle.rules.specs.Input.{bitsOf}
 use Rattle.rules.specs.Certificate.{itemsAt}
-use Rattle.inputs.specs.Agreed.{agreementLimit}
+use Rattle.inputs.specs.Agreed.{frameSize, agreementLimit}
 use Rattle.inputs.proofs.AgreedLaws.{agreed-whole}
-use Rattle.judge.specs.Rows.{frameSize, boundLimit, AllPlaced, rowsIn}
+use Rattle.judge.specs.Rows.{boundLimit, AllPlaced, rowsIn}
 use Rattle.judge.proofs.SignedLaws.{sized, less-fits, less-reads}
 use Rattle.judge.proofs.bound.gap_of.Statement.{statement}
 use Rattle.judge.proofs.bound.gap_of.Tie as tie

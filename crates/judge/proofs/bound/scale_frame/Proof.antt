@@ -14,7 +14,8 @@ use Rattle.integers.specs.Linear.{Within}
 use Rattle.integers.specs.Product.{within-*}
 use Rattle.rules.specs.Limits.{maxBits, maxScale}
 use Rattle.rules.specs.Table.{at}
-use Rattle.judge.specs.Rows.{frameSize, Scaled}
+use Rattle.inputs.specs.Agreed.{frameSize}
+use Rattle.judge.specs.Rows.{Scaled}
 use Rattle.judge.proofs.SignedLaws.{sized, pos-within}
 use Rattle.judge.proofs.RowLaws.{scaled-more}
 use Rattle.judge.proofs.bound.scale_frame.Statement.{statement}

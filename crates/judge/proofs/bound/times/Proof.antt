@@ -5,7 +5,7 @@ use lib.IntN.{pos}
 use borrow.Author.Needs.{needs}
 use Rattle.integers.specs.Product.{within-*}
 use Rattle.rules.specs.Limits.{maxBits, maxScale}
-use Rattle.judge.specs.Rows.{frameSize}
+use Rattle.inputs.specs.Agreed.{frameSize}
 use Rattle.judge.proofs.SignedLaws.{sized, pos-within, product-fits, product-reads}
 use Rattle.judge.proofs.bound.times.Statement.{statement}
 use Rattle.judge.proofs.bound.times.Tie as tie

@@ -5,7 +5,7 @@ use mir.Syntax.{w16}
 use mir.Val.{SFits}
 use mir.Facts.{toZ-ofZ, sfits-widen}
 use Rattle.integers.specs.Linear.{lin, arithZ, Within}
-use Rattle.judge.specs.Rows.{frameSize}
+use Rattle.inputs.specs.Agreed.{frameSize}
 use Rattle.judge.proofs.SignedLaws.{sized}
 use Rattle.judge.proofs.bound.wide.Statement.{statement}
 use Rattle.judge.proofs.bound.wide.Tie as tie
