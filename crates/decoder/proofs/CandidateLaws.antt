@@ -3,13 +3,13 @@ use mathlib.Core.Path.{_≡_, sym, _∙_, ap}
 use mathlib.Core.Bool.{Bool, true, false, not, _&&_}
 use mathlib.Core.List.{List, []}
 use Prim.Native.Nat.{ℕ, _+_, _≤_, _<_}
-use lib.ListN.{length, getD, drop}
+use lib.ListN.{length, getD, drop, drop-of-length-le}
 use lib.IntN.{ℤ}
 use Rattle.rules.specs.Table.{at, bitsAt}
 use Rattle.rules.specs.Parity.{_⊕_, odd, meets}
 use Rattle.rules.specs.Cut.{isNeg, negatives}
 use Rattle.rules.proofs.Signs.{⊕-assoc, ⊕-zero}
-use Rattle.writing.proofs.SetsLaws.{drop-next, drop-end}
+use Rattle.rules.proofs.StoreLaws.{drop-next}
 use Rattle.decoder.proofs.SignLaws.{negatives-at}
 
 module _ (s : List ℤ) (ms : List ℕ) (k : ℕ) where
@@ -22,7 +22,7 @@ module _ (s : List ℤ) (ms : List ℕ) (k : ℕ) where
       ∙ ap (λ l. t ⊕ odd (bitsAt (negatives s) l)) (sym (drop-next ms k 0 h))
 
   pub odd-end : (t : Bool) → length ms ≤ k → t ≡ t ⊕ odd (bitsAt (negatives s) (drop k ms))
-  odd-end t h = sym (⊕-zero t) ∙ ap (λ l. t ⊕ odd (bitsAt (negatives s) l)) (sym (drop-end ms k h))
+  odd-end t h = sym (⊕-zero t) ∙ ap (λ l. t ⊕ odd (bitsAt (negatives s) l)) (sym (drop-of-length-le ms h))
 
 module _ (w : List Bool) (cs : List (List ℕ)) (j : ℕ) where
   meets-next : j < length cs → meets w (drop j cs) ≡ not (odd (bitsAt w (getD cs j []))) && meets w (drop (j + 1) cs)
@@ -36,4 +36,4 @@ module _ (w : List Bool) (cs : List (List ℕ)) (j : ℕ) where
   meets-holds p h e o = meets-next h ∙ ap (λ b. not b && meets w (drop (j + 1) cs)) (ap (λ l. odd (bitsAt w l)) (sym e) ∙ o)
 
   pub meets-end : length cs ≤ j → meets w (drop j cs) ≡ true
-  meets-end h = ap (meets w) (drop-end cs j h)
+  meets-end h = ap (meets w) (drop-of-length-le cs h)

@@ -6,7 +6,7 @@ use Prim.Native.Nat.{ℕ, zero, suc, _+_, _/_, _%_, _≤_, _<_}
 use native.Mathlib.Omega.{arith}
 use native.Mathlib.Numerals.{add-one}
 use lib.Dec.{eqb}
-use lib.ListN.{length, getD, drop, set}
+use lib.ListN.{length, getD, drop, set, drop-of-length-le}
 use lib.IntN.{ℤ, pos, natAbs, _+ℤ_, _-ℤ_, _*ℤ_, +ℤ-assoc, +ℤ-idl, +ℤ-idr}
 use mir.Syntax.{w32, w64}
 use mir.Val.{SFits}
@@ -23,8 +23,8 @@ use Rattle.rules.proofs.Duality.{Below, below-at}
 use Rattle.decoder.specs.Closing.{withRow, rowsFrom, AllUpTo}
 use Rattle.rules.specs.Scatter.{scatter, scatterRows}
 use Rattle.decoder.specs.Room.{rowOf, Room}
-use Rattle.writing.proofs.SetsLaws.{drop-next, drop-end}
 use Rattle.rules.proofs.ScatterLaws.{rows-length}
+use Rattle.rules.proofs.StoreLaws.{drop-next}
 use Rattle.decoder.proofs.RoomLaws.{room-here, room-more, room-first, room-last, room-scatter}
 
 -- ---- sums over an index
@@ -70,7 +70,7 @@ module _ (ms : List ℕ) (b rest k : ℕ) (ls : List ℤ) (h : k < length ms) wh
       (room-more (getD ms k 0) (drop (k + 1) ms) ls (side (eqb (rest % 2) 1) (pos b)) (weight-within (eqb (rest % 2) 1) b hb) (subst (λ l. Room l ls) (drop-next ms k 0 h) r))
 
 pub row-end : (ms : List ℕ) (b rest k : ℕ) (ls : List ℤ) → length ms ≤ k → ls ≡ scatter (drop k ms) (weights b (setOf (length (drop k ms)) rest)) ls
-row-end ms b rest k ls h = ap (λ l. scatter l (weights b (setOf (length l) rest)) ls) (sym (drop-end ms k h))
+row-end ms b rest k ls h = ap (λ l. scatter l (weights b (setOf (length l) rest)) ls) (sym (drop-of-length-le ms h))
 
 -- ---- a check's row, if its mask is not 0
 module _ (ms : List ℕ) (b k : ℕ) (ls : List ℤ) where
@@ -147,7 +147,7 @@ module _ (cs : List (List ℕ)) (bs ks : List ℕ) (j : ℕ) (hc : j < length cs
         (with-room (eqb (getD ks j 0) 0) (getD cs j []) (edges (drop (j + 1) cs)) (getD bs j 0) (getD ks j 0) ls h (subst (λ l. Room l ls) edges-next r))
 
 pub rows-end : (cs : List (List ℕ)) (bs ks : List ℕ) (j : ℕ) → length cs ≤ j → rowsLeft cs bs ks j ≡ []
-rows-end cs bs ks j h = ap (λ l. rowsFrom l (drop j bs) (drop j ks)) (drop-end cs j h) ∙ rows-none (drop j bs) (drop j ks)
+rows-end cs bs ks j h = ap (λ l. rowsFrom l (drop j bs) (drop j ks)) (drop-of-length-le cs h) ∙ rows-none (drop j bs) (drop j ks)
 
 -- every multiplier
 pub up-to-at : (m : ℕ) (bs : List ℕ) (j : ℕ) → AllUpTo m bs → getD bs j 0 ≤ m

@@ -3,7 +3,7 @@ use mathlib.Core.Path.{_≡_, refl, sym, _∙_, ap}
 use mathlib.Core.Bool.{Bool, true, false, not, _&&_}
 use mathlib.Core.List.{List, [], _∷_}
 use Prim.Native.Nat.{ℕ, zero, suc, _+_, _<_, _≤_}
-use lib.ListN.{length, drop}
+use lib.ListN.{length, drop, drop-of-length-le}
 use lib.IntN.{ℤ, pos, negsuc}
 use lib.Signed.{_<ℤ_}
 use Rattle.integers.specs.Linear.{_⩽_}
@@ -12,8 +12,8 @@ use Rattle.rules.specs.Parity.{_⊕_, meets}
 use Rattle.rules.specs.Cut.{isNeg, negatives, keep}
 use Rattle.rules.specs.Round.{bitOf, join, candidate, isZero}
 use Rattle.rules.proofs.Signs.{⊕-zero, ⊕-true}
+use Rattle.rules.proofs.StoreLaws.{drop-next}
 use Rattle.writing.proofs.WordLaws.{below-zero, from-zero}
-use Rattle.writing.proofs.SetsLaws.{drop-next, drop-end}
 use Rattle.decoder.specs.Closing.{metBy}
 use Rattle.decoder.specs.Candidate.{noZero}
 
@@ -62,4 +62,4 @@ pub no-zero-more : (s : List ℤ) (i : ℕ) → i < length s → noZero (drop i 
 no-zero-more s i h = ap noZero (drop-next s i (pos 0) h)
 
 pub no-zero-end : (s : List ℤ) (i : ℕ) → length s ≤ i → noZero (drop i s) ≡ true
-no-zero-end s i h = ap noZero (drop-end s i h)
+no-zero-end s i h = ap noZero (drop-of-length-le s h)

@@ -6,11 +6,11 @@ use lib.IntN.{ℤ}
 use Rattle.rules.specs.Limits.{maxBits, maxChecks, maxEdges, roundLimit}
 use Rattle.rules.specs.Refusal.{Answer, refused, gives}
 use Rattle.rules.specs.Bytes.{u16At}
-use Rattle.rules.specs.Judge.{agreementOf}
 use Rattle.rules.specs.Buffers.{Buffers, lent, Lengths, needsBy, zeros}
 use Rattle.rules.specs.Run.{Status, running, certified, spent, Called, call}
 use Rattle.rules.specs.Calls.{startedRun}
 use Rattle.rules.specs.Report.{Line, refusedLine, certifiedLine, spentLine, runningLine}
+use Rattle.inputs.specs.Agreed.{agreed}
 
 -- no table needs longer buffers
 abbrev pub greatest : Lengths
@@ -34,12 +34,8 @@ unfoldable pub freshRan : List ℕ → List ℤ → Buffers → Ran
 freshRan file l b = ranOf (call file l roundLimit (startedRun file b))
 
 -- "After certified: rounds, agreement, cuts"
-abbrev pub certifiedBy : ℕ → Answer ℤ → ℕ → Line
-certifiedBy rounds (refused k) cuts = refusedLine k
-certifiedBy rounds (gives a) cuts = certifiedLine rounds a cuts
-
-abbrev pub lineFrom : List ℕ → List ℤ → Answer Status → ℕ → List ℕ → List ℕ → Line
-lineFrom file l (refused k) rounds word certificate = refusedLine k
-lineFrom file l (gives running) rounds word certificate = runningLine rounds
-lineFrom file l (gives certified) rounds word certificate = certifiedBy rounds (agreementOf file l (take (length l) word)) (u16At certificate 0)
-lineFrom file l (gives spent) rounds word certificate = spentLine rounds
+abbrev pub lineFrom : List ℤ → Answer Status → ℕ → List ℕ → List ℕ → Line
+lineFrom l (refused k) rounds word certificate = refusedLine k
+lineFrom l (gives running) rounds word certificate = runningLine rounds
+lineFrom l (gives certified) rounds word certificate = certifiedLine rounds (agreed l (take (length l) word)) (u16At certificate 0)
+lineFrom l (gives spent) rounds word certificate = spentLine rounds

@@ -6,15 +6,15 @@ use Prim.Native.Nat.{ℕ, suc, _+_, _*_, _≤_, _<_, zero-le}
 use native.Mathlib.Omega.{arith}
 use native.Mathlib.Numerals.{add-one}
 use lib.Dec.{leb, eqb}
-use lib.ListN.{length, getD, drop, length-append}
+use lib.ListN.{length, getD, drop, length-append, drop-of-length-le}
 use lib.Seq.{sets}
 use borrow.Author.Tests.{eq-eqb, ne-eqb, le-leb, lt-leb}
 use Rattle.rules.specs.Limits.{maxChecks, certificateLength}
 use Rattle.rules.specs.Refusal.{gives, must, sizeRange, bufferShort}
 use Rattle.rules.specs.Bytes.{le16, le32}
 use Rattle.rules.specs.Buffers.{over}
+use Rattle.rules.proofs.StoreLaws.{drop-next, sets-next, sets-over}
 use Rattle.writing.specs.Written.{cutsFrom, contentsFrom, bodiesFrom, certificateFrom, Written, writtenBy, certificateWritten}
-use Rattle.writing.proofs.SetsLaws.{drop-next, drop-end, sets-next, sets-over}
 
 -- ---- what a check writes, if its mask is not 0
 abbrev pub ifCut : ℕ → List ℕ → List ℕ
@@ -57,7 +57,7 @@ pub cuts-none : (ks : List ℕ) (j : ℕ) → j < length ks → getD ks j 0 ≡ 
 cuts-none ks j h e = cuts-next ks j h ∙ ap (λ b. cond b 0 1 + cutsFrom (drop (j + 1) ks)) (eq-eqb (getD ks j 0) 0 e)
 
 pub cuts-end : (ks : List ℕ) (j : ℕ) → length ks ≤ j → cutsFrom (drop j ks) ≡ 0
-cuts-end ks j h = ap cutsFrom (drop-end ks j h) ∙ cuts-nil
+cuts-end ks j h = ap cutsFrom (drop-of-length-le ks h) ∙ cuts-nil
 
 -- ---- contents
 contents-cons : (j b : ℕ) (bs : List ℕ) (k : ℕ) (ks : List ℕ) → contentsFrom j (b ∷ bs) (k ∷ ks) ≡ ifCut k (le16 j ++ le32 b) ++ contentsFrom (suc j) bs ks
@@ -76,7 +76,7 @@ contents-next bs ks j hb hk = ap₂ (contentsFrom j) (drop-next bs j 0 hb) (drop
     ∙ ap (λ n. ifCut (getD ks j 0) (le16 j ++ le32 (getD bs j 0)) ++ contentsFrom n (drop (j + 1) bs) (drop (j + 1) ks)) (sym (add-one j))
 
 pub contents-end : (bs ks : List ℕ) (j : ℕ) → length bs ≤ j → contentsLeft bs ks j ≡ []
-contents-end bs ks j h = ap (λ l. contentsFrom j l (drop j ks)) (drop-end bs j h) ∙ contents-nil j (drop j ks)
+contents-end bs ks j h = ap (λ l. contentsFrom j l (drop j ks)) (drop-of-length-le bs h) ∙ contents-nil j (drop j ks)
 
 contents-most : (j : ℕ) (bs ks : List ℕ) → length (contentsFrom j bs ks) ≤ 6 * length ks
 unfolding contentsFrom
@@ -104,7 +104,7 @@ pub bodies-next : (ks : List ℕ) (j : ℕ) → j < length ks → bodiesFrom (dr
 bodies-next ks j h = ap bodiesFrom (drop-next ks j 0 h) ∙ bodies-cons (getD ks j 0) (drop (j + 1) ks)
 
 pub bodies-end : (ks : List ℕ) (j : ℕ) → length ks ≤ j → bodiesFrom (drop j ks) ≡ []
-bodies-end ks j h = ap bodiesFrom (drop-end ks j h) ∙ bodies-nil
+bodies-end ks j h = ap bodiesFrom (drop-of-length-le ks h) ∙ bodies-nil
 
 bodies-most : (ks : List ℕ) → length (bodiesFrom ks) ≤ 4 * length ks
 unfolding bodiesFrom

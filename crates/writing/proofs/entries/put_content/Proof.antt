@@ -4,8 +4,8 @@ use mathlib.Core.List.{_++_}
 use Prim.Native.Nat.{_+_}
 use borrow.Author.Needs.{needs}
 use Rattle.rules.specs.Bytes.{le16, le32}
+use Rattle.rules.proofs.StoreLaws.{sets-next}
 use Rattle.writing.proofs.CertificateLaws.{cut-none, cut-some}
-use Rattle.writing.proofs.SetsLaws.{sets-next}
 use Rattle.writing.proofs.entries.put_content.Statement.{statement}
 use Rattle.writing.proofs.entries.put_content.Tie as tie
 
