@@ -4,7 +4,7 @@ use mathlib.Core.List.{List}
 use Prim.Native.Nat.{ℕ, _≤_}
 use native.Mathlib.Omega.{arith}
 use native.Mathlib.Nat.{le-trans}
-use lib.ListN.{length, take, replicate}
+use lib.ListN.{length, take}
 use lib.IntN.{ℤ}
 use Rattle.rules.specs.Limits.{maxBits, maxEdges, roundLimit}
 use Rattle.rules.specs.Refusal.{Answer, refused, gives, must, then, bufferShort}
@@ -30,10 +30,11 @@ use Rattle.run.specs.declared.Record.{Record}
 use Rattle.run.specs.declared.Started.{Started}
 use Rattle.run.specs.declared.Started.the-variants.{Refused, Fresh}
 use Rattle.run.specs.Reply.{progressOf, startedOf}
+use Rattle.decoder.specs.declared.Called as code
 use Rattle.decoder.specs.declared.Outcome.{Outcome}
 use Rattle.decoder.specs.declared.Outcome.the-variants as out
 use Rattle.decoder.specs.Reply.{outcomeOf}
-use Rattle.reporting.specs.Ran.{greatest, lentWith, ranOf, freshRan, lineFrom}
+use Rattle.reporting.specs.Ran.{greatest, blankWord, blankCertificate, lentWith, ranOf, ranAs, freshRan, lineFrom}
 
 -- ---- a start with room for every table
 -- it is refused for its file alone
@@ -133,8 +134,7 @@ module _ (file : List ℕ) (l : List ℤ) where
   unfolding run
   certified-sized t isFile e = judged-sized file l _ _ passes t isFile (call-passes file l roundLimit (startedRun file (blank greatest)) t isFile e)
 
-  by-answer : (t : Table) → codeFile file ≡ gives t → (a : Answer Status) → run .answer ≡ a
-      → lineFrom l a (run .run .progress .rounds) (run .run .buffers .word) (run .run .buffers .certificate) ≡ lineAt t l (run .run) a
+  by-answer : (t : Table) → codeFile file ≡ gives t → (a : Answer Status) → run .answer ≡ a → lineFrom l a (ranOf run) ≡ lineAt t l (run .run) a
   by-answer t isFile (refused k) e = refl
   by-answer t isFile (gives running) e = refl
   by-answer t isFile (gives certified) e = ap (λ a. certifiedLine (run .run .progress .rounds) a (u16At (run .run .buffers .certificate) 0))
@@ -145,25 +145,24 @@ module _ (file : List ℕ) (l : List ℤ) where
   unfolding run call
   on-refused k e = ap (λ a. callBy l roundLimit (startedRun file (blank greatest)) a .answer) e
 
-  line-run : lineFrom l (run .answer) (run .run .progress .rounds) (run .run .buffers .word) (run .run .buffers .certificate) ≡ frameLine file l
+  line-run : lineFrom l (run .answer) (ranOf run) ≡ frameLine file l
   unfolding run
   line-run = go (codeFile file) refl
     where
       d : Called
       d = call file l roundLimit (startedRun file (blank greatest))
 
-      go : (a : Answer Table) → codeFile file ≡ a → lineFrom l (d .answer) (d .run .progress .rounds) (d .run .buffers .word) (d .run .buffers .certificate) ≡ frameLine file l
-      go (refused k) e = ap (λ a. lineFrom l a (d .run .progress .rounds) (d .run .buffers .word) (d .run .buffers .certificate)) (on-refused k e) ∙ sym (refused-line file l k e)
+      go : (a : Answer Table) → codeFile file ≡ a → lineFrom l (d .answer) (ranOf d) ≡ frameLine file l
+      go (refused k) e = ap (λ a. lineFrom l a (ranOf d)) (on-refused k e) ∙ sym (refused-line file l k e)
       go (gives t) e = by-answer t e (d .answer) refl ∙ blank-line file t l greatest e (enough t (file-sound file t e))
 
--- ---- of what the code's run comes to: outcome o, rounds n, word w and certificate c
-module _ (file : List ℕ) (l : List ℤ) (o : Outcome) (n : ℕ) (w c : List ℕ)
-    (e : record { answer = outcomeOf o; rounds = n; word = w; certificate = c } ≡ freshRan file l (lentWith (replicate (greatest word) 0) (replicate (greatest certificate) 0))) where
-  pub line-of : (p : Outcome) → o ≡ p → lineFrom l (outcomeOf p) n w c ≡ frameLine file l
+-- ---- of what the code's run comes to: what it answered, the word and the certificate
+module _ (file : List ℕ) (l : List ℤ) (d : code.Called) (w c : List ℕ) (e : ranAs d w c ≡ freshRan file l (lentWith blankWord blankCertificate)) where
+  pub line-of : (o : Outcome) → d .outcome ≡ o → lineFrom l (outcomeOf o) (ranAs d w c) ≡ frameLine file l
   unfolding freshRan lentWith run
-  line-of p q = ap (λ x. lineFrom l (outcomeOf x) n w c) (sym q) ∙ ap (λ r. lineFrom l (r .answer) (r .rounds) (r .word) (r .certificate)) e ∙ line-run file l
+  line-of o q = ap (λ x. lineFrom l (outcomeOf x) (ranAs d w c)) (sym q) ∙ ap (λ r. lineFrom l (r .answer) r) e ∙ line-run file l
 
-  pub certified-short : o ≡ out.Certified → length l ≤ maxBits
+  pub certified-short : d .outcome ≡ out.Certified → length l ≤ maxBits
   unfolding freshRan lentWith run
   certified-short q = go (codeFile file) refl
     where

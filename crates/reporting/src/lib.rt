@@ -24,9 +24,8 @@ ghost use Rattle.rules.specs.Limits.{maxBits};
 ghost use Rattle.rules.specs.Bytes.{u16At};
 ghost use Rattle.rules.specs.Report.{certifiedLine, frameLine};
 ghost use Rattle.inputs.specs.Agreed.{agreed};
-ghost use Rattle.decoder.specs.Reply.{outcomeOf};
 ghost use Rattle.reporting.specs.View.{lineOf};
-ghost use Rattle.reporting.specs.Ran.{lentWith, freshRan};
+ghost use Rattle.reporting.specs.Ran.{lentWith, ranAs, freshRan};
 
 // "certificate 4 + 10m"
 const CERTIFICATE_LIMIT: usize = 4 + 10 * MAX_CHECKS;
@@ -46,8 +45,7 @@ pub enum Line {
 
 // "each frame gets a fresh run of 1,024 rounds"
 fn decode(code: &[u8], frame: &[i16], word: &mut [u8], certificate: &mut [u8]) -> Called
-    ensures { λ r. ⌜ (record { answer = outcomeOf (r .outcome); rounds = r .run .rounds; word = now (word .exit); certificate = now (certificate .exit) })
-        ≡ freshRan (now (code .entry)) (now (frame .entry)) (lentWith (now (word .entry)) (now (certificate .entry))) ⌝ }
+    ensures { λ r. ⌜ ranAs r (now (word .exit)) (now (certificate .exit)) ≡ freshRan (now (code .entry)) (now (frame .entry)) (lentWith (now (word .entry)) (now (certificate .entry))) ⌝ }
 {
     let mut spins = [0i32; MAX_BITS];
     let mut copies = [0i32; MAX_EDGES];
