@@ -5,16 +5,16 @@ use mathlib.Core.List.{List, [], _∷_, _++_}
 use Prim.Native.Nat.{ℕ, _+_, _*_, _≤_, _<_}
 use native.Mathlib.Omega.{arith}
 use lib.Dec.{leb}
-use lib.ListN.{length, getD, drop}
+use lib.ListN.{length, getD, drop, drop-of-length-le}
 use lib.Seq.{sets}
 use borrow.Author.Tests.{le-leb, lt-leb}
 use Rattle.rules.specs.Limits.{maxChecks, maxEdges, contentsEnd, fileLength}
-use Rattle.rules.specs.Refusal.{Answer, refused, gives, must, sizeRange, startWrong, bufferShort}
+use Rattle.rules.specs.Refusal.{refused, gives, must, sizeRange, startWrong, bufferShort}
 use Rattle.rules.specs.Bytes.{le16}
 use Rattle.rules.specs.Buffers.{over}
 use Rattle.rules.specs.FileBytes.{bytes16, contentNumbers, fileFrom}
 use Rattle.rules.proofs.FileBytesLaws.{bytes-length, content-length, file-length}
-use Rattle.writing.proofs.SetsLaws.{drop-next, drop-end, sets-next, sets-over}
+use Rattle.rules.proofs.StoreLaws.{drop-next, sets-next, sets-over}
 use Rattle.code_writer.specs.Written.{Filled, filledBy, fileWritten}
 
 -- ---- one check's content
@@ -34,7 +34,7 @@ module _ (old new ds : List ℕ) (j s d : ℕ) (h : j < length ds) (e : d ≡ ge
       sets-next old new (4 + 4 * j) (4 + 4 * (j + 1)) (bytes16 (s ∷ d ∷ [])) (contentsLeft ds (j + 1) (s + d)) g k ∙ ap (sets old (4 + 4 * j)) (sym next)
 
 pub content-end : (l ds : List ℕ) (i j s : ℕ) → length ds ≤ j → l ≡ sets l i (contentsLeft ds j s)
-content-end l ds i j s h = ap (λ ys. sets l i (bytes16 (contentNumbers s ys))) (sym (drop-end ds j h))
+content-end l ds i j s h = ap (λ ys. sets l i (bytes16 (contentNumbers s ys))) (sym (drop-of-length-le ds h))
 
 -- ---- and of the members, from member k on
 module _ (old new ms : List ℕ) (from k x : ℕ) (h : k < length ms) (e : x ≡ getD ms k 0) (g : new ≡ sets old (from + 2 * k) (le16 x)) where
@@ -45,7 +45,7 @@ module _ (old new ms : List ℕ) (from k x : ℕ) (h : k < length ms) (e : x ≡
       sets-next old new (from + 2 * k) (from + 2 * (k + 1)) (le16 x) (bytes16 (drop (k + 1) ms)) g i ∙ ap (λ l. sets old (from + 2 * k) (bytes16 l)) (sym next)
 
 pub member-end : (l ms : List ℕ) (i k : ℕ) → length ms ≤ k → l ≡ sets l i (bytes16 (drop k ms))
-member-end l ms i k h = ap (λ ys. sets l i (bytes16 ys)) (sym (drop-end ms k h))
+member-end l ms i k h = ap (λ ys. sets l i (bytes16 ys)) (sym (drop-of-length-le ms h))
 
 -- ---- the parts, written one after the other
 bytes-append : (xs ys : List ℕ) → bytes16 (xs ++ ys) ≡ bytes16 xs ++ bytes16 ys

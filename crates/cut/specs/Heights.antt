@@ -2,7 +2,7 @@
 use mathlib.Core.Bool.{Bool, cond}
 use mathlib.Core.List.{List, [], _∷_}
 use mathlib.Core.Option.{Option, some, none}
-use Prim.Native.Nat.{ℕ}
+use Prim.Native.Nat.{ℕ, _-_, _^_}
 use lib.Dec.{leb}
 use lib.ListN.{length}
 use lib.IntN.{ℤ, pos, negℤ, _+ℤ_}
@@ -24,12 +24,16 @@ heightsOf [] vs = []
 heightsOf (t ∷ ts) [] = []
 heightsOf (t ∷ ts) (v ∷ vs) = height t v ∷ heightsOf ts vs
 
--- the greatest; of none, the least height that a 32-bit value has
+-- the least that a 32-bit value has
+abbrev pub leastHeight : ℤ
+leastHeight = negℤ (pos (2 ^ 31 - unit))
+
+-- the greatest; of none, the least
 abbrev pub higher : ℤ → ℤ → ℤ
 higher a b = cond (ltZ a b) b a
 
 abbrev pub highest : List ℤ → ℤ
-highest [] = negℤ (pos 2147479552)
+highest [] = leastHeight
 highest (h ∷ hs) = higher h (highest hs)
 
 -- the set that sees: the cut, or the negative values where there is none

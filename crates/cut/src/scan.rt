@@ -15,7 +15,7 @@ ghost use Rattle.cut.specs.Heights.{height, highest};
 ghost use Rattle.cut.specs.Scan.{scanned, sights, Scanned};
 
 // The least height that a 32-bit value has.
-const FLOOR: i32 = -2147479552;
+const FLOOR: i32 = UNIT + i32::MIN;
 
 // The height of the value x. No value is too large for it.
 fn height_of(x: i32) -> i32

@@ -5,7 +5,7 @@ use mathlib.Core.List.{List, [], _∷_, _++_}
 use Prim.Native.Nat.{ℕ, zero, suc, _+_, _-_, _≤_, _<_}
 use native.Mathlib.Omega.{arith}
 use lib.Dec.{eqb}
-use lib.ListN.{length, getD, take, drop}
+use lib.ListN.{length, getD, take, drop, drop-of-length-le}
 use lib.IntN.{ℤ, pos}
 use borrow.Author.Tests.{eq-eqb, ne-eqb}
 use Rattle.rules.specs.Limits.{maxChecks, maxDegree, sizeLimit, stepLimit}
@@ -13,7 +13,7 @@ use Rattle.rules.specs.Bound.{Row}
 use Rattle.rules.specs.Scatter.{rowOf, EachWithin, Put, Adds}
 use Rattle.rules.specs.Sound.{Below}
 use Rattle.rules.proofs.BoundLaws.{none-adds, row-adds, frame-within}
-use Rattle.writing.proofs.SetsLaws.{drop-next, drop-end}
+use Rattle.rules.proofs.StoreLaws.{drop-next}
 use Rattle.table.specs.Layout.{checksFrom, Holds}
 use Rattle.decoder.specs.Closing.{withRow, rowsFrom, rowsLeft, AllUpTo, RowFits, RowsFit, GapFits}
 use Rattle.table.proofs.LayoutLaws.{starts-long, part-is, part-in, part-below, part-degree}
@@ -52,7 +52,7 @@ rows-none bs ks = refl
 
 module _ {ss ms bs ks : List ℕ} {ls : List ℤ} (f : RowsFit ss ms bs ks ls) (j : ℕ) where
   pub rows-past : length ks ≤ j → rowsLeft ss ms bs ks j ≡ []
-  rows-past h = ap (λ l. rowsFrom l (drop j bs) (drop j ks)) (drop-end (checksFrom ss ms) j (omega (arith, f .masksLong))) ∙ rows-none (drop j bs) (drop j ks)
+  rows-past h = ap (λ l. rowsFrom l (drop j bs) (drop j ks)) (drop-of-length-le (checksFrom ss ms) (omega (arith, f .masksLong))) ∙ rows-none (drop j bs) (drop j ks)
 
   module _ (h : j < length ks) where
     check : j < length (checksFrom ss ms)

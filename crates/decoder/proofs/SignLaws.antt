@@ -3,13 +3,13 @@ use mathlib.Core.Path.{_≡_, refl, _∙_, ap}
 use mathlib.Core.Bool.{Bool, true, false, not, _&&_}
 use mathlib.Core.List.{List, [], _∷_}
 use Prim.Native.Nat.{ℕ, zero, suc, _+_, _<_, _≤_}
-use lib.ListN.{length, drop}
+use lib.ListN.{length, drop, drop-of-length-le}
 use lib.IntN.{ℤ, pos, negsuc}
 use Rattle.rules.specs.Table.{at, bit}
 use Rattle.rules.specs.Parity.{meets}
 use Rattle.rules.specs.Cut.{isNeg, negatives, keep}
 use Rattle.rules.specs.Round.{bitOf, join, candidate, isZero}
-use Rattle.writing.proofs.SetsLaws.{drop-next, drop-end}
+use Rattle.rules.proofs.StoreLaws.{drop-next}
 use Rattle.decoder.specs.Closing.{metBy}
 use Rattle.decoder.specs.Candidate.{noZero}
 
@@ -43,4 +43,4 @@ pub no-zero-more : (s : List ℤ) (i : ℕ) → i < length s → noZero (drop i 
 no-zero-more s i h = ap noZero (drop-next s i (pos 0) h)
 
 pub no-zero-end : (s : List ℤ) (i : ℕ) → length s ≤ i → noZero (drop i s) ≡ true
-no-zero-end s i h = ap noZero (drop-end s i h)
+no-zero-end s i h = ap noZero (drop-of-length-le s h)

@@ -1,11 +1,12 @@
 -- Bytes put one after the other: they are `sets`, past the end too. Assumes nothing.
 use mathlib.Core.Path.{_≡_, refl, sym, _∙_, ap, ap₂}
 use mathlib.Core.List.{List, [], _∷_}
-use Prim.Native.Nat.{ℕ, suc, _+_, _≤_}
+use Prim.Native.Nat.{ℕ, suc, _+_, _/_, _≤_}
 use native.Mathlib.Nat.{le-step}
 use native.Mathlib.Numerals.{add-one, add-two}
 use lib.ListN.{length, set}
 use lib.Seq.{sets, set-out}
+use Rattle.rules.specs.Bytes.{le16, le32}
 
 module _ (l : List ℕ) (i : ℕ) (h : length l ≤ i) where
   sets-out : (vs : List ℕ) → sets l i vs ≡ l
@@ -25,5 +26,5 @@ module _ (l l1 l2 : List ℕ) (i : ℕ) where
   pub two-put : (a b x y : ℕ) → l1 ≡ set l i a → a ≡ x → l2 ≡ set l1 (i + 1) b → b ≡ y → l2 ≡ sets l i (x ∷ y ∷ [])
   two-put a b x y e1 p1 e2 p2 = e2 ∙ ap₂ (λ m k. set m k b) (e1 ∙ ap (set l i) p1) (add-one i) ∙ ap (set (set l i x) (suc i)) p2
 
-  pub four-put : (x y z w : ℕ) → l1 ≡ sets l i (x ∷ y ∷ []) → l2 ≡ sets l1 (i + 2) (z ∷ w ∷ []) → l2 ≡ sets l i (x ∷ y ∷ z ∷ w ∷ [])
-  four-put x y z w e1 e2 = e2 ∙ ap₂ (λ m k. sets m k (z ∷ w ∷ [])) e1 (add-two i)
+  pub four-put : (x : ℕ) → l1 ≡ sets l i (le16 x) → l2 ≡ sets l1 (i + 2) (le16 (x / 256 / 256)) → l2 ≡ sets l i (le32 x)
+  four-put x e1 e2 = e2 ∙ ap₂ (λ m k. sets m k (le16 (x / 256 / 256))) e1 (add-two i)

@@ -2,3 +2,4 @@ pub mod RefusalLaws
 pub mod InputLaws
 pub mod EachLaws
 pub mod RangeLaws
+pub mod AgreedLaws

@@ -1,24 +1,15 @@
--- The bits of a word, and its parity checks as the loop goes over them. Assumes nothing.
-use mathlib.Core.Path.{_≡_, refl, sym, _∙_, ap}
+-- The parity checks of a word as the loop goes over them. Assumes nothing.
+use mathlib.Core.Path.{_≡_, sym, _∙_, ap, ap₂}
 use mathlib.Core.Bool.{Bool, true, false, cond}
-use mathlib.Core.List.{List, [], _∷_}
+use mathlib.Core.List.{List, []}
 use mathlib.Core.Option.{some, none}
-use Prim.Native.Nat.{ℕ, zero, suc, _+_, _≤_, _<_}
+use Prim.Native.Nat.{ℕ, _+_, _≤_, _<_}
 use native.Mathlib.Numerals.{add-one}
-use lib.ListN.{getD}
-use Rattle.integers.specs.Count.{left-more}
-use Rattle.rules.specs.Table.{bit, bitsAt}
+use lib.ListN.{length, getD, drop, drop-of-length-le}
+use lib.Seq.{drop-cons}
+use Rattle.rules.specs.Table.{bitsAt}
 use Rattle.rules.specs.Parity.{odd, firstBroken}
-use Rattle.rules.specs.Input.{bitOfByte, bitsOf}
-use Rattle.table.specs.Layout.{partAt, partsFrom}
 
-pub bits-at : (w : List ℕ) (i : ℕ) → bit (bitsOf w) i ≡ bitOfByte (getD w i 0)
-bits-at [] zero = refl
-bits-at [] (suc i) = refl
-bits-at (b ∷ w) zero = refl
-bits-at (b ∷ w) (suc i) = bits-at w i
-
--- ---- the checks
 module _ (w : List Bool) (cs : List (List ℕ)) (j : ℕ) where
   pub broken-none : length cs ≤ j → firstBroken j w (drop j cs) ≡ none
   broken-none h = ap (firstBroken j w) (drop-of-length-le cs h)

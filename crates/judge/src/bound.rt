@@ -5,8 +5,6 @@ use super::entries::mask_at;
 use super::entries::multiplier_at;
 use super::numbers::u16_at;
 use super::starts::start_at;
-use super::sums::agreement_sum;
-use super::sums::wide;
 use limits::MAX_BITS;
 ghost use mathlib.Core.Path.{_≡_};
 ghost use mathlib.Core.List.{[], _∷_};
@@ -25,6 +23,12 @@ ghost use Rattle.rules.specs.Scatter.{scatterRow, rowOf, priceOf, EachWithin, S
 ghost use Rattle.rules.specs.Certificate.{itemAt, itemsAt};
 ghost use Rattle.judge.specs.Refusals.{Listed};
 ghost use Rattle.judge.specs.Rows.{rowIn, rowsIn, Placed, AllPlaced, boundIn, gapIn, Weighable};
+
+pub(crate) fn wide(x: i16) -> i64
+    ensures { λ r. ⌜ (r ≡ x) × Within frameSize r ⌝ }
+{
+    x as i64
+}
 
 // "S times l."
 pub(crate) fn times(scale: usize, x: i64) -> i64
@@ -183,5 +187,5 @@ pub(crate) fn gap_of(
     let n = frame.len();
     let mut reduced = [0i64; MAX_BITS];
     let bound = bound_of(&mut reduced[..n], starts, members, frame, bytes, q, scale);
-    bound - times(scale, agreement_sum(frame, word))
+    bound - times(scale, inputs::agreement(frame, word))
 }

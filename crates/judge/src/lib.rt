@@ -6,7 +6,6 @@ mod entries;
 mod numbers;
 mod stages;
 mod starts;
-mod sums;
 
 use limits::MAX_CHECKS;
 use limits::MAX_EDGES;

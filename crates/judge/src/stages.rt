@@ -7,7 +7,6 @@ use super::bound::gap_of;
 use super::checks::Found;
 use super::checks::first_broken;
 use super::entries::certificate_refusal;
-use super::sums::agreement_sum;
 ghost use mathlib.Core.Path.{_≡_};
 ghost use Prim.Native.Nat.{_+_, _≤_};
 ghost use lib.ListN.{length};
@@ -119,5 +118,5 @@ pub(crate) fn agreement_table(n: usize, frame: &[i16], word: &[u8]) -> Agreed
     if second != 0 {
         return Agreed::Refused(second);
     }
-    Agreed::Is(agreement_sum(frame, word))
+    Agreed::Is(inputs::agreement(frame, word))
 }

@@ -5,10 +5,10 @@ use Prim.Native.Nat.{ℕ, _+_, _-_, _≤_, _<_, max}
 use native.Mathlib.Omega.{arith}
 use lib.ListN.{length, take, drop, length-take, length-drop}
 use Rattle.rules.proofs.AnnouncedLaws.{announced-most}
-use Rattle.reporting.specs.ReadOn.{fileLimit, ReadOn}
+use Rattle.reporting.specs.ReadOn.{fileLimit, between, ReadOn}
 
--- got of what is handed on, which is what stands between size and end
-pub on-to : (size end got : ℕ) (old new : List ℕ) → size < end → end ≤ length old → got ≤ length new → length new ≡ length (take (end - size) (drop size old)) → size + got ≤ max size end
+-- got of what is handed on
+pub on-to : (size end got : ℕ) (old new : List ℕ) → size < end → end ≤ length old → got ≤ length new → length new ≡ length (between size end old) → size + got ≤ max size end
 on-to size end got old new h k g e = omega (arith, length-take (end - size) (drop size old), length-drop size old)
 
 pub read-most : (size r : ℕ) (new old : List ℕ) → size ≤ fileLimit → ReadOn size r new old → r ≤ fileLimit

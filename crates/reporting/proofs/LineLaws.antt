@@ -5,7 +5,7 @@ use mathlib.Core.List.{List}
 use Prim.Native.Nat.{ℕ, _≤_}
 use native.Mathlib.Omega.{arith}
 use native.Mathlib.Nat.{le-trans}
-use lib.ListN.{length, take, replicate}
+use lib.ListN.{length, take}
 use lib.IntN.{ℤ}
 use Rattle.rules.specs.Limits.{maxBits, maxEdges, roundLimit}
 use Rattle.rules.specs.Refusal.{Answer, refused, gives, must, then, bufferShort}
@@ -13,27 +13,29 @@ use Rattle.rules.specs.Bytes.{u16At}
 use Rattle.rules.specs.Table.{Table}
 use Rattle.rules.specs.CodeFile.{codeFile}
 use Rattle.rules.specs.Sound.{Sound}
-use Rattle.rules.specs.Judge.{passes, agreementOf}
+use Rattle.rules.specs.Parity.{agreement}
+use Rattle.rules.specs.Input.{bitsOf}
+use Rattle.rules.specs.Judge.{passes}
 use Rattle.rules.specs.Buffers.{by-name, word, certificate, Buffers, the, each, zeroed, lengthsOf, needs, Part, blank, write, startLent, fitsStart, zeroing}
 use Rattle.rules.specs.Run.{Status, running, certified, spent, Progress, fresh, Called, callBy, call, startBy, start}
 use Rattle.rules.specs.Calls.{startedRun}
-use Rattle.rules.specs.Report.{refusedLine, certifiedLine, lineAt, frameLine}
+use Rattle.rules.specs.Report.{certifiedLine, lineAt, frameLine}
 use Rattle.rules.proofs.AnswerLaws.{refused≢gives, gives-inj}
 use Rattle.rules.proofs.Tables.{file-sound}
 use Rattle.rules.proofs.CallPasses.{call-passes}
 use Rattle.rules.proofs.Fresh.{zero-room, started-on}
-use Rattle.rules.proofs.ReportLaws.{blank-line, refused-line, Asked, judged-asked}
+use Rattle.rules.proofs.ReportLaws.{blank-line, refused-line, Sized, judged-sized}
+use Rattle.inputs.specs.Agreed.{agreed}
+use Rattle.inputs.proofs.AgreedLaws.{agreed-whole}
 use Rattle.run.specs.declared.Record.{Record}
 use Rattle.run.specs.declared.Started.{Started}
 use Rattle.run.specs.declared.Started.the-variants.{Refused, Fresh}
 use Rattle.run.specs.Reply.{progressOf, startedOf}
+use Rattle.decoder.specs.declared.Called as code
 use Rattle.decoder.specs.declared.Outcome.{Outcome}
 use Rattle.decoder.specs.declared.Outcome.the-variants as out
 use Rattle.decoder.specs.Reply.{outcomeOf}
-use Rattle.judge.specs.Reply.{agreedOf}
-use Rattle.judge.specs.declared.Agreed.{Agreed}
-use Rattle.judge.specs.declared.Agreed.the-variants as agreed
-use Rattle.reporting.specs.Ran.{greatest, lentWith, ranOf, freshRan, certifiedBy, lineFrom}
+use Rattle.reporting.specs.Ran.{greatest, blankWord, blankCertificate, lentWith, ranOf, ranAs, freshRan, lineFrom}
 
 -- ---- a start with room for every table
 -- it is refused for its file alone
@@ -120,47 +122,48 @@ module _ (file : List ℕ) (l : List ℤ) (b : Buffers) (h : maxEdges ≤ length
 enough : (t : Table) → Sound t → Part (needs t) greatest
 enough t s = by-name (search arith)
 
+-- the agreement of what the code takes of the word's buffer
+taken-agreed : (l : List ℤ) (w : List ℕ) (n : ℕ) → Sized l (take n w) n → n ≤ maxBits → agreed l (take (length l) w) ≡ agreement n l (bitsOf (take n w))
+taken-agreed l w n s h =
+    ap (λ k. agreed l (take k w)) (s .frame) ∙ agreed-whole l (take n w) (s .word ∙ sym (s .frame)) (omega (arith, s .frame)) ∙ ap (λ k. agreement k l (bitsOf (take n w))) (s .frame)
+
 module _ (file : List ℕ) (l : List ℤ) where
   run : Called
   run = call file l roundLimit (startedRun file (blank greatest))
 
-  asked : (t : Table) → codeFile file ≡ gives t → run .answer ≡ gives certified → Asked file l (take (t .bits) (run .run .buffers .word)) t
+  certified-sized : (t : Table) → codeFile file ≡ gives t → run .answer ≡ gives certified → Sized l (take (t .bits) (run .run .buffers .word)) (t .bits)
   unfolding run
-  asked t isFile e = judged-asked file l _ _ passes t isFile (call-passes file l roundLimit (startedRun file (blank greatest)) t isFile e)
+  certified-sized t isFile e = judged-sized file l _ _ passes t isFile (call-passes file l roundLimit (startedRun file (blank greatest)) t isFile e)
 
-  by-answer : (t : Table) → codeFile file ≡ gives t → (a : Answer Status) → run .answer ≡ a
-      → lineFrom file l a (run .run .progress .rounds) (run .run .buffers .word) (run .run .buffers .certificate) ≡ lineAt t l (run .run) a
+  by-answer : (t : Table) → codeFile file ≡ gives t → (a : Answer Status) → run .answer ≡ a → lineFrom l a (ranOf run) ≡ lineAt t l (run .run) a
   by-answer t isFile (refused k) e = refl
   by-answer t isFile (gives running) e = refl
-  by-answer t isFile (gives certified) e =
-      let x = asked t isFile e in
-      ap (λ n. certifiedBy (run .run .progress .rounds) (agreementOf file l (take n (run .run .buffers .word))) (u16At (run .run .buffers .certificate) 0)) (x .frame)
-      ∙ ap (λ a. certifiedBy (run .run .progress .rounds) a (u16At (run .run .buffers .certificate) 0)) (x .agreed)
+  by-answer t isFile (gives certified) e = ap (λ a. certifiedLine (run .run .progress .rounds) a (u16At (run .run .buffers .certificate) 0))
+      (taken-agreed l (run .run .buffers .word) (t .bits) (certified-sized t isFile e) (file-sound file t isFile .bits .1))
   by-answer t isFile (gives spent) e = refl
 
   on-refused : (k : ℕ) → codeFile file ≡ refused k → run .answer ≡ refused k
   unfolding run call
   on-refused k e = ap (λ a. callBy l roundLimit (startedRun file (blank greatest)) a .answer) e
 
-  line-run : lineFrom file l (run .answer) (run .run .progress .rounds) (run .run .buffers .word) (run .run .buffers .certificate) ≡ frameLine file l
+  line-run : lineFrom l (run .answer) (ranOf run) ≡ frameLine file l
   unfolding run
   line-run = go (codeFile file) refl
     where
       d : Called
       d = call file l roundLimit (startedRun file (blank greatest))
 
-      go : (a : Answer Table) → codeFile file ≡ a → lineFrom file l (d .answer) (d .run .progress .rounds) (d .run .buffers .word) (d .run .buffers .certificate) ≡ frameLine file l
-      go (refused k) e = ap (λ a. lineFrom file l a (d .run .progress .rounds) (d .run .buffers .word) (d .run .buffers .certificate)) (on-refused k e) ∙ sym (refused-line file l k e)
+      go : (a : Answer Table) → codeFile file ≡ a → lineFrom l (d .answer) (ranOf d) ≡ frameLine file l
+      go (refused k) e = ap (λ a. lineFrom l a (ranOf d)) (on-refused k e) ∙ sym (refused-line file l k e)
       go (gives t) e = by-answer t e (d .answer) refl ∙ blank-line file t l greatest e (enough t (file-sound file t e))
 
--- ---- of what the code's run comes to: outcome o, rounds n, word w and certificate c
-module _ (file : List ℕ) (l : List ℤ) (o : Outcome) (n : ℕ) (w c : List ℕ)
-    (e : record { answer = outcomeOf o; rounds = n; word = w; certificate = c } ≡ freshRan file l (lentWith (replicate (greatest word) 0) (replicate (greatest certificate) 0))) where
-  pub line-of : (p : Outcome) → o ≡ p → lineFrom file l (outcomeOf p) n w c ≡ frameLine file l
+-- ---- of what the code's run comes to: what it answered, the word and the certificate
+module _ (file : List ℕ) (l : List ℤ) (d : code.Called) (w c : List ℕ) (e : ranAs d w c ≡ freshRan file l (lentWith blankWord blankCertificate)) where
+  pub line-of : (o : Outcome) → d .outcome ≡ o → lineFrom l (outcomeOf o) (ranAs d w c) ≡ frameLine file l
   unfolding freshRan lentWith run
-  line-of p q = ap (λ x. lineFrom file l (outcomeOf x) n w c) (sym q) ∙ ap (λ r. lineFrom file l (r .answer) (r .rounds) (r .word) (r .certificate)) e ∙ line-run file l
+  line-of o q = ap (λ x. lineFrom l (outcomeOf x) (ranAs d w c)) (sym q) ∙ ap (λ r. lineFrom l (r .answer) r) e ∙ line-run file l
 
-  pub certified-short : o ≡ out.Certified → length l ≤ maxBits
+  pub certified-short : d .outcome ≡ out.Certified → length l ≤ maxBits
   unfolding freshRan lentWith run
   certified-short q = go (codeFile file) refl
     where
@@ -169,12 +172,4 @@ module _ (file : List ℕ) (l : List ℤ) (o : Outcome) (n : ℕ) (w c : List �
 
       go : (a : Answer Table) → codeFile file ≡ a → length l ≤ maxBits
       go (refused k) p = absurd (refused≢gives (sym (on-refused file l k p) ∙ is))
-      go (gives t) p = omega (arith, asked file l t p is .frame, file-sound file t p .bits .1)
-
--- ---- the certified line, from what the judge answered
-module _ (rounds cuts : ℕ) (x : Answer ℤ) (r : Agreed) (e : agreedOf r ≡ x) where
-  pub agreed-refused : (k : ℕ) → r ≡ agreed.Refused k → refusedLine k ≡ certifiedBy rounds x cuts
-  agreed-refused k p = ap (λ a. certifiedBy rounds a cuts) (ap agreedOf (sym p) ∙ e)
-
-  pub agreed-line : (v a : ℤ) (q : ℕ) → v ≡ a → q ≡ cuts → r ≡ agreed.Is a → certifiedLine rounds v q ≡ certifiedBy rounds x cuts
-  agreed-line v a q f g p = ap₂ (certifiedLine rounds) f g ∙ ap (λ a. certifiedBy rounds a cuts) (ap agreedOf (sym p) ∙ e)
+      go (gives t) p = omega (arith, certified-sized file l t p is .frame, file-sound file t p .bits .1)

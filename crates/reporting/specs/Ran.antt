@@ -6,15 +6,23 @@ use lib.IntN.{ℤ}
 use Rattle.rules.specs.Limits.{maxBits, maxChecks, maxEdges, roundLimit}
 use Rattle.rules.specs.Refusal.{Answer, refused, gives}
 use Rattle.rules.specs.Bytes.{u16At}
-use Rattle.rules.specs.Judge.{agreementOf}
-use Rattle.rules.specs.Buffers.{Buffers, lent, Lengths, needsBy, zeros}
+use Rattle.rules.specs.Buffers.{word, certificate, Buffers, lent, Lengths, needsBy, zeros}
 use Rattle.rules.specs.Run.{Status, running, certified, spent, Called, call}
 use Rattle.rules.specs.Calls.{startedRun}
 use Rattle.rules.specs.Report.{Line, refusedLine, certifiedLine, spentLine, runningLine}
+use Rattle.inputs.specs.Agreed.{agreed}
+use Rattle.decoder.specs.declared.Called as code
+use Rattle.decoder.specs.Reply.{outcomeOf}
 
 -- no table needs longer buffers
 abbrev pub greatest : Lengths
 greatest = needsBy maxBits maxChecks maxEdges
+
+abbrev pub blankWord : List ℕ
+blankWord = replicate (greatest word) 0
+
+abbrev pub blankCertificate : List ℕ
+blankCertificate = replicate (greatest certificate) 0
 
 -- the buffers of a frame's run: blank, but for word and certificate, which the caller lends
 unfoldable pub lentWith : List ℕ → List ℕ → Buffers
@@ -26,20 +34,20 @@ pub record Ran : Type 0 where
   pub word : List ℕ
   pub certificate : List ℕ
 
+-- of the call as the definitions have it, and as the code's answer has it, with word and certificate as they are then
 abbrev pub ranOf : Called → Ran
 ranOf d = record { answer = d .answer; rounds = d .run .progress .rounds; word = d .run .buffers .word; certificate = d .run .buffers .certificate }
+
+abbrev pub ranAs : code.Called → List ℕ → List ℕ → Ran
+ranAs d w c = record { answer = outcomeOf (d .outcome); rounds = d .run .rounds; word = w; certificate = c }
 
 -- "each frame gets a fresh run of 1,024 rounds"
 unfoldable pub freshRan : List ℕ → List ℤ → Buffers → Ran
 freshRan file l b = ranOf (call file l roundLimit (startedRun file b))
 
 -- "After certified: rounds, agreement, cuts"
-abbrev pub certifiedBy : ℕ → Answer ℤ → ℕ → Line
-certifiedBy rounds (refused k) cuts = refusedLine k
-certifiedBy rounds (gives a) cuts = certifiedLine rounds a cuts
-
-abbrev pub lineFrom : List ℕ → List ℤ → Answer Status → ℕ → List ℕ → List ℕ → Line
-lineFrom file l (refused k) rounds word certificate = refusedLine k
-lineFrom file l (gives running) rounds word certificate = runningLine rounds
-lineFrom file l (gives certified) rounds word certificate = certifiedBy rounds (agreementOf file l (take (length l) word)) (u16At certificate 0)
-lineFrom file l (gives spent) rounds word certificate = spentLine rounds
+abbrev pub lineFrom : List ℤ → Answer Status → Ran → Line
+lineFrom l (refused k) r = refusedLine k
+lineFrom l (gives running) r = runningLine (r .rounds)
+lineFrom l (gives certified) r = certifiedLine (r .rounds) (agreed l (take (length l) (r .word))) (u16At (r .certificate) 0)
+lineFrom l (gives spent) r = spentLine (r .rounds)

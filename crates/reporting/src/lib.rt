@@ -8,7 +8,6 @@ use code::read_code;
 use decoder::Called;
 use decoder::Outcome;
 use file_numbers::u16_of;
-use judge::Agreed;
 use limits::MAX_BITS;
 use limits::MAX_CHECKS;
 use limits::MAX_EDGES;
@@ -23,11 +22,10 @@ ghost use Prim.Native.Nat.{_≤_};
 ghost use lib.ListN.{length};
 ghost use Rattle.rules.specs.Limits.{maxBits};
 ghost use Rattle.rules.specs.Bytes.{u16At};
-ghost use Rattle.rules.specs.Judge.{agreementOf};
-ghost use Rattle.rules.specs.Report.{frameLine};
-ghost use Rattle.decoder.specs.Reply.{outcomeOf};
+ghost use Rattle.rules.specs.Report.{certifiedLine, frameLine};
+ghost use Rattle.inputs.specs.Agreed.{agreed};
 ghost use Rattle.reporting.specs.View.{lineOf};
-ghost use Rattle.reporting.specs.Ran.{lentWith, freshRan, certifiedBy};
+ghost use Rattle.reporting.specs.Ran.{lentWith, ranAs, freshRan};
 
 // "certificate 4 + 10m"
 const CERTIFICATE_LIMIT: usize = 4 + 10 * MAX_CHECKS;
@@ -47,8 +45,7 @@ pub enum Line {
 
 // "each frame gets a fresh run of 1,024 rounds"
 fn decode(code: &[u8], frame: &[i16], word: &mut [u8], certificate: &mut [u8]) -> Called
-    ensures { λ r. ⌜ (record { answer = outcomeOf (r .outcome); rounds = r .run .rounds; word = now (word .exit); certificate = now (certificate .exit) })
-        ≡ freshRan (now (code .entry)) (now (frame .entry)) (lentWith (now (word .entry)) (now (certificate .entry))) ⌝ }
+    ensures { λ r. ⌜ ranAs r (now (word .exit)) (now (certificate .exit)) ≡ freshRan (now (code .entry)) (now (frame .entry)) (lentWith (now (word .entry)) (now (certificate .entry))) ⌝ }
 {
     let mut spins = [0i32; MAX_BITS];
     let mut copies = [0i32; MAX_EDGES];
@@ -78,18 +75,14 @@ fn decode(code: &[u8], frame: &[i16], word: &mut [u8], certificate: &mut [u8]) -
 }
 
 // The cuts are the certificate's q.
-fn certified_line(code: &[u8], frame: &[i16], rounds: u32, word: &[u8], certificate: &[u8]) -> Line
+fn certified_line(frame: &[i16], rounds: u32, word: &[u8], certificate: &[u8]) -> Line
     requires { ⌜ 4 ≤ length (now certificate) ⌝ }
-    ensures { λ r. ⌜ lineOf r ≡ certifiedBy rounds (agreementOf (now (code .entry)) (now (frame .entry)) (now (word .entry))) (u16At (now (certificate .entry)) 0) ⌝ }
+    ensures { λ r. ⌜ lineOf r ≡ certifiedLine rounds (agreed (now (frame .entry)) (now (word .entry))) (u16At (now (certificate .entry)) 0) ⌝ }
 {
-    let agreed = judge::agreement(code, frame, word);
-    match agreed {
-        Agreed::Refused(k) => Line::Refused(k),
-        Agreed::Is(a) => Line::Certified {
-            rounds,
-            agreement: a,
-            cuts: u16_of(certificate[0], certificate[1]),
-        },
+    Line::Certified {
+        rounds,
+        agreement: inputs::agreement(frame, word),
+        cuts: u16_of(certificate[0], certificate[1]),
     }
 }
 
@@ -107,7 +100,7 @@ pub fn frame_line(code: &[u8], frame: &[i16]) -> Line
         Outcome::Running => Line::Running(rounds),
         Outcome::Certified => {
             let bits = frame.len();
-            certified_line(code, frame, rounds, &word[..bits], &certificate)
+            certified_line(frame, rounds, &word[..bits], &certificate)
         }
         Outcome::Spent => Line::Spent(rounds),
     }

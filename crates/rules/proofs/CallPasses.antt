@@ -1,9 +1,9 @@
 -- "Those the decoder writes pass", of a call: where a call for rounds answers certified, the judge certifies the word's first n bytes and the
 -- certificate's first 4 + 10q bytes, as they stand in the buffers afterwards, on the same file and frame. Assumes nothing.
 use mathlib.Core.Path.{_≡_, refl, sym, _∙_, ap, ap₂, subst}
-use mathlib.Core.Bool.{true, false, false≢true}
+use mathlib.Core.Bool.{true, false≢true}
 use mathlib.Core.List.{List, [], _∷_}
-use Prim.Native.Nat.{ℕ, _+_, _≤_, _<_}
+use Prim.Native.Nat.{ℕ, _+_, _≤_}
 use native.Mathlib.Omega.{arith}
 use lib.Dec.{leb, eqb}
 use borrow.Author.Tests.{eqb-true}
@@ -16,7 +16,7 @@ use Rattle.rules.specs.CodeFile.{codeFile}
 use Rattle.rules.specs.Input.{eachWithin, onFrame}
 use Rattle.rules.specs.Step.{Entry, Step}
 use Rattle.rules.specs.Round.{State, entriesIn, round}
-use Rattle.rules.specs.Bytes.{u16Limit, u16At}
+use Rattle.rules.specs.Bytes.{u16At}
 use Rattle.rules.specs.Certificate.{cutsIn, certificateOf, entriesOf}
 use Rattle.rules.specs.Judge.{passes, judge}
 use Rattle.rules.specs.Buffers.{Lengths, lengthsOf, needs, fits, over, overBy, bytesOf, wordLeft, certificateLeft}
@@ -25,8 +25,8 @@ use Rattle.rules.proofs.AnswerLaws.{refused≢gives, must-gives}
 use Rattle.rules.proofs.Tables.{file-sound}
 use Rattle.rules.proofs.Pass.{AllLaid, stepsIn, steps-laid, entries-length}
 use Rattle.rules.proofs.Optimal.{round-passed}
-use Rattle.rules.proofs.Written.{cuts-few, certificate-length, entries-written}
-use Rattle.rules.proofs.WrittenPasses.{AllProper, bytes-length, written-passes}
+use Rattle.rules.proofs.Written.{certificate-length}
+use Rattle.rules.proofs.WrittenPasses.{AllProper, bytes-length, checks-written, written-passes}
 use Rattle.rules.proofs.BufferLaws.{take-over}
 use Rattle.rules.proofs.RoundSizes.{round-sized}
 use Rattle.rules.proofs.Runs.{coming, Ends, iterate-ends}
@@ -72,10 +72,7 @@ module _ (t : Table) (l : List ℤ) (q : Run) (e : Ends t l q) where
   count : checksOf t ≤ maxChecks → entriesOf (q .buffers .certificate) ≡ cutsIn es
   unfolding es
   count h = ap entriesOf left-bytes ∙ entries-front (coming t l (e .last) .entries) (e .last .buffers .certificate)
-      ∙ entries-written (coming t l (e .last) .entries) (few _ _ _ (cuts-few (coming t l (e .last) .entries)) (round-entries t l (stateIn t (e .last .buffers))) h)
-    where
-      few : (q n m : ℕ) → q ≤ n → n ≡ m → m ≤ maxChecks → q < u16Limit
-      few q n m h e k = omega arith
+      ∙ checks-written (coming t l (e .last) .entries) (round-entries t l (stateIn t (e .last .buffers))) h
 
   ended-certificate : checksOf t ≤ maxChecks → take (certificateLength (entriesOf (q .buffers .certificate))) (q .buffers .certificate) ≡ certificateOf es
   ended-certificate h = ap₂ (λ n c. take (certificateLength n) c) (count h) left-bytes ∙ take-over (certificateLength (cutsIn es)) (certificateOf es) (e .last .buffers .certificate) (certificate-length es)

@@ -21,6 +21,7 @@ pub mod Judged
 pub mod Written
 pub mod WrittenPasses
 pub mod BufferLaws
+pub mod StoreLaws
 pub mod RoundSizes
 pub mod Runs
 pub mod Lends

@@ -1,4 +1,4 @@
--- A frame's line on blank buffers that are longer than they need be; and the agreement of a word that was judged can be asked for. Assumes nothing.
+-- A frame's line on blank buffers that are longer than they need be; and the lengths of a frame and a word that were judged. Assumes nothing.
 use mathlib.Core.Path.{_≡_, refl, sym, _∙_, ap, ap₂, subst}
 use mathlib.Core.Bool.{Bool, true, false, not, _&&_, _||_}
 use mathlib.Core.List.{List, _∷_}
@@ -7,22 +7,23 @@ use native.Mathlib.Omega.{arith}
 use native.Mathlib.Nat.{le-of-suc-le-suc}
 use lib.Dec.{leb, eqb}
 use borrow.Author.Tests.{le-leb, eqb-true}
-use lib.ListN.{length, take, drop, replicate, length-take, length-replicate, List·getD-append}
+use lib.ListN.{length, take, drop, replicate, length-replicate, List·getD-append}
 use lib.Seq.{take-all}
-use lib.IntN.{ℤ, pos}
+use lib.IntN.{ℤ}
 use Rattle.rules.specs.Limits.{frameLimit, roundLimit}
 use Rattle.rules.specs.Refusal.{Answer, refused, gives, must, frameLength, frameRange, wordWrong, askedTooMuch, bufferShort, runEnded, runDamaged}
 use Rattle.rules.specs.Bytes.{u16At}
-use Rattle.rules.specs.Table.{Table, edgesOf}
+use Rattle.rules.specs.Table.{Table}
 use Rattle.rules.specs.CodeFile.{codeFile}
 use Rattle.rules.specs.Parity.{agreement}
 use Rattle.rules.specs.Input.{eachWithin, onFrame, eachBit, onWord, bitsOf}
-use Rattle.rules.specs.Judge.{Verdict, judge, agreementOf}
-use Rattle.rules.specs.Buffers.{Buffer, word, certificate, nought, Buffers, the, Lengths, lengthsOf, Part, needs, blank, partOf, over, write, zeroed, fitsStart, zeroing}
+use Rattle.rules.specs.Judge.{Verdict, judge}
+use Rattle.rules.specs.Buffers.{word, certificate, nought, Buffers, the, Lengths, lengthsOf, Part, needs, blank, partOf, over, write, zeroed, fitsStart, zeroing}
 use Rattle.rules.specs.Run.{Status, running, certified, spent, fresh, Run, stateIn, iterate, isRunning, sound, admits, Called, perform, callOn, callBy, call, start}
 use Rattle.rules.specs.Calls.{lend, giveBack, lentCall, startedRun}
 use Rattle.rules.specs.Report.{Line, refusedLine, certifiedLine, lineAt, lineBy, frameLine}
-use Rattle.rules.proofs.AnswerLaws.{must-gives, must-true, then-of}
+use Rattle.rules.proofs.Basics.{and-both}
+use Rattle.rules.proofs.AnswerLaws.{must-gives, then-of}
 use Rattle.rules.proofs.BufferLaws.{take-over, the-each, buffers-eq, true-every, part-refl, part-fits, lengths-part, past-lengths, write-past, write-part}
 use Rattle.rules.proofs.Runs.{held-start, iterate-held}
 use Rattle.rules.proofs.Lends.{lent-call}
@@ -123,19 +124,18 @@ pub refused-line : (file : List ℕ) (l : List ℤ) (k : ℕ) → codeFile file 
 unfolding frameLine
 refused-line file l k e = ap (lineBy file l) e
 
--- ---- of a word that was judged the agreement can be asked
-pub record Asked (file : List ℕ) (l : List ℤ) (w : List ℕ) (t : Table) : Type 0 where
-  pub frame : length l ≡ t .bits
-  pub agreed : agreementOf file l w ≡ gives (agreement (t .bits) l (bitsOf w))
+-- ---- of frame and word that were judged: both are as long as the code
+pub record Sized (l : List ℤ) (w : List ℕ) (n : ℕ) : Type 0 where
+  pub frame : length l ≡ n
+  pub word : length w ≡ n
 
-pub judged-asked : (file : List ℕ) (l : List ℤ) (w bs : List ℕ) (v : Verdict) (t : Table) → codeFile file ≡ gives t → judge file l w bs ≡ gives v → Asked file l w t
-unfolding judge agreementOf onFrame onWord
-judged-asked file l w bs v t isFile e =
+pub judged-sized : (file : List ℕ) (l : List ℤ) (w bs : List ℕ) (v : Verdict) (t : Table) → codeFile file ≡ gives t → judge file l w bs ≡ gives v → Sized l w (t .bits)
+unfolding judge onFrame onWord
+judged-sized file l w bs v t isFile e =
     let p1 = must-gives (eqb (length l) (t .bits)) frameLength _ v (sym (then-of (codeFile file) t _ isFile) ∙ e) in
     let p2 = must-gives (eachWithin frameLimit l) frameRange _ v (p1 .1) in
     let p3 = must-gives (eqb (length w) (t .bits) && eachBit w) wordWrong _ v (p2 .1) in
-    let a = gives (agreement (t .bits) l (bitsOf w)) in
     record {
       frame = eqb-true (length l) (t .bits) (p1 .0);
-      agreed = then-of (codeFile file) t _ isFile ∙ must-true _ frameLength _ (p1 .0) ∙ must-true _ frameRange _ (p2 .0) ∙ must-true _ wordWrong a (p3 .0);
+      word = eqb-true (length w) (t .bits) (and-both (eqb (length w) (t .bits)) (eachBit w) (p3 .0) .0);
     }

@@ -152,6 +152,13 @@ items-right t p j (ms ∷ cs) (active m ts ∷ es) a f q b h =
     ∙ items-right t (some (record { check = j; multiplier = m; mask = maskOf ts })) (suc j) cs es a (from-next t j ms cs f) (q .1) (or-false (ltb maxMultiplier m) (tooLarge es) b .1) (omega arith)
 
 -- ---- the whole certificate
+-- an entry for each check: the number of cuts reads back
+pub checks-written : (es : List Entry) {m : ℕ} → length es ≡ m → m ≤ maxChecks → entriesOf (certificateOf es) ≡ cutsIn es
+checks-written es {m} e h = entries-written es (fewer (cutsIn es) (length es) m (cuts-few es) e h)
+  where
+    fewer : (q n m : ℕ) → q ≤ n → n ≡ m → m ≤ maxChecks → q < u16Limit
+    fewer q n m h e k = omega arith
+
 items-back : (t : Table) (es : List Entry) → Sound t → AllProper (t .checks) es → tooLarge es ≡ false → itemsOf (certificateOf es) ≡ listed 0 es
 items-back t es s p b = items-written es (wide (length es) (checksOf t) (proper-many (t .checks) es p) (s .checks .1)) (narrow (t .checks) es (s .degrees) p b)
   where
@@ -175,11 +182,8 @@ certificate-right t es a s p b =
     four : (q n : ℕ) → n ≡ 4 + 10 * q → 4 ≤ n
     four q n e = omega arith
 
-    fewer : (q n m : ℕ) → q ≤ n → n ≡ m → m ≤ maxChecks → q < u16Limit
-    fewer q n m h e k = omega arith
-
     count : entriesOf (certificateOf es) ≡ cutsIn es
-    count = entries-written es (fewer (cutsIn es) (length es) (checksOf t) (cuts-few es) many (s .checks .1))
+    count = checks-written es many (s .checks .1)
 
     few : (x q n m : ℕ) → x ≡ q → q ≤ n → n ≡ m → m ≤ maxChecks → x ≤ maxEntries
     few x q n m e h f k = omega arith

@@ -6,27 +6,24 @@ use Prim.Native.Nat.{ℕ, suc, _+_, _*_, _≤_, _<_, zero-le}
 use native.Mathlib.Omega.{arith}
 use native.Mathlib.Numerals.{add-one}
 use lib.Dec.{leb, eqb}
-use lib.ListN.{length, getD, drop, length-append}
+use lib.ListN.{length, getD, drop, length-append, drop-of-length-le}
 use lib.Seq.{sets}
 use borrow.Author.Tests.{eq-eqb, ne-eqb, le-leb, lt-leb}
 use Rattle.rules.specs.Limits.{maxChecks, certificateLength}
 use Rattle.rules.specs.Refusal.{gives, must, sizeRange, bufferShort}
 use Rattle.rules.specs.Bytes.{le16, le32}
 use Rattle.rules.specs.Buffers.{over}
-use Rattle.writing.specs.Written.{cutsFrom, contentsFrom, bodiesFrom, certificateFrom, Written, writtenBy, certificateWritten}
-use Rattle.writing.proofs.SetsLaws.{drop-next, drop-end, sets-next, sets-over}
+use Rattle.rules.proofs.StoreLaws.{drop-next, sets-next, sets-over}
+use Rattle.writing.specs.Written.{ifCut, PutAt, cutsFrom, contentsFrom, bodiesFrom, certificateFrom, Written, writtenBy, certificateWritten}
 
 -- ---- what a check writes, if its mask is not 0
-abbrev pub ifCut : ℕ → List ℕ → List ℕ
-ifCut k xs = cond (eqb k 0) [] xs
-
 module _ (l : List ℕ) (i k : ℕ) (xs : List ℕ) where
-  pub cut-none : k ≡ 0 → (l ≡ sets l i (ifCut k xs)) × (i ≡ i + length (ifCut k xs))
+  pub cut-none : k ≡ 0 → PutAt l i (ifCut k xs) l i
   cut-none e =
       let t : eqb k 0 ≡ true = eq-eqb k 0 e in
       (ap (λ b. sets l i (cond b [] xs)) (sym t), sym (ap (λ b. i + length (cond b [] xs)) t ∙ omega arith))
 
-  pub cut-some : (k ≡ 0 → ⊥) → (sets l i xs ≡ sets l i (ifCut k xs)) × (i + length xs ≡ i + length (ifCut k xs))
+  pub cut-some : (k ≡ 0 → ⊥) → PutAt l i (ifCut k xs) (sets l i xs) (i + length xs)
   cut-some f =
       let t : eqb k 0 ≡ false = ne-eqb k 0 f in
       (ap (λ b. sets l i (cond b [] xs)) (sym t), ap (λ b. i + length (cond b [] xs)) (sym t))
@@ -57,7 +54,7 @@ pub cuts-none : (ks : List ℕ) (j : ℕ) → j < length ks → getD ks j 0 ≡ 
 cuts-none ks j h e = cuts-next ks j h ∙ ap (λ b. cond b 0 1 + cutsFrom (drop (j + 1) ks)) (eq-eqb (getD ks j 0) 0 e)
 
 pub cuts-end : (ks : List ℕ) (j : ℕ) → length ks ≤ j → cutsFrom (drop j ks) ≡ 0
-cuts-end ks j h = ap cutsFrom (drop-end ks j h) ∙ cuts-nil
+cuts-end ks j h = ap cutsFrom (drop-of-length-le ks h) ∙ cuts-nil
 
 -- ---- contents
 contents-cons : (j b : ℕ) (bs : List ℕ) (k : ℕ) (ks : List ℕ) → contentsFrom j (b ∷ bs) (k ∷ ks) ≡ ifCut k (le16 j ++ le32 b) ++ contentsFrom (suc j) bs ks
@@ -76,7 +73,7 @@ contents-next bs ks j hb hk = ap₂ (contentsFrom j) (drop-next bs j 0 hb) (drop
     ∙ ap (λ n. ifCut (getD ks j 0) (le16 j ++ le32 (getD bs j 0)) ++ contentsFrom n (drop (j + 1) bs) (drop (j + 1) ks)) (sym (add-one j))
 
 pub contents-end : (bs ks : List ℕ) (j : ℕ) → length bs ≤ j → contentsLeft bs ks j ≡ []
-contents-end bs ks j h = ap (λ l. contentsFrom j l (drop j ks)) (drop-end bs j h) ∙ contents-nil j (drop j ks)
+contents-end bs ks j h = ap (λ l. contentsFrom j l (drop j ks)) (drop-of-length-le bs h) ∙ contents-nil j (drop j ks)
 
 contents-most : (j : ℕ) (bs ks : List ℕ) → length (contentsFrom j bs ks) ≤ 6 * length ks
 unfolding contentsFrom
@@ -104,7 +101,7 @@ pub bodies-next : (ks : List ℕ) (j : ℕ) → j < length ks → bodiesFrom (dr
 bodies-next ks j h = ap bodiesFrom (drop-next ks j 0 h) ∙ bodies-cons (getD ks j 0) (drop (j + 1) ks)
 
 pub bodies-end : (ks : List ℕ) (j : ℕ) → length ks ≤ j → bodiesFrom (drop j ks) ≡ []
-bodies-end ks j h = ap bodiesFrom (drop-end ks j h) ∙ bodies-nil
+bodies-end ks j h = ap bodiesFrom (drop-of-length-le ks h) ∙ bodies-nil
 
 bodies-most : (ks : List ℕ) → length (bodiesFrom ks) ≤ 4 * length ks
 unfolding bodiesFrom
@@ -123,17 +120,21 @@ pub contents-stop : (bs ks : List ℕ) (r : ℕ) → r ≡ 4 + length (contentsF
 contents-stop bs ks r e = omega (arith, contents-most 0 bs ks)
 
 -- ---- the parts, written one after the other
-pub certificate-all : (c c1 c2 c3 c4 bs ks : List ℕ) (r : ℕ) → 4 + 10 * length ks ≤ length c
-    → c1 ≡ sets c 0 (le16 (cutsFrom ks)) → c2 ≡ sets c1 2 (le16 1) → c3 ≡ sets c2 4 (contentsFrom 0 bs ks) → r ≡ 4 + length (contentsFrom 0 bs ks) → c4 ≡ sets c3 r (bodiesFrom ks)
-    → c4 ≡ over (certificateFrom bs ks) c
+pub record InTurn (bs ks c c1 c2 c3 : List ℕ) (r : ℕ) (c4 : List ℕ) : Type 0 where
+  pub count : c1 ≡ sets c 0 (le16 (cutsFrom ks))
+  pub scale : c2 ≡ sets c1 2 (le16 1)
+  pub contents : PutAt c2 4 (contentsFrom 0 bs ks) c3 r
+  pub bodies : c4 ≡ sets c3 r (bodiesFrom ks)
+
+pub certificate-all : {bs ks c c1 c2 c3 c4 : List ℕ} {r : ℕ} → 4 + 10 * length ks ≤ length c → InTurn bs ks c c1 c2 c3 r c4 → c4 ≡ over (certificateFrom bs ks) c
 unfolding certificateFrom
-certificate-all c c1 c2 c3 c4 bs ks r h e1 e2 e3 er e4 =
+certificate-all {bs} {ks} {c} {c1} {c2} {c3} {c4} {r} h p =
     let head = le16 (cutsFrom ks) ++ le16 1 in
     let most : length (head ++ contentsFrom 0 bs ks ++ bodiesFrom ks) ≤ length c =
     omega (arith, length-append (head ++ contentsFrom 0 bs ks) (bodiesFrom ks), length-append head (contentsFrom 0 bs ks), contents-most 0 bs ks, bodies-most ks) in
-    let two : c2 ≡ sets c 0 head = e2 ∙ sets-next c c1 0 2 (le16 (cutsFrom ks)) (le16 1) e1 refl in
-    let three : c3 ≡ sets c 0 (head ++ contentsFrom 0 bs ks) = e3 ∙ sets-next c c2 0 4 head (contentsFrom 0 bs ks) two refl in
-    e4 ∙ sets-next c c3 0 r (head ++ contentsFrom 0 bs ks) (bodiesFrom ks) three (omega (arith, er, length-append head (contentsFrom 0 bs ks)))
+    let two : c2 ≡ sets c 0 head = p .scale ∙ sets-next c c1 0 2 (le16 (cutsFrom ks)) (le16 1) (p .count) refl in
+    let three : c3 ≡ sets c 0 (head ++ contentsFrom 0 bs ks) = p .contents .0 ∙ sets-next c c2 0 4 head (contentsFrom 0 bs ks) two refl in
+    p .bodies ∙ sets-next c c3 0 r (head ++ contentsFrom 0 bs ks) (bodiesFrom ks) three (omega (arith, p .contents .1, length-append head (contentsFrom 0 bs ks)))
     ∙ sets-over c (head ++ contentsFrom 0 bs ks ++ bodiesFrom ks) most
 
 -- ---- written, or refused
@@ -142,20 +143,27 @@ module _ (bs ks c : List ℕ) where
   tested : Bool → Bool → Bool → Written
   tested few even room = writtenBy (must few sizeRange (must even bufferShort (must room bufferShort (gives (certificateFrom bs ks))))) c
 
-  tested-is : (few even room : Bool) → leb (length ks) maxChecks ≡ few → eqb (length bs) (length ks) ≡ even → leb (certificateLength (length ks)) (length c) ≡ room
-      → certificateWritten bs ks c ≡ tested few even room
+  abbrev isFew : Bool
+  isFew = leb (length ks) maxChecks
+
+  abbrev isEven : Bool
+  isEven = eqb (length bs) (length ks)
+
+  abbrev hasRoom : Bool
+  hasRoom = leb (certificateLength (length ks)) (length c)
+
+  tested-is : (few even room : Bool) → isFew ≡ few → isEven ≡ even → hasRoom ≡ room → certificateWritten bs ks c ≡ tested few even room
   unfolding certificateWritten tested
-  tested-is few even room p q r = ap (λ x. tested x (eqb (length bs) (length ks)) (leb (certificateLength (length ks)) (length c))) p
-      ∙ ap₂ (tested few) q r
+  tested-is few even room p q r = ap (λ x. tested x isEven hasRoom) p ∙ ap₂ (tested few) q r
 
   pub certificate-many : maxChecks < length ks → record { number = sizeRange; bytes = c } ≡ certificateWritten bs ks c
   unfolding tested must
-  certificate-many h = sym (tested-is false (eqb (length bs) (length ks)) (leb (certificateLength (length ks)) (length c)) (lt-leb (length ks) maxChecks h) refl refl)
+  certificate-many h = sym (tested-is false isEven hasRoom (lt-leb (length ks) maxChecks h) refl refl)
 
   module _ (few : length ks ≤ maxChecks) where
     pub certificate-uneven : (length bs ≡ length ks → ⊥) → record { number = bufferShort; bytes = c } ≡ certificateWritten bs ks c
     unfolding tested must
-    certificate-uneven f = sym (tested-is true false (leb (certificateLength (length ks)) (length c)) (le-leb (length ks) maxChecks few) (ne-eqb (length bs) (length ks) f) refl)
+    certificate-uneven f = sym (tested-is true false hasRoom (le-leb (length ks) maxChecks few) (ne-eqb (length bs) (length ks) f) refl)
 
     module _ (even : length bs ≡ length ks) where
       pub certificate-short : length c < certificateLength (length ks) → record { number = bufferShort; bytes = c } ≡ certificateWritten bs ks c

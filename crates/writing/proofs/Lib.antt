@@ -1,3 +1,2 @@
-pub mod SetsLaws
 pub mod WordLaws
 pub mod CertificateLaws

@@ -2,15 +2,13 @@
 use file_numbers::put16;
 use file_numbers::put32;
 ghost use mathlib.Core.Path.{_≡_};
-ghost use mathlib.Core.Bool.{cond};
-ghost use mathlib.Core.List.{[], _++_};
+ghost use mathlib.Core.List.{_++_};
 ghost use Prim.Native.Nat.{_+_, _*_, _≤_};
-ghost use lib.Dec.{eqb};
 ghost use lib.ListN.{length};
 ghost use lib.Seq.{sets};
 ghost use Rattle.rules.specs.Bytes.{le16, le32};
 ghost use Rattle.rules.specs.Buffers.{over};
-ghost use Rattle.writing.specs.Written.{cutsFrom, contentsFrom, bodiesFrom, certificateFrom};
+ghost use Rattle.writing.specs.Written.{ifCut, cutsFrom, contentsFrom, bodiesFrom, certificateFrom, PutAt};
 
 // "S 1 to 1,023": a run's certificate has scale 1.
 const SCALE: usize = 1;
@@ -33,8 +31,7 @@ fn count_cuts(masks: &[u32]) -> usize
 // Check j's entry at byte `at`, if it has a cut; then the byte after it.
 fn put_content(bytes: &mut [u8], at: usize, j: usize, b: u32, mask: u32) -> usize
     requires { ⌜ at + 6 ≤ length (now bytes) ⌝ }
-    ensures { λ r. ⌜ (now (bytes .exit) ≡ sets (now (bytes .entry)) at (cond (eqb mask 0) [] (le16 j ++ le32 b)))
-        × (r ≡ at + length (cond (eqb mask 0) [] (le16 j ++ le32 b))) ⌝ }
+    ensures { λ r. ⌜ PutAt (now (bytes .entry)) at (ifCut mask (le16 j ++ le32 b)) (now (bytes .exit)) r ⌝ }
 {
     if mask == 0 {
         return at;
@@ -47,8 +44,7 @@ fn put_content(bytes: &mut [u8], at: usize, j: usize, b: u32, mask: u32) -> usiz
 // A check's mask at byte `at`, if it has a cut; then the byte after it.
 fn put_body(bytes: &mut [u8], at: usize, mask: u32) -> usize
     requires { ⌜ at + 4 ≤ length (now bytes) ⌝ }
-    ensures { λ r. ⌜ (now (bytes .exit) ≡ sets (now (bytes .entry)) at (cond (eqb mask 0) [] (le32 mask)))
-        × (r ≡ at + length (cond (eqb mask 0) [] (le32 mask))) ⌝ }
+    ensures { λ r. ⌜ PutAt (now (bytes .entry)) at (ifCut mask (le32 mask)) (now (bytes .exit)) r ⌝ }
 {
     if mask == 0 {
         return at;
@@ -60,8 +56,7 @@ fn put_body(bytes: &mut [u8], at: usize, mask: u32) -> usize
 // The contents from byte `from` on; then the byte after them.
 fn write_contents(multipliers: &[u32], masks: &[u32], from: usize, bytes: &mut [u8]) -> usize
     requires { ⌜ (length (now multipliers) ≡ length (now masks)) × (from + 6 * length (now masks) ≤ length (now bytes)) ⌝ }
-    ensures { λ r. ⌜ (now (bytes .exit) ≡ sets (now (bytes .entry)) from (contentsFrom 0 (now (multipliers .entry)) (now (masks .entry))))
-        × (r ≡ from + length (contentsFrom 0 (now (multipliers .entry)) (now (masks .entry)))) ⌝ }
+    ensures { λ r. ⌜ PutAt (now (bytes .entry)) from (contentsFrom 0 (now (multipliers .entry)) (now (masks .entry))) (now (bytes .exit)) r ⌝ }
 {
     let mut at = from;
     let mut j: usize = 0;

@@ -5,7 +5,7 @@ use Rattle.file_numbers.proofs.put32.Statement.{statement}
 use Rattle.file_numbers.proofs.put32.Tie as tie
 
 returns : tie.Need-returns
-returns c = search four-out
+returns c = four-out _ _ (c .if1 .taken) _ _ _ _
 
 put16-requires : tie.Need-put16-requires
 put16-requires c κs = search needs
@@ -20,7 +20,11 @@ same-length : tie.Need-same-length
 same-length c = search needs
 
 returns-2 : tie.Need-returns-2
-returns-2 c = search four-put
+returns-2 c =
+    let upper = c .before .before in
+    let lower = upper .before .before .before .before in
+    let start = lower .before .before .before .before in
+    four-put (start .args .bytes .now) _ _ (start .args .at) (start .args .x) (lower .put16 .ensures) (upper .put162 .ensures)
 
 pub put32-spec : {M : Type 1} → statement M
 put32-spec =

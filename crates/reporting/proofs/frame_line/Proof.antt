@@ -28,7 +28,7 @@ enum-told-2 c = search needs
 array-share-prefix-word : tie.Need-array-share-prefix-word
 array-share-prefix-word c =
     let ran = c .before .before .before .before .decode in
-    omega (arith, certified-short _ _ (ran .result .outcome) _ _ _ (ran .ensures) (c .enum-told2 .given .1))
+    omega (arith, certified-short _ _ (ran .result) _ _ (ran .ensures) (c .enum-told2 .given .1))
 
 slice-aggregate-certified-line : tie.Need-slice-aggregate-certified-line
 slice-aggregate-certified-line c = simp length-take (omega (arith, array-share-prefix-word (c .before)))
@@ -45,22 +45,22 @@ enum-told-3 c = search needs
 returns : tie.Need-returns
 returns c =
     let ran = c .before .before .before .before .before .decode in
-    line-of _ _ (ran .result .outcome) _ _ _ (ran .ensures) _ (c .before .outcome .given .1)
+    line-of _ _ (ran .result) _ _ (ran .ensures) _ (c .before .outcome .given .1)
 
 returns-2 : tie.Need-returns-2
 returns-2 c =
     let ran = c .before .before .before .before .decode in
-    line-of _ _ (ran .result .outcome) _ _ _ (ran .ensures) _ (c .enum-told .given .1)
+    line-of _ _ (ran .result) _ _ (ran .ensures) _ (c .enum-told .given .1)
 
 returns-3 : tie.Need-returns-3
 returns-3 c =
     let ran = c .before .before .before .before .before .before .before .decode in
-    c .certified-line .ensures ∙ line-of _ _ (ran .result .outcome) _ _ _ (ran .ensures) _ (c .before .before .before .enum-told2 .given .1)
+    c .certified-line .ensures ∙ line-of _ _ (ran .result) _ _ (ran .ensures) _ (c .before .before .before .enum-told2 .given .1)
 
 returns-4 : tie.Need-returns-4
 returns-4 c =
     let ran = c .before .before .before .before .decode in
-    line-of _ _ (ran .result .outcome) _ _ _ (ran .ensures) _ (c .enum-told3 .given .1)
+    line-of _ _ (ran .result) _ _ (ran .ensures) _ (c .enum-told3 .given .1)
 
 pub frame-line-spec : {M : Type 1} → statement M
 frame-line-spec =

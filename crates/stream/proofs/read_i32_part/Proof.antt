@@ -23,7 +23,11 @@ same-length : tie.Need-same-length
 same-length c = search needs
 
 returns-2 : tie.Need-returns-2
-returns-2 c = search (front-stored, whole-fits)
+returns-2 c =
+    let read = c .before .before in
+    let known = read .before .before .before in
+    let fits = whole-fits _ (known .before .before .read-size .ensures) (known .stated .given .1) in
+    front-stored (c .part-of .ensures) fits (search needs) (read .read-each .ensures .rest)
 
 pub read-i32-part-spec : {M : Type 1} → statement M
 read-i32-part-spec =

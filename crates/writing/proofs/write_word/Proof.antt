@@ -13,8 +13,8 @@ use Rattle.rules.specs.Cut.{negatives, isNeg}
 use Rattle.rules.specs.Buffers.{bytesOf}
 use Rattle.rules.specs.Table.{at}
 use Rattle.rules.specs.Mask.{digit}
+use Rattle.rules.proofs.StoreLaws.{sets-more, sets-end, sets-over}
 use Rattle.writing.proofs.WordLaws.{bytes-at, bytes-length, word-short, word-written}
-use Rattle.writing.proofs.SetsLaws.{sets-more, sets-end, sets-over}
 use Rattle.writing.proofs.write_word.Statement.{statement}
 use Rattle.writing.proofs.write_word.Tie as tie
 

@@ -11,7 +11,7 @@ use mir.Facts.{toZ-ofZ}
 use borrow.Author.Needs.{needs}
 use Rattle.integers.specs.Machine.{fit}
 use Rattle.rules.specs.Table.{at}
-use Rattle.writing.proofs.SetsLaws.{sets-more, sets-end, sets-all}
+use Rattle.rules.proofs.StoreLaws.{sets-more, sets-end, sets-all}
 use Rattle.decoder.proofs.gap.load.Statement.{statement}
 use Rattle.decoder.proofs.gap.load.Tie as tie
 

@@ -1,18 +1,15 @@
 -- `numbers_right` meets its contract: what is left from i on decides. Assumes nothing.
-use mathlib.Core.Path.{_≡_, refl, sym, _∙_, ap}
+use mathlib.Core.Path.{_≡_, refl, sym, _∙_}
 use Prim.Native.Nat.{_-_, _≤_}
 use native.Mathlib.Omega.{arith}
-use lib.Dec.{leb}
-use lib.IntN.{pos, natAbs}
-use lib.ListN.{length, getD, drop}
+use lib.ListN.{length, drop}
 use mir.Syntax.{w16}
-use mir.Facts.{toZ-ofZ}
 use borrow.Author.Needs.{needs}
 use borrow.Author.Tests.{not-true, not-false}
 use Rattle.integers.specs.Machine.{fit}
 use Rattle.rules.specs.Limits.{frameLimit}
 use Rattle.rules.specs.Input.{eachWithin}
-use Rattle.inputs.proofs.EachLaws.{each-fails, each-holds, each-end}
+use Rattle.inputs.proofs.EachLaws.{within-fails, within-holds, within-end}
 use Rattle.inputs.proofs.ranges.numbers_right.Statement.{statement}
 use Rattle.inputs.proofs.ranges.numbers_right.Tie as tie
 
@@ -34,14 +31,11 @@ shared-slice-copy-out-number-right c = search needs
 number-right-requires : tie.Need-number-right-requires Inv-loop μ-loop
 number-right-requires c κs = tt
 
--- the element that was tested
-tested : (c : tie.After-number-right Inv-loop μ-loop) → c .number-right .result ≡ leb (natAbs (getD (c .before .before .before .before .args .l .now) (c .before .before .before .loop .i) (pos 0))) frameLimit
-tested c = c .number-right .ensures ∙ ap (λ x. leb (natAbs x) frameLimit) (toZ-ofZ (fit w16 (getD (c .before .before .before .before .args .l .now) (c .before .before .before .loop .i) (pos 0)) (c .before .number-right-arg .given)))
-
 returns : tie.Need-returns Inv-loop μ-loop
 returns c =
-    let loop = c .before .before .before .before .loop in
-    sym (loop .inv .1 ∙ each-fails (pos 0) (λ x. leb (natAbs x) frameLimit) (eachWithin frameLimit) refl (λ x xs. refl) _ _ (c .before .before .before .loop-test .taken) (sym (tested (c .before)) ∙ not-true _ (c .if1 .taken)))
+    let read = c .before .before in
+    let loop = read .before .before .loop in
+    sym (loop .inv .1 ∙ within-fails frameLimit _ _ (read .before .loop-test .taken) (fit w16 _ (read .number-right-arg .given)) _ (c .before .number-right .ensures) (not-true _ (c .if1 .taken)))
 
 add-i : tie.Need-add-i Inv-loop μ-loop
 add-i c = omega arith
@@ -51,11 +45,13 @@ loop-less c = omega arith
 
 loop-again : tie.Need-loop-again Inv-loop μ-loop
 loop-again c =
-    let loop = c .before .before .before .before .loop in
-    (omega arith, loop .inv .1 ∙ each-holds (pos 0) (λ x. leb (natAbs x) frameLimit) (eachWithin frameLimit) refl (λ x xs. refl) _ _ (c .before .before .before .loop-test .taken) (sym (tested (c .before)) ∙ not-false _ (c .if1 .left)))
+    let read = c .before .before in
+    let loop = read .before .before .loop in
+    let inside = read .before .loop-test .taken in
+    (omega arith, loop .inv .1 ∙ within-holds frameLimit _ _ inside (fit w16 _ (read .number-right-arg .given)) _ (c .before .number-right .ensures) (not-false _ (c .if1 .left)))
 
 returns-2 : tie.Need-returns-2 Inv-loop μ-loop
-returns-2 c = sym (c .before .loop .inv .1 ∙ each-end (pos 0) (λ x. leb (natAbs x) frameLimit) (eachWithin frameLimit) refl (λ x xs. refl) _ _ (c .loop-test .left))
+returns-2 c = sym (c .before .loop .inv .1 ∙ within-end frameLimit _ _ (c .loop-test .left))
 
 pub numbers-right-spec : {M : Type 1} → statement M
 numbers-right-spec =

@@ -15,6 +15,7 @@ use Rattle.rules.specs.Bound.{bound}
 use Rattle.rules.specs.Input.{bitsOf}
 use Rattle.rules.specs.Certificate.{scaleOf, itemsAt, itemsOf}
 use Rattle.rules.proofs.BoundLaws.{gap-is}
+use Rattle.inputs.proofs.AgreedLaws.{agreed-whole}
 use Rattle.judge.specs.Rows.{AllPlaced, rowsIn}
 use Rattle.judge.proofs.bound.gap_of.Statement.{statement}
 use Rattle.judge.proofs.bound.gap_of.Tie as tie
@@ -41,15 +42,13 @@ bound-of-requires c κs =
       subst (AllPlaced (length (args .frame .now)) (args .starts .now) (args .members .now) (args .bytes .now)) (sym (c .before .before .u16-at .ensures .0)) (start .pre .3),
     )
 
-agreement-sum-requires : tie.Need-agreement-sum-requires
-agreement-sum-requires c κs =
-    let start = c .before .before .before .before .before .before .before .before .before in
-    (start .pre .0, start .pre .1)
+agreement-requires : tie.Need-agreement-requires
+agreement-requires c κs = tt
 
 times-requires : tie.Need-times-requires
 times-requires c κs =
     let start = c .before .before .before .before .before .before .before .before .before .before in
-    let sum = c .agreement-sum in
+    let sum = c .agreement in
     (omega (arith, c .before .before .before .before .u16-at2 .ensures .0, start .pre .2), sized (toZ-ofZ (fit w64 (sum .result) (sum .ok))) (sum .ensures .1) .1)
 
 sub-result : tie.Need-sub-result
@@ -59,10 +58,11 @@ sub-result c =
 
 returns : tie.Need-returns
 returns c =
-    let args = c .before .before .before .before .before .before .before .before .before .before .before .args in
+    let start = c .before .before .before .before .before .before .before .before .before .before .before in
+    let args = start .args in
     let l = args .frame .now in
     let bs = args .bytes .now in
-    let sum = c .before .agreement-sum in
+    let sum = c .before .agreement in
     let least = c .before .before .before .bound-of in
     let scale = c .before .before .before .before .before .u16-at2 .ensures .0 in
     let entries = c .before .before .before .before .before .before .u16-at .ensures .0 in
@@ -70,7 +70,7 @@ returns c =
     less-reads (fit w64 (least .result) (least .ok)) (fit w64 (c .times .result) (c .times .ok)) (sub-result c)
     ∙ gap-is (length l) (scaleOf bs) l (rows (itemsOf bs)) (bitsOf (args .word .now))
     (least .ensures .0 ∙ ap₂ (λ s q. bound (length l) s l (rows (itemsAt bs q 0 q))) scale entries)
-    (c .times .ensures .0 ∙ ap₂ (λ s a. pos s *ℤ a) scale (toZ-ofZ (fit w64 (sum .result) (sum .ok)) ∙ sum .ensures .0))
+    (c .times .ensures .0 ∙ ap₂ (λ s a. pos s *ℤ a) scale (toZ-ofZ (fit w64 (sum .result) (sum .ok)) ∙ sum .ensures .0 ∙ agreed-whole l (args .word .now) (start .pre .0) (start .pre .1)))
 
 pub gap-of-spec : {M : Type 1} → statement M
 gap-of-spec =
@@ -81,7 +81,7 @@ gap-of-spec =
     array-borrow-prefix-reduced
     slice-aggregate-bound-of
     bound-of-requires
-    agreement-sum-requires
+    agreement-requires
     times-requires
     sub-result
     returns)

@@ -9,7 +9,7 @@ use Rattle.rules.specs.Parity.{_⊕_, odd}
 use Rattle.rules.specs.Input.{bitsOf}
 use Rattle.rules.proofs.Duality.{below-at}
 use Rattle.rules.proofs.ParityLaws.{odd-more, odd-end}
-use Rattle.judge.proofs.CheckLaws.{bits-at}
+use Rattle.inputs.proofs.AgreedLaws.{bits-at}
 use Rattle.judge.proofs.checks.odd_check.Statement.{statement}
 use Rattle.judge.proofs.checks.odd_check.Tie as tie
 

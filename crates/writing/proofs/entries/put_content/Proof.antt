@@ -4,8 +4,8 @@ use mathlib.Core.List.{_++_}
 use Prim.Native.Nat.{_+_}
 use borrow.Author.Needs.{needs}
 use Rattle.rules.specs.Bytes.{le16, le32}
+use Rattle.rules.proofs.StoreLaws.{sets-next}
 use Rattle.writing.proofs.CertificateLaws.{cut-none, cut-some}
-use Rattle.writing.proofs.SetsLaws.{sets-next}
 use Rattle.writing.proofs.entries.put_content.Statement.{statement}
 use Rattle.writing.proofs.entries.put_content.Tie as tie
 
@@ -33,7 +33,8 @@ returns-2 : tie.Need-returns-2
 returns-2 c =
     let a = c .before .before .before .before .before .before .before .before .before .before .args in
     let e = cut-some (a .bytes .now) (a .at) (a .mask) (le16 (a .j) ++ le32 (a .b)) (c .before .before .before .before .before .before .before .before .if1 .left) in
-    (c .before .before .put32 .ensures ∙ sets-next (a .bytes .now) (c .before .before .before .before .before .before .put16 .last .0) (a .at) (a .at + 2) (le16 (a .j)) (le32 (a .b)) (c .before .before .before .before .before .before .put16 .ensures) refl ∙ e .0, e .1)
+    let first = c .before .before .before .before .before .before .put16 in
+    (c .before .before .put32 .ensures ∙ sets-next (a .bytes .now) (first .last .0) (a .at) (a .at + 2) (le16 (a .j)) (le32 (a .b)) (first .ensures) refl ∙ e .0, e .1)
 
 pub put-content-spec : {M : Type 1} → statement M
 put-content-spec =

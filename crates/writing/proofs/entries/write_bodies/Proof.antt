@@ -6,9 +6,9 @@ use lib.ListN.{length, getD, drop}
 use lib.Seq.{sets, length-sets}
 use borrow.Author.Needs.{needs}
 use Rattle.rules.specs.Bytes.{le32}
-use Rattle.writing.specs.Written.{bodiesFrom}
-use Rattle.writing.proofs.SetsLaws.{sets-next}
-use Rattle.writing.proofs.CertificateLaws.{ifCut, if-most, bodies-next, bodies-end}
+use Rattle.rules.proofs.StoreLaws.{sets-next}
+use Rattle.writing.specs.Written.{ifCut, bodiesFrom}
+use Rattle.writing.proofs.CertificateLaws.{if-most, bodies-next, bodies-end}
 use Rattle.writing.proofs.entries.write_bodies.Statement.{statement}
 use Rattle.writing.proofs.entries.write_bodies.Tie as tie
 

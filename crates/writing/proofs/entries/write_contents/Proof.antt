@@ -7,9 +7,9 @@ use lib.ListN.{length, getD, drop, length-append}
 use lib.Seq.{sets, length-sets}
 use borrow.Author.Needs.{needs}
 use Rattle.rules.specs.Bytes.{le16, le32}
-use Rattle.writing.specs.Written.{contentsFrom}
-use Rattle.writing.proofs.SetsLaws.{sets-next}
-use Rattle.writing.proofs.CertificateLaws.{ifCut, if-most, contentsLeft, contents-next, contents-end}
+use Rattle.rules.proofs.StoreLaws.{sets-next}
+use Rattle.writing.specs.Written.{ifCut, contentsFrom}
+use Rattle.writing.proofs.CertificateLaws.{if-most, contentsLeft, contents-next, contents-end}
 use Rattle.writing.proofs.entries.write_contents.Statement.{statement}
 use Rattle.writing.proofs.entries.write_contents.Tie as tie
 

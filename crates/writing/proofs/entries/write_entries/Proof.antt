@@ -37,8 +37,8 @@ returns c =
     let scale = c .before .before .before .before .before .before .before .before .before .before .put162 in
     let count = c .before .before .before .before .before .before .before .before .before .before .before .before .before .before .put16 in
     let q = c .before .before .before .before .before .before .before .before .before .before .before .before .before .before .before .count-cuts in
-    certificate-all old (count .last .0) (scale .last .0) (contents .last .1 .1 .1 .0) (bodies .last .1 .1 .0) (start .args .multipliers .now) (start .args .masks .now) (contents .result) (start .pre .1)
-    (count .ensures ∙ ap (λ n. sets old 0 (le16 n)) (q .ensures)) (scale .ensures) (contents .ensures .0) (contents .ensures .1) (bodies .ensures)
+    let first = count .ensures ∙ ap (λ n. sets old 0 (le16 n)) (q .ensures) in
+    certificate-all (start .pre .1) (record { count = first; scale = scale .ensures; contents = contents .ensures; bodies = bodies .ensures })
 
 pub write-entries-spec : {M : Type 1} → statement M
 write-entries-spec =

@@ -7,8 +7,8 @@ use mir.Facts.{toZ-ofZ, sfits-widen}
 use Rattle.integers.specs.Linear.{lin, arithZ, Within}
 use Rattle.rules.specs.Limits.{frameSize}
 use Rattle.integers.specs.Signed64.{sized}
-use Rattle.judge.proofs.sums.wide.Statement.{statement}
-use Rattle.judge.proofs.sums.wide.Tie as tie
+use Rattle.judge.proofs.bound.wide.Statement.{statement}
+use Rattle.judge.proofs.bound.wide.Tie as tie
 
 cast-result : tie.Need-cast-result
 cast-result c = simp (toZ-ofZ, c .fits .x) (sfits-widen tt (c .fits .x))

@@ -8,15 +8,12 @@ use native.Mathlib.Omega.{arith}
 use native.Mathlib.Numerals.{add-one}
 use lib.ListN.{length, getD, drop, set, drop-of-length-le}
 use lib.Seq.{drop-cons, sets, sets-eq}
 use Rattle.rules.specs.Buffers.{over}
 
 module _ {A : Type 0} where
   -- what is left at k, in the code's `k + 1`
   pub drop-next : (l : List A) (k : ℕ) (d : A) → k < length l → drop k l ≡ getD l k d ∷ drop (k + 1) l
   drop-next l k d h = drop-cons l k d h ∙ ap (λ n. getD l k d ∷ drop n l) (sym (add-one k))
-
-  pub drop-end : (l : List A) (k : ℕ) → length l ≤ k → drop k l ≡ []
-  drop-end l k h = drop-of-length-le l h
 
   sets-append : (l : List A) (i : ℕ) (xs ys : List A) → sets l i (xs ++ ys) ≡ sets (sets l i xs) (i + length xs) ys
   sets-append l i [] ys = ap (λ k. sets l k ys) (sym (add-zero i))
@@ -31,7 +28,7 @@ module _ {A : Type 0} where
   sets-more l ts i d x h e = ap₂ (λ k y. sets (set l i y) k (drop (i + 1) ts)) (add-one i) e ∙ ap (sets l i) (sym (drop-next ts i d h))
 
   pub sets-end : (l ts : List A) (i : ℕ) → length ts ≤ i → sets l i (drop i ts) ≡ l
-  sets-end l ts i h = ap (sets l i) (drop-end ts i h)
+  sets-end l ts i h = ap (sets l i) (drop-of-length-le ts h)
 
   pub sets-over : (l ts : List A) → length ts ≤ length l → sets l 0 ts ≡ over ts l
   sets-over l ts h =
@@ -40,4 +37,4 @@ module _ {A : Type 0} where
 
   -- the whole slice is written
   pub sets-all : (l ts : List A) → length ts ≡ length l → sets l 0 ts ≡ ts
-  sets-all l ts h = sets-over l ts (omega arith) ∙ ap (λ z. ts ++ z) (drop-end l (length ts) (omega arith)) ∙ append-nil ts
+  sets-all l ts h = sets-over l ts (omega arith) ∙ ap (λ z. ts ++ z) (drop-of-length-le l {i = length ts} (omega arith)) ∙ append-nil ts
