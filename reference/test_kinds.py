@@ -21,7 +21,8 @@ import make_tables as tables
 import make_verdicts
 import report_inputs
 import rounds
-from call_script import CAPACITY, CallRounds, Fill, Program, PutEdge, StartRun, UseCode, UseFrame
+from call_script import CAPACITY, KEPT, CallRounds, Fill, Program, PutEdge, StartRun, UseCode, UseFrame
+from packing import i32, u8, u32
 from prng import Prng
 from report import fresh_buffers
 from rounds import Buffers, Record
@@ -121,11 +122,15 @@ def tight_certificates_have_gap_0(account):
 
 # --- case_calls ------------------------------------------------------------------------------
 
+# one element of each buffer, as struct packs it
+ELEMENTS = "".join({i32: "i", u32: "I", u8: "B"}[kept.pack] for kept in vars(KEPT).values())
+
+
 def read_call(reader):
     """One record of case_calls, by its first byte."""
     op = reader.field("B")
     if op == 0:
-        *values, status = reader.fields("iiiIIBBIB")
+        *values, status = reader.fields(ELEMENTS + "IB")
         return Fill(*values, ("running", "certified", "spent")[status])
     if op == 1:
         return UseCode(reader.block())
@@ -134,7 +139,7 @@ def read_call(reader):
     if op == 3:
         return StartRun(*reader.fields("II"))
     if op == 4:
-        wanted, *lengths = reader.fields("8I")
+        wanted, *lengths = reader.fields("I" + "I" * len(ELEMENTS))
         return CallRounds(wanted, Buffers(*lengths))
     expect_equal(op, 5, "op")
     which, index, value = reader.fields("BIi")

@@ -14,7 +14,7 @@ use Rattle.rules.specs.Table.{Table, at, edges, edgesOf, checksOf, degreeOf}
 use Rattle.rules.specs.Cut.{negatives, keep}
 use Rattle.rules.specs.Step.{Entry}
 use Rattle.rules.specs.Round.{State, spin, firstOf, Round, round}
-use Rattle.rules.specs.Buffers.{spins, copies, offsets, multipliers, masks, Lengths, lengthsOf, needs, multipliersOf, masksOf}
+use Rattle.rules.specs.Buffers.{spins, copies, offsets, multipliers, masks, Lengths, lengthsOf, needs, multipliersOf, masksOf, roundLent}
 use Rattle.rules.specs.Run.{Progress, Run, statusAt, moved, stateIn, iterate}
 use Rattle.rules.proofs.Pass.{AtMost}
 use Rattle.rules.proofs.RoundSizes.{first-length, Sized, round-sized}
@@ -26,7 +26,7 @@ use Rattle.decoder.specs.Closing.{AllUpTo, GapFits}
 use Rattle.run.specs.Ending.{closing, statusBy, recordBy}
 use Rattle.run.proofs.EndingLaws.{counted-next}
 use Rattle.decoder.specs.Found.{found}
-use Rattle.decoder.specs.Rounds.{Given, inner, looped, filled, roundsFrom, Ready}
+use Rattle.decoder.specs.Rounds.{Given, looped, filled, roundsFrom, Ready}
 use Rattle.table.proofs.LayoutLaws.{members-below, members-fit}
 use Rattle.decoder.proofs.ExactLaws.{over-exact, state-exact}
 use Rattle.decoder.proofs.RoundLaws.{spins-are, passed-is, spins-within, foundIn, round-closed}
@@ -165,13 +165,13 @@ module _ {l : List ℤ} {ss ms ds : List ℕ} {r : Run} (g : Given (length l) l 
             (status-by (suc (r .progress .rounds)) (closing (foundIn t l (round t l st))) (negatives (round t l st .spins)) ∙ ap (statusAt (suc (r .progress .rounds))) (round-closed t l st))
 
         -- the round is what the rules' next round is
-        pub done-law : record { progress = q; buffers = inner s (p .copies) (p .offsets) (p .multipliers) (p .masks) } ≡ roundsFrom 1 l ss ms r
+        pub done-law : record { progress = q; buffers = roundLent s (p .copies) (p .offsets) (p .multipliers) (p .masks) } ≡ roundsFrom 1 l ss ms r
         unfolding roundsFrom iterate d t st
-        done-law = ap₂ (λ x y. record { progress = x; buffers = y }) record-is (ap₂ (λ x y. inner x (y .copies) (y .offsets) (y .multipliers) (y .masks)) spins-is pass-is ∙ sym exact)
+        done-law = ap₂ (λ x y. record { progress = x; buffers = y }) record-is (ap₂ (λ x y. roundLent x (y .copies) (y .offsets) (y .multipliers) (y .masks)) spins-is pass-is ∙ sym exact)
             ∙ ap (λ x. looped (moved (filled t r) (round t l x))) (sym here) ∙ ap looped (sym (safe-moves t l (filled t r) (h .safe) (h .runs)))
           where
-            exact : looped (moved (filled t r) d) .buffers ≡ inner (d .spins) (d .state .copies) (d .state .offsets) (multipliersOf (d .entries)) (masksOf (d .entries))
-            exact = λ i. inner
+            exact : looped (moved (filled t r) d) .buffers ≡ roundLent (d .spins) (d .state .copies) (d .state .offsets) (multipliersOf (d .entries)) (masksOf (d .entries))
+            exact = λ i. roundLent
                 (over-exact (d .spins) (r .buffers .spins) (sized .spins ∙ sym (ap (λ n. n spins) (h .sizes))) i)
                 (over-exact (d .state .copies) (r .buffers .copies) (sized .copies ∙ sym (ap (λ n. n copies) (h .sizes))) i)
                 (over-exact (d .state .offsets) (r .buffers .offsets) (sized .offsets ∙ sym (ap (λ n. n offsets) (h .sizes))) i)

@@ -8,12 +8,12 @@ use lib.ListN.{length, replicate, length-replicate}
 use lib.IntN.{ℤ}
 use Rattle.rules.specs.Table.{Table}
 use Rattle.rules.specs.Round.{Round}
-use Rattle.rules.specs.Buffers.{Buffer, the, nought, lengthsOf, needs, Part}
+use Rattle.rules.specs.Buffers.{Buffer, the, nought, lengthsOf, needs, Part, atEnd}
 use Rattle.rules.specs.Run.{Status, running, certified, spent, Run, moved, tooLarge, nextBy, next, iterate, Safe}
 use Rattle.rules.proofs.BufferLaws.{the-each, part-refl, past-lengths}
 use Rattle.rules.proofs.Runs.{coming, iterate-safe, held-start, iterate-held, ended-stays, iterate-stays, running≢certified, spent≢running}
 use Rattle.table.specs.Layout.{tableOf}
-use Rattle.decoder.specs.Rounds.{inLoop, looped, filled, roundsFrom, Steady, leftBy}
+use Rattle.decoder.specs.Rounds.{looped, filled, roundsFrom, Steady, leftBy}
 
 -- ---- what the rounds write does not depend on word and certificate
 module _ (t : Table) (l : List ℤ) where
@@ -37,11 +37,11 @@ module _ (t : Table) (l : List ℤ) where
 
 -- with blank ones in their place the lengths are right
 pub filled-sizes : (t : Table) (r : Run) → lengthsOf (r .buffers) ≡ needs t → lengthsOf (filled t r .buffers) ≡ needs t
-filled-sizes t r e = fun-ext (λ x. ap length (the-each (λ x. cond (inLoop x) (the x (r .buffers)) (replicate (needs t x) (nought x))) x) ∙ size x (inLoop x))
+filled-sizes t r e = fun-ext (λ x. ap length (the-each (λ x. cond (atEnd x) (replicate (needs t x) (nought x)) (the x (r .buffers))) x) ∙ size x (atEnd x))
   where
-    size : (x : Buffer) (b : Bool) → length (cond b (the x (r .buffers)) (replicate (needs t x) (nought x))) ≡ needs t x
-    size x true = ap (λ n. n x) e
-    size x false = length-replicate (needs t x) (nought x)
+    size : (x : Buffer) (b : Bool) → length (cond b (replicate (needs t x) (nought x)) (the x (r .buffers))) ≡ needs t x
+    size x true = length-replicate (needs t x) (nought x)
+    size x false = ap (λ n. n x) e
 
 -- ---- the run stands at r with k rounds left, of a call for `wanted` from r₀
 pub record Going (t : Table) (l : List ℤ) (wanted : ℕ) (r₀ : Run) (k : ℕ) (r : Run) : Type 0 where

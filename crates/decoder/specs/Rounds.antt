@@ -1,7 +1,7 @@
 -- The rounds of a call as the loop does them: on buffers of exactly the stated lengths, without word and certificate, which are written at the end of
 -- the call that certifies. Definitions only. Assumes nothing.
 use mathlib.Core.Path.{_≡_}
-use mathlib.Core.Bool.{Bool, true, false, cond}
+use mathlib.Core.Bool.{cond}
 use mathlib.Core.List.{List, []}
 use Prim.Native.Nat.{ℕ, _-_, _≤_, _<_}
 use lib.ListN.{length, getD, replicate}
@@ -9,7 +9,7 @@ use lib.IntN.{ℤ}
 use Rattle.integers.specs.Sum.{AllWithin}
 use Rattle.rules.specs.Limits.{frameLimit}
 use Rattle.rules.specs.Table.{Table, degreeOf}
-use Rattle.rules.specs.Buffers.{Buffer, spins, copies, offsets, multipliers, masks, word, certificate, Buffers, the, each, nought, lent, lengthsOf, needs}
+use Rattle.rules.specs.Buffers.{the, each, nought, lengthsOf, needs, atEnd}
 use Rattle.rules.specs.Run.{Status, running, certified, spent, Run, iterate, Safe}
 use Rattle.table.specs.Layout.{tableOf, Holds}
 
@@ -21,25 +21,12 @@ pub record Given (n : ℕ) (l : List ℤ) (ss ms ds : List ℕ) : Type 0 where
   pub room : n ≤ length ds
   pub degrees : (i : ℕ) → i < n → getD ds i 0 ≡ degreeOf i ms
 
--- the buffers that the rounds write
-abbrev pub inner : List ℤ → List ℤ → List ℤ → List ℕ → List ℕ → Buffers
-inner s z y b k = lent s z y b k [] []
-
-abbrev pub inLoop : Buffer → Bool
-inLoop spins = true
-inLoop copies = true
-inLoop offsets = true
-inLoop multipliers = true
-inLoop masks = true
-inLoop word = false
-inLoop certificate = false
-
 -- a run's own, and with blank others as long as the table needs
 abbrev pub looped : Run → Run
-looped r = record { progress = r .progress; buffers = each (λ x. cond (inLoop x) (the x (r .buffers)) []) }
+looped r = record { progress = r .progress; buffers = each (λ x. cond (atEnd x) [] (the x (r .buffers))) }
 
 abbrev pub filled : Table → Run → Run
-filled t r = record { progress = r .progress; buffers = each (λ x. cond (inLoop x) (the x (r .buffers)) (replicate (needs t x) (nought x))) }
+filled t r = record { progress = r .progress; buffers = each (λ x. cond (atEnd x) (replicate (needs t x) (nought x)) (the x (r .buffers))) }
 
 -- k rounds on the frame l, with the table in starts ss and members ms
 unfoldable pub roundsFrom : ℕ → List ℤ → List ℕ → List ℕ → Run → Run

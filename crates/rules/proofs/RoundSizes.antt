@@ -98,15 +98,7 @@ all-small n l h new e = upTo (ap length (sym (some-inj l new e)) ∙ h) (le-refl
 
 -- what a round writes fits
 pub leaves-small : (t : Table) (d : Round) → Sized t d → Small (needs t) (leaves d)
-leaves-small t d s = by-name (record {
-  spins = all-small (t .bits) (d .spins) (s .spins);
-  copies = all-small (edgesOf t) (d .state .copies) (s .copies);
-  offsets = all-small (edgesOf t) (d .state .offsets) (s .offsets);
-  multipliers = all-small (checksOf t) (multipliersOf (d .entries)) (s .multipliers);
-  masks = all-small (checksOf t) (masksOf (d .entries)) (s .masks);
-  word = word-small (t .bits) (d .word) (s .word);
-  certificate = certificate-small (certificateLength (checksOf t)) (d .word) (d .entries) (s .certificate);
-})
+leaves-small t d s = by-name (search (all-small, word-small, certificate-small))
 
 pub written-past : (t : Table) (d : Round) (b : Buffers) → Sized t d → Part (needs t) (lengthsOf b) → AllPast (needs t) (written d b) b
 written-past t d b s h = write-past (needs t) (leaves d) b (leaves-small t d s) h

@@ -206,6 +206,24 @@ abbrev pub certificateLeft : Option (List Bool) → List Entry → Option (List 
 certificateLeft none es = none
 certificateLeft (some w) es = some (certificateOf es)
 
+-- those that only the end of a run writes
+abbrev pub atEnd : Buffer → Bool
+atEnd spins = false
+atEnd copies = false
+atEnd offsets = false
+atEnd multipliers = false
+atEnd masks = false
+atEnd word = true
+atEnd certificate = true
+
+-- the buffers that every round writes, in the order of a call's parameters
+abbrev pub roundLent : List ℤ → List ℤ → List ℤ → List ℕ → List ℕ → Buffers
+roundLent s z y b k = lent s z y b k [] []
+
+-- these, with others for those at the end
+abbrev pub endLent : List ℕ → List ℕ → Buffers → Buffers
+endLent w c b = lent (b .spins) (b .copies) (b .offsets) (b .multipliers) (b .masks) w c
+
 abbrev pub leaves : Round → Writes
 leaves d spins = some (d .spins)
 leaves d copies = some (d .state .copies)

@@ -10,7 +10,9 @@ use limits::refusals::BUFFER_SHORT;
 use refusals::admit_sized;
 use table::Checked;
 ghost use mathlib.Core.Path.{_≡_};
-ghost use Rattle.rules.specs.Buffers.{startLent};
+ghost use Prim.Native.Nat.{_≤_};
+ghost use Rattle.rules.specs.Limits.{maxChecks};
+ghost use Rattle.rules.specs.Buffers.{startLent, needsBy, fits};
 ghost use Rattle.rules.specs.Run as rule;
 ghost use Rattle.run.specs.Reply.{progressOf, startedOf};
 ghost use Rattle.run.specs.Admitted.{lentOf, admittedOf, admission};
@@ -86,6 +88,42 @@ pub struct Lent {
     pub masks: usize,
     pub word: usize,
     pub certificate: usize,
+}
+
+// "41 a lent buffer too short"
+pub(crate) fn long_enough(
+    bits: usize,
+    checks: usize,
+    edges: usize,
+    lent: Lent,
+    copies: &[i32],
+    offsets: &[i32],
+) -> bool
+    requires { ⌜ checks ≤ maxChecks ⌝ }
+    ensures { λ r. ⌜ r ≡ fits (needsBy bits checks edges) (lentOf lent (now (copies .entry)) (now (offsets .entry))) ⌝ }
+{
+    if lent.spins < bits {
+        return false;
+    }
+    if copies.len() < edges {
+        return false;
+    }
+    if offsets.len() < edges {
+        return false;
+    }
+    if lent.multipliers < checks {
+        return false;
+    }
+    if lent.masks < checks {
+        return false;
+    }
+    if lent.word < bits {
+        return false;
+    }
+    if lent.certificate < 4 + 10 * checks {
+        return false;
+    }
+    true
 }
 
 // A refusal's number, or n, m and E of the table.

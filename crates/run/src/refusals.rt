@@ -4,53 +4,17 @@ use super::Lent;
 use super::Record;
 use super::Status;
 use super::bounds::is_sound;
+use super::long_enough;
 use limits::refusals::ASKED_TOO_MUCH;
 use limits::refusals::BUFFER_SHORT;
 use limits::refusals::RUN_DAMAGED;
 use limits::refusals::RUN_ENDED;
 ghost use mathlib.Core.Path.{_≡_};
 ghost use Prim.Native.Nat.{_≤_};
-ghost use Rattle.rules.specs.Buffers.{needsBy, fits};
 ghost use Rattle.rules.specs.Limits.{maxChecks};
 ghost use Rattle.inputs.specs.Refusals.{orElse};
 ghost use Rattle.run.specs.Reply.{statusOf, progressOf};
 ghost use Rattle.run.specs.Admitted.{lentOf, admittedOf, endedRefusal, damagedRefusal, admitsBy, firstState};
-
-// "41 a lent buffer too short"
-pub(crate) fn long_enough(
-    bits: usize,
-    checks: usize,
-    edges: usize,
-    lent: Lent,
-    copies: &[i32],
-    offsets: &[i32],
-) -> bool
-    requires { ⌜ checks ≤ maxChecks ⌝ }
-    ensures { λ r. ⌜ r ≡ fits (needsBy bits checks edges) (lentOf lent (now (copies .entry)) (now (offsets .entry))) ⌝ }
-{
-    if lent.spins < bits {
-        return false;
-    }
-    if copies.len() < edges {
-        return false;
-    }
-    if offsets.len() < edges {
-        return false;
-    }
-    if lent.multipliers < checks {
-        return false;
-    }
-    if lent.masks < checks {
-        return false;
-    }
-    if lent.word < bits {
-        return false;
-    }
-    if lent.certificate < 4 + 10 * checks {
-        return false;
-    }
-    true
-}
 
 // 42 of a run that is certified or spent, or 0.
 pub(crate) fn ended_refusal(status: Status) -> u8

@@ -1,10 +1,10 @@
--- `run::refusals::long_enough` meets its contract: each return has the tests that led there. Assumes nothing.
+-- `long_enough` meets its contract: each return has the tests that led there. Assumes nothing.
 use native.Mathlib.Omega.{arith}
 use borrow.Author.Needs.{needs}
 use Rattle.rules.specs.Buffers.{spins, copies, offsets, multipliers, masks, word, certificate}
 use Rattle.run.proofs.AdmitLaws.{short, long}
-use Rattle.run.proofs.refusals.long_enough.Statement.{statement}
-use Rattle.run.proofs.refusals.long_enough.Tie as tie
+use Rattle.run.proofs.long_enough.Statement.{statement}
+use Rattle.run.proofs.long_enough.Tie as tie
 
 pub long-enough-spec : {M : Type 1} → statement M
 long-enough-spec =
