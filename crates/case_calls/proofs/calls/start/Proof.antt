@@ -8,29 +8,32 @@ use Rattle.case_calls.proofs.calls.start.Tie as tie
 least-requires : tie.Need-least-requires
 least-requires c κs = search needs
 
-least-requires-2 : tie.Need-least-requires-2
-least-requires-2 c κs = search needs
+lent-requires : tie.Need-lent-requires
+lent-requires c κs = search needs
 
-slice-relend-prefix-start : tie.Need-slice-relend-prefix-start
-slice-relend-prefix-start c = search needs
+lent-requires-2 : tie.Need-lent-requires-2
+lent-requires-2 c κs = search needs
 
 slice-aggregate-start : tie.Need-slice-aggregate-start
 slice-aggregate-start c = simp length-take (omega arith)
 
-slice-relend-prefix-start-2 : tie.Need-slice-relend-prefix-start-2
-slice-relend-prefix-start-2 c = search needs
+slice-relend-prefix-start : tie.Need-slice-relend-prefix-start
+slice-relend-prefix-start c = search needs
 
 slice-aggregate-start-2 : tie.Need-slice-aggregate-start-2
 slice-aggregate-start-2 c = simp length-take (omega arith)
+
+slice-relend-prefix-start-2 : tie.Need-slice-relend-prefix-start-2
+slice-relend-prefix-start-2 c = search needs
+
+slice-aggregate-start-3 : tie.Need-slice-aggregate-start-3
+slice-aggregate-start-3 c = simp length-take (omega arith)
 
 start-requires : tie.Need-start-requires
 start-requires c κs = search needs
 
 print-started-requires : tie.Need-print-started-requires
 print-started-requires c κs = search needs
-
-print-state-requires : tie.Need-print-state-requires
-print-state-requires c κs = search needs
 
 same-length : tie.Need-same-length
 same-length c = search needs
@@ -46,14 +49,15 @@ start-spec =
     tie.close
     (tie.spec
     least-requires
-    least-requires-2
-    slice-relend-prefix-start
+    lent-requires
+    lent-requires-2
     slice-aggregate-start
-    slice-relend-prefix-start-2
+    slice-relend-prefix-start
     slice-aggregate-start-2
+    slice-relend-prefix-start-2
+    slice-aggregate-start-3
     start-requires
     print-started-requires
-    print-state-requires
     same-length
     same-length-2
     returns)
