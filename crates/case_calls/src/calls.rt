@@ -6,20 +6,6 @@ use super::command::least;
 use super::print::print_started;
 use run::Record;
 
-fn start(
-    before: Record,
-    command: Command,
-    code: &[u8],
-    copies: &mut [i32],
-    offsets: &mut [i32],
-) -> Record {
-    let size = least(command.code, code.len());
-    let c = command.lent(0, copies.len());
-    let o = command.lent(4, offsets.len());
-    let started = run::start(&code[..size], &mut copies[..c], &mut offsets[..o]);
-    print_started(started, before)
-}
-
 // Nothing where the buffer has no such index.
 fn put_at(edges: &mut [i32], index: usize, value: i32) {
     if index < edges.len() {
@@ -31,7 +17,7 @@ fn put_at(edges: &mut [i32], index: usize, value: i32) {
 fn put(command: Command, copies: &mut [i32], offsets: &mut [i32]) {
     let index = command.number(1) as usize;
     let value = command.signed(5);
-    if command.byte(0) == 1 {
+    if command.fields[0] == 1 {
         put_at(copies, index, value);
     } else {
         put_at(offsets, index, value);
@@ -46,13 +32,16 @@ pub(crate) fn on_edges(
     copies: &mut [i32],
     offsets: &mut [i32],
 ) -> Record {
-    let operation = command.operation;
-    match operation {
-        START => start(run, command, code, copies, offsets),
-        PUT => {
-            put(command, copies, offsets);
-            run
-        }
-        _ => run,
+    if command.operation == PUT {
+        put(command, copies, offsets);
+        return run;
     }
+    if command.operation != START {
+        return run;
+    }
+    let size = least(command.code, code.len());
+    let c = command.lent(0, copies.len());
+    let o = command.lent(4, offsets.len());
+    let started = run::start(&code[..size], &mut copies[..c], &mut offsets[..o]);
+    print_started(started, run)
 }

@@ -33,7 +33,7 @@ pub(crate) const CALLED: u8 = 6;
 const END: u8 = 7;
 
 // The longest fields: those of a call for rounds.
-const FIELDS_LIMIT: usize = 32;
+pub(crate) const FIELDS_LIMIT: usize = 32;
 
 // How much of the code file and of the frame is there goes on from record to record.
 pub(crate) struct Command {
@@ -83,31 +83,9 @@ fn fields_size(operation: u8) -> usize
 }
 
 impl Command {
-    // The buffers as they are before the first record: nothing but zeroes.
-    pub(crate) fn first() -> Self {
-        Command {
-            operation: SET,
-            fields: [0u8; FIELDS_LIMIT],
-            code: 0,
-            frame: 0,
-        }
-    }
-
-    // What the script gave, under another operation.
-    pub(crate) fn turned(mut self, operation: u8) -> Self {
-        self.operation = operation;
-        self
-    }
-
     // Whether it is about the buffers as they are.
     pub(crate) fn goes_on(self) -> bool {
         SET < self.operation && self.operation < END
-    }
-
-    pub(crate) fn byte(self, at: usize) -> u8
-        requires { ⌜ at + 1 ≤ 32 ⌝ }
-    {
-        self.fields[at]
     }
 
     pub(crate) fn number(self, at: usize) -> u32

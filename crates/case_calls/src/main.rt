@@ -22,6 +22,7 @@ use checksum::of_edges;
 use checksum::with_cuts;
 use command::CALLED;
 use command::Command;
+use command::FIELDS_LIMIT;
 use command::FRAME;
 use command::Fill;
 use command::ROUNDS;
@@ -72,7 +73,7 @@ fn play(fill: Fill, first: Command, code: &mut [u8], frame: &mut [i16]) -> Comma
                 &mut word[..parts.word],
                 &mut certificate[..parts.certificate],
             ));
-            command = command.turned(CALLED);
+            command.operation = CALLED;
         } else {
             let edges = of_edges(&spins, &copies, &offsets);
             let all = with_cuts(edges, &multipliers, &masks, &word, &certificate);
@@ -87,10 +88,18 @@ fn play(fill: Fill, first: Command, code: &mut [u8], frame: &mut [i16]) -> Comma
 fn main() {
     let mut code = [0u8; CODE_LIMIT];
     let mut frame = [0i16; BITS];
-    let mut command = Command::first();
+    let fields = [0u8; FIELDS_LIMIT];
+    let mut command = Command {
+        operation: SET,
+        fields,
+        code: 0,
+        frame: 0,
+    };
     let mut left = BUDGET;
     while 0 < left && command.operation == SET {
         left -= 1;
-        command = play(command.fill(), command.turned(FRAME), &mut code, &mut frame);
+        let fill = command.fill();
+        command.operation = FRAME;
+        command = play(fill, command, &mut code, &mut frame);
     }
 }

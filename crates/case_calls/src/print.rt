@@ -49,11 +49,14 @@ fn print_status(status: Status) {
 
 // The rest of the line of a start or of a call for rounds.
 pub(crate) fn print_state(operation: u8, run: Record, checksum: u64) {
-    if operation == START || operation == CALLED {
-        print_number(b" ", run.rounds as u64);
-        let status = run.status;
-        print_status(status);
-        print_number(b" | ", checksum);
-        print(b"\n");
+    match operation {
+        START | CALLED => {
+            let status = run.status;
+            print_number(b" ", run.rounds as u64);
+            print_status(status);
+            print_number(b" | ", checksum);
+            print(b"\n");
+        }
+        _ => {}
     }
 }

@@ -11,9 +11,6 @@ Inv-loop code₀ frame₀ command₀ left₀ code frame command left = (length c
 abbrev μ-loop : tie.MeasureT-loop
 μ-loop code₀ frame₀ command₀ left₀ code frame command left = left
 
-first-requires : tie.Need-first-requires Inv-loop μ-loop
-first-requires c κs = search needs
-
 loop-holds : tie.Need-loop-holds Inv-loop μ-loop
 loop-holds c = search needs
 
@@ -22,9 +19,6 @@ sub-left c = search needs
 
 fill-requires : tie.Need-fill-requires Inv-loop μ-loop
 fill-requires c κs = search needs
-
-turned-requires : tie.Need-turned-requires Inv-loop μ-loop
-turned-requires c κs = search needs
 
 slice-aggregate-play : tie.Need-slice-aggregate-play Inv-loop μ-loop
 slice-aggregate-play c = search needs
@@ -53,11 +47,9 @@ main-spec =
     (tie.spec
     Inv-loop
     μ-loop
-    first-requires
     loop-holds
     sub-left
     fill-requires
-    turned-requires
     slice-aggregate-play
     slice-aggregate-play-2
     play-requires

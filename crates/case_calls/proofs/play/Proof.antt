@@ -87,14 +87,11 @@ rounds-requires c κs = search needs
 print-called-requires : tie.Need-print-called-requires Inv-loop μ-loop
 print-called-requires c κs = search needs
 
-turned-requires : tie.Need-turned-requires Inv-loop μ-loop
-turned-requires c κs = search needs
-
 loop-less : tie.Need-loop-less Inv-loop μ-loop
-loop-less c = omega (arith, c .before .before .before .before .before .before .before .before .before .before .before .before .before .before .before .before .before .before .before .before .before .before .before .before .loop-test .taken)
+loop-less c = omega (arith, c .before .before .before .before .before .before .before .before .before .before .before .before .before .before .before .before .before .before .before .before .before .before .before .loop-test .taken)
 
 loop-again : tie.Need-loop-again Inv-loop μ-loop
-loop-again c = search (after-rounds (c .before .before .before .before .before .before .before .before .before .before .before .before .before .before .before .before .before .before .before .before .before .before .before .before .before .loop .inv), c .before .before .before .before .before .before .before .before .before .rounds .kept)
+loop-again c = search (after-rounds (c .before .before .before .before .before .before .before .before .before .before .before .before .before .before .before .before .before .before .before .before .before .before .before .before .loop .inv), c .before .before .before .before .before .before .before .before .rounds .kept)
 
 of-edges-requires : tie.Need-of-edges-requires Inv-loop μ-loop
 of-edges-requires c κs = search needs
@@ -171,7 +168,6 @@ play-spec =
     slice-aggregate-rounds-9
     rounds-requires
     print-called-requires
-    turned-requires
     loop-less
     loop-again
     of-edges-requires

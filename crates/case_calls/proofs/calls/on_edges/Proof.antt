@@ -1,9 +1,24 @@
--- `start` meets its contract: the parts that are lent have room. Assumes nothing.
+-- `on_edges` meets its contract: the parts that are lent have room. Assumes nothing.
 use native.Mathlib.Omega.{arith}
 use lib.ListN.{length-take}
 use borrow.Author.Needs.{needs}
-use Rattle.case_calls.proofs.calls.start.Statement.{statement}
-use Rattle.case_calls.proofs.calls.start.Tie as tie
+use Rattle.case_calls.proofs.calls.on_edges.Statement.{statement}
+use Rattle.case_calls.proofs.calls.on_edges.Tie as tie
+
+put-requires : tie.Need-put-requires
+put-requires c κs = search needs
+
+same-length : tie.Need-same-length
+same-length c = search needs
+
+same-length-2 : tie.Need-same-length-2
+same-length-2 c = search needs
+
+returns : tie.Need-returns
+returns c = search needs
+
+returns-2 : tie.Need-returns-2
+returns-2 c = search needs
 
 least-requires : tie.Need-least-requires
 least-requires c κs = search needs
@@ -35,19 +50,24 @@ start-requires c κs = search needs
 print-started-requires : tie.Need-print-started-requires
 print-started-requires c κs = search needs
 
-same-length : tie.Need-same-length
-same-length c = search needs
+same-length-3 : tie.Need-same-length-3
+same-length-3 c = search needs
 
-same-length-2 : tie.Need-same-length-2
-same-length-2 c = search needs
+same-length-4 : tie.Need-same-length-4
+same-length-4 c = search needs
 
-returns : tie.Need-returns
-returns c = search needs
+returns-3 : tie.Need-returns-3
+returns-3 c = search needs
 
-pub start-spec : {M : Type 1} → statement M
-start-spec =
+pub on-edges-spec : {M : Type 1} → statement M
+on-edges-spec =
     tie.close
     (tie.spec
+    put-requires
+    same-length
+    same-length-2
+    returns
+    returns-2
     least-requires
     lent-requires
     lent-requires-2
@@ -58,6 +78,6 @@ start-spec =
     slice-aggregate-start-3
     start-requires
     print-started-requires
-    same-length
-    same-length-2
-    returns)
+    same-length-3
+    same-length-4
+    returns-3)
