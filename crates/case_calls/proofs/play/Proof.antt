@@ -1,8 +1,6 @@
 -- `play` meets its contract: the buffers keep their lengths, and the budget falls. Assumes nothing.
-use mathlib.Core.Path.{refl, _∙_}
 use native.Mathlib.Omega.{arith}
 use lib.ListN.{length-take}
-use lib.Seq.{length-front}
 use borrow.Author.Needs.{needs}
 use Rattle.case_calls.proofs.Held.{Lengths, after-edges, after-rounds}
 use Rattle.case_calls.proofs.play.Statement.{statement}
@@ -88,10 +86,14 @@ print-called-requires : tie.Need-print-called-requires Inv-loop μ-loop
 print-called-requires c κs = search needs
 
 loop-less : tie.Need-loop-less Inv-loop μ-loop
-loop-less c = omega (arith, c .before .before .before .before .before .before .before .before .before .before .before .before .before .before .before .before .before .before .before .before .before .before .before .loop-test .taken)
+loop-less c =
+    let called = c .before .before .before .before .before .before .before .before in
+    omega (arith, called .before .before .before .before .before .before .before .before .before .before .before .before .before .before .before .loop-test .taken)
 
 loop-again : tie.Need-loop-again Inv-loop μ-loop
-loop-again c = search (after-rounds (c .before .before .before .before .before .before .before .before .before .before .before .before .before .before .before .before .before .before .before .before .before .before .before .before .loop .inv), c .before .before .before .before .before .before .before .before .rounds .kept)
+loop-again c =
+    let called = c .before .before .before .before .before .before .before .before in
+    search (after-rounds (called .before .before .before .before .before .before .before .before .before .before .before .before .before .before .before .before .loop .inv), called .rounds .kept)
 
 of-edges-requires : tie.Need-of-edges-requires Inv-loop μ-loop
 of-edges-requires c κs = search needs
@@ -115,10 +117,17 @@ on-edges-requires : tie.Need-on-edges-requires Inv-loop μ-loop
 on-edges-requires c κs = search needs
 
 loop-less-2 : tie.Need-loop-less-2 Inv-loop μ-loop
-loop-less-2 c = omega (arith, c .before .before .before .before .before .before .before .before .before .before .before .before .before .before .before .before .before .before .before .before .before .before .before .before .before .before .loop-test .taken)
+loop-less-2 c =
+    let read = c .before .before .before .before .before .before .before .before .before in
+    omega (arith, read .before .before .before .before .before .before .before .before .before .before .before .before .before .before .before .before .before .loop-test .taken)
 
 loop-again-2 : tie.Need-loop-again-2 Inv-loop μ-loop
-loop-again-2 c = search (after-edges (c .before .before .before .before .before .before .before .before .before .before .before .before .before .before .before .before .before .before .before .before .before .before .before .before .before .before .before .loop .inv), c .before .before .before .before .before .before .before .before .before .next .kept)
+loop-again-2 c =
+    let kept = c .before .before .before .before .before .before .before .before .before .next .kept in
+    let inv =
+    c .before .before .before .before .before .before .before .before .before .before .before .before .before .before
+    .before .before .before .before .before .before .before .before .before .before .before .before .before .loop .inv in
+    search (after-edges inv, kept)
 
 same-length : tie.Need-same-length Inv-loop μ-loop
 same-length c = search needs
