@@ -1,8 +1,12 @@
 // The checksum of the seven buffers: h times 1,099,511,628,211 plus the element, modulo 2^64, over
 // all elements as unsigned numbers.
+use super::BITS;
+use super::CERTIFICATE;
+use super::CHECKS;
+use super::EDGES;
 use std::num::wrapping_add_u64;
 
-pub(crate) const FIRST: u64 = 14695981039346656037;
+const FIRST: u64 = 14695981039346656037;
 
 const HALF: u64 = 0x1_0000_0000;
 
@@ -16,7 +20,7 @@ fn unsigned(x: i32) -> u64 {
     (x as i64 + 0x1_0000_0000) as u64 % HALF
 }
 
-pub(crate) fn with_i32(start: u64, buffer: &[i32]) -> u64 {
+fn with_i32(start: u64, buffer: &[i32]) -> u64 {
     let mut h = start;
     let mut i: usize = 0;
     while i < buffer.len() {
@@ -26,7 +30,7 @@ pub(crate) fn with_i32(start: u64, buffer: &[i32]) -> u64 {
     h
 }
 
-pub(crate) fn with_u32(start: u64, buffer: &[u32]) -> u64 {
+fn with_u32(start: u64, buffer: &[u32]) -> u64 {
     let mut h = start;
     let mut i: usize = 0;
     while i < buffer.len() {
@@ -36,7 +40,7 @@ pub(crate) fn with_u32(start: u64, buffer: &[u32]) -> u64 {
     h
 }
 
-pub(crate) fn with_u8(start: u64, buffer: &[u8]) -> u64 {
+fn with_u8(start: u64, buffer: &[u8]) -> u64 {
     let mut h = start;
     let mut i: usize = 0;
     while i < buffer.len() {
@@ -44,4 +48,21 @@ pub(crate) fn with_u8(start: u64, buffer: &[u8]) -> u64 {
         i += 1;
     }
     h
+}
+
+// The signed buffers, which come first.
+pub(crate) fn of_edges(spins: &[i32; BITS], copies: &[i32; EDGES], offsets: &[i32; EDGES]) -> u64 {
+    with_i32(with_i32(with_i32(FIRST, spins), copies), offsets)
+}
+
+// And the others.
+pub(crate) fn with_cuts(
+    edges: u64,
+    multipliers: &[u32; CHECKS],
+    masks: &[u32; CHECKS],
+    word: &[u8; BITS],
+    certificate: &[u8; CERTIFICATE],
+) -> u64 {
+    let cuts = with_u32(with_u32(edges, multipliers), masks);
+    with_u8(with_u8(cuts, word), certificate)
 }

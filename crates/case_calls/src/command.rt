@@ -1,16 +1,49 @@
-// A record of the script, read into a command by value.
+// A record of the script: its operation, its fields, and what the script gave before.
+use super::BITS;
+use super::CERTIFICATE;
+use super::CHECKS;
+use super::EDGES;
 use file_numbers::u32_of;
 use libc::STDIN_FILENO;
 use run::Record;
 use run::Status;
 use stream::i32_of;
+use stream::read_i16_part;
+use stream::read_part;
+use stream::whole;
 ghost use Prim.Native.Nat.{_+_, _≤_};
 ghost use lib.ListN.{length};
+ghost use Rattle.case_calls.specs.Room.{Room};
+
+pub(crate) const SET: u8 = 0;
+
+const CODE: u8 = 1;
+
+pub(crate) const FRAME: u8 = 2;
+
+pub(crate) const START: u8 = 3;
+
+pub(crate) const ROUNDS: u8 = 4;
+
+pub(crate) const PUT: u8 = 5;
+
+// A call for rounds that was made.
+pub(crate) const CALLED: u8 = 6;
+
+const END: u8 = 7;
 
 // The longest fields: those of a call for rounds.
-const FIELDS_LIMIT: usize = 32;
+pub(crate) const FIELDS_LIMIT: usize = 32;
 
-// The element that fills each buffer, and the record of the run.
+// How much of the code file and of the frame is there goes on from record to record.
+pub(crate) struct Command {
+    pub operation: u8,
+    pub fields: [u8; FIELDS_LIMIT],
+    pub code: usize,
+    pub frame: usize,
+}
+
+// A set: the element that fills each buffer, and the record of the run.
 pub(crate) struct Fill {
     pub spin: i32,
     pub copy: i32,
@@ -22,39 +55,18 @@ pub(crate) struct Fill {
     pub run: Record,
 }
 
-// A call for rounds: the rounds wanted, and how many elements of each buffer are lent.
-pub(crate) struct Wanted {
-    pub rounds: u32,
-    pub spins: u32,
-    pub copies: u32,
-    pub offsets: u32,
-    pub multipliers: u32,
-    pub masks: u32,
-    pub word: u32,
-    pub certificate: u32,
-}
-
-// A start: how many copies and offsets are lent.
-pub(crate) struct Lent {
-    pub copies: u32,
-    pub offsets: u32,
-}
-
-// An element of the copies, buffer 1, or of the offsets.
-pub(crate) struct Element {
-    pub buffer: u8,
-    pub index: u32,
-    pub value: i32,
-}
-
-pub(crate) enum Command {
-    End,
-    Set(Fill),
-    Code,
-    Frame,
-    Start(Lent),
-    Rounds(Wanted),
-    Put(Element),
+// A call for rounds: the rounds wanted, and how much of each input and buffer is lent.
+pub(crate) struct Parts {
+    pub wanted: u32,
+    pub code: usize,
+    pub frame: usize,
+    pub spins: usize,
+    pub copies: usize,
+    pub offsets: usize,
+    pub multipliers: usize,
+    pub masks: usize,
+    pub word: usize,
+    pub certificate: usize,
 }
 
 // A code file and a frame have their lengths with them.
@@ -70,16 +82,76 @@ fn fields_size(operation: u8) -> usize
     }
 }
 
-fn u32_at(fields: &[u8], at: usize) -> u32
-    requires { ⌜ at + 4 ≤ length (now fields) ⌝ }
-{
-    u32_of(fields[at], fields[at + 1], fields[at + 2], fields[at + 3])
+impl Command {
+    // Whether it is about the buffers as they are.
+    pub(crate) fn goes_on(self) -> bool {
+        SET < self.operation && self.operation < END
+    }
+
+    pub(crate) fn number(self, at: usize) -> u32
+        requires { ⌜ at + 4 ≤ 32 ⌝ }
+    {
+        u32_of(
+            self.fields[at],
+            self.fields[at + 1],
+            self.fields[at + 2],
+            self.fields[at + 3],
+        )
+    }
+
+    pub(crate) fn signed(self, at: usize) -> i32
+        requires { ⌜ at + 4 ≤ 32 ⌝ }
+    {
+        i32_of(self.number(at))
+    }
+
+    // How many elements are lent: never more than there are.
+    pub(crate) fn lent(self, at: usize, room: usize) -> usize
+        requires { ⌜ at + 4 ≤ 32 ⌝ }
+        ensures { λ r. ⌜ r ≤ room ⌝ }
+    {
+        least(self.number(at) as usize, room)
+    }
+
+    pub(crate) fn fill(self) -> Fill {
+        let run = Record {
+            rounds: self.number(22),
+            status: status_of(self.fields[26]),
+        };
+        Fill {
+            spin: self.signed(0),
+            copy: self.signed(4),
+            offset: self.signed(8),
+            multiplier: self.number(12),
+            mask: self.number(16),
+            word: self.fields[20],
+            certificate: self.fields[21],
+            run,
+        }
+    }
+
+    pub(crate) fn parts(self, code: usize, frame: usize) -> Parts
+        ensures { λ r. ⌜ Room code frame r ⌝ }
+    {
+        Parts {
+            wanted: self.number(0),
+            code: least(self.code, code),
+            frame: least(self.frame, frame),
+            spins: self.lent(4, BITS),
+            copies: self.lent(8, EDGES),
+            offsets: self.lent(12, EDGES),
+            multipliers: self.lent(16, CHECKS),
+            masks: self.lent(20, CHECKS),
+            word: self.lent(24, BITS),
+            certificate: self.lent(28, CERTIFICATE),
+        }
+    }
 }
 
-fn i32_at(fields: &[u8], at: usize) -> i32
-    requires { ⌜ at + 4 ≤ length (now fields) ⌝ }
+pub(crate) fn least(n: usize, room: usize) -> usize
+    ensures { λ r. ⌜ r ≤ room ⌝ }
 {
-    i32_of(u32_at(fields, at))
+    if room < n { room } else { n }
 }
 
 fn status_of(number: u8) -> Status {
@@ -90,61 +162,6 @@ fn status_of(number: u8) -> Status {
     }
 }
 
-fn fill_of(fields: &[u8]) -> Fill
-    requires { ⌜ 32 ≤ length (now fields) ⌝ }
-{
-    let run = Record {
-        rounds: u32_at(fields, 22),
-        status: status_of(fields[26]),
-    };
-    Fill {
-        spin: i32_at(fields, 0),
-        copy: i32_at(fields, 4),
-        offset: i32_at(fields, 8),
-        multiplier: u32_at(fields, 12),
-        mask: u32_at(fields, 16),
-        word: fields[20],
-        certificate: fields[21],
-        run,
-    }
-}
-
-fn wanted_of(fields: &[u8]) -> Wanted
-    requires { ⌜ 32 ≤ length (now fields) ⌝ }
-{
-    Wanted {
-        rounds: u32_at(fields, 0),
-        spins: u32_at(fields, 4),
-        copies: u32_at(fields, 8),
-        offsets: u32_at(fields, 12),
-        multipliers: u32_at(fields, 16),
-        masks: u32_at(fields, 20),
-        word: u32_at(fields, 24),
-        certificate: u32_at(fields, 28),
-    }
-}
-
-fn command_of(operation: u8, fields: &[u8]) -> Command
-    requires { ⌜ 32 ≤ length (now fields) ⌝ }
-{
-    match operation {
-        0 => Command::Set(fill_of(fields)),
-        1 => Command::Code,
-        2 => Command::Frame,
-        3 => Command::Start(Lent {
-            copies: u32_at(fields, 0),
-            offsets: u32_at(fields, 4),
-        }),
-        4 => Command::Rounds(wanted_of(fields)),
-        5 => Command::Put(Element {
-            buffer: fields[0],
-            index: u32_at(fields, 1),
-            value: i32_at(fields, 5),
-        }),
-        _ => Command::End,
-    }
-}
-
 // Whether so many fields are there.
 fn read_fields(fields: &mut [u8], size: usize) -> bool
     requires { ⌜ size ≤ length (now fields) ⌝ }
@@ -152,15 +169,49 @@ fn read_fields(fields: &mut [u8], size: usize) -> bool
     io::read_full(STDIN_FILENO, &mut fields[..size]) == size
 }
 
-// The end, too, where the fields are cut short or the operation is none of these.
-pub(crate) fn read_command() -> Command {
-    let mut fields = [0u8; FIELDS_LIMIT];
-    if !read_fields(&mut fields, 1) {
-        return Command::End;
+// The end, too, where the operation is none of the script's or its fields are cut short.
+fn read_operation(fields: &mut [u8]) -> u8
+    requires { ⌜ 32 ≤ length (now fields) ⌝ }
+{
+    if !read_fields(fields, 1) {
+        return END;
     }
     let operation = fields[0];
-    if !read_fields(&mut fields, fields_size(operation)) {
-        return Command::End;
+    if PUT < operation {
+        return END;
     }
-    command_of(operation, &fields)
+    if !read_fields(fields, fields_size(operation)) {
+        return END;
+    }
+    operation
+}
+
+fn code_size(operation: u8, before: usize, code: &mut [u8]) -> usize {
+    if operation == CODE {
+        whole(read_part(code))
+    } else {
+        before
+    }
+}
+
+fn frame_size(operation: u8, before: usize, frame: &mut [i16]) -> usize {
+    if operation == FRAME {
+        whole(read_i16_part(frame))
+    } else {
+        before
+    }
+}
+
+// The next record.
+pub(crate) fn next(before: Command, code: &mut [u8], frame: &mut [i16]) -> Command {
+    let mut fields = [0u8; FIELDS_LIMIT];
+    let operation = read_operation(&mut fields);
+    let size = code_size(operation, before.code, code);
+    let count = frame_size(operation, before.frame, frame);
+    Command {
+        operation,
+        fields,
+        code: size,
+        frame: count,
+    }
 }

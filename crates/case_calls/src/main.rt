@@ -17,16 +17,20 @@ mod checksum;
 mod command;
 mod print;
 
-use calls::put;
-use calls::rounds;
-use calls::start;
+use calls::on_edges;
+use checksum::of_edges;
+use checksum::with_cuts;
+use command::CALLED;
 use command::Command;
-use command::read_command;
-use run::Record;
+use command::FIELDS_LIMIT;
+use command::FRAME;
+use command::Fill;
+use command::ROUNDS;
+use command::SET;
+use command::next;
+use print::print_called;
+use print::print_state;
 use stream::CODE_LIMIT;
-use stream::read_i16_part;
-use stream::read_part;
-use stream::whole;
 
 const BITS: usize = 2100;
 
@@ -36,68 +40,66 @@ const CHECKS: usize = 2100;
 
 const CERTIFICATE: usize = 20600;
 
-// The budget is a number that no input uses up.
+// A number that no input uses up.
+const BUDGET: u64 = 0x1_0000_0000_0000;
+
+// Plays the script from a set to the next one or to the end, a call for rounds in a turn of its own.
+// What a start or a call leaves is printed before the next record is read.
+fn play(fill: Fill, first: Command, code: &mut [u8], frame: &mut [i16]) -> Command {
+    let mut spins = [fill.spin; BITS];
+    let mut copies = [fill.copy; EDGES];
+    let mut offsets = [fill.offset; EDGES];
+    let mut multipliers = [fill.multiplier; CHECKS];
+    let mut masks = [fill.mask; CHECKS];
+    let mut word = [fill.word; BITS];
+    let mut certificate = [fill.certificate; CERTIFICATE];
+    let mut run = fill.run;
+    let mut command = first;
+    let mut left = BUDGET;
+    while 0 < left && command.goes_on() {
+        left -= 1;
+        if command.operation == ROUNDS {
+            let parts = command.parts(code.len(), frame.len());
+            run = print_called(decoder::rounds(
+                &code[..parts.code],
+                &frame[..parts.frame],
+                run,
+                parts.wanted,
+                &mut spins[..parts.spins],
+                &mut copies[..parts.copies],
+                &mut offsets[..parts.offsets],
+                &mut multipliers[..parts.multipliers],
+                &mut masks[..parts.masks],
+                &mut word[..parts.word],
+                &mut certificate[..parts.certificate],
+            ));
+            command.operation = CALLED;
+        } else {
+            let edges = of_edges(&spins, &copies, &offsets);
+            let all = with_cuts(edges, &multipliers, &masks, &word, &certificate);
+            print_state(command.operation, run, all);
+            command = next(command, code, frame);
+            run = on_edges(run, command, code, &mut copies, &mut offsets);
+        }
+    }
+    command
+}
+
 fn main() {
     let mut code = [0u8; CODE_LIMIT];
     let mut frame = [0i16; BITS];
-    let mut spins = [0i32; BITS];
-    let mut copies = [0i32; EDGES];
-    let mut offsets = [0i32; EDGES];
-    let mut multipliers = [0u32; CHECKS];
-    let mut masks = [0u32; CHECKS];
-    let mut word = [0u8; BITS];
-    let mut certificate = [0u8; CERTIFICATE];
-    let mut run = Record::fresh();
-    let mut size: usize = 0;
-    let mut count: usize = 0;
-    let mut left: u64 = 0x1_0000_0000_0000;
-    while 0 < left {
+    let fields = [0u8; FIELDS_LIMIT];
+    let mut command = Command {
+        operation: SET,
+        fields,
+        code: 0,
+        frame: 0,
+    };
+    let mut left = BUDGET;
+    while 0 < left && command.operation == SET {
         left -= 1;
-        let command = read_command();
-        match command {
-            Command::End => return,
-            Command::Set(fill) => {
-                spins = [fill.spin; BITS];
-                copies = [fill.copy; EDGES];
-                offsets = [fill.offset; EDGES];
-                multipliers = [fill.multiplier; CHECKS];
-                masks = [fill.mask; CHECKS];
-                word = [fill.word; BITS];
-                certificate = [fill.certificate; CERTIFICATE];
-                run = fill.run;
-            }
-            Command::Code => size = whole(read_part(&mut code)),
-            Command::Frame => count = whole(read_i16_part(&mut frame)),
-            Command::Start(lent) => {
-                run = start(
-                    run,
-                    lent,
-                    &code[..size],
-                    &spins,
-                    &mut copies,
-                    &mut offsets,
-                    &multipliers,
-                    &masks,
-                    &word,
-                    &certificate,
-                );
-            }
-            Command::Rounds(wanted) => {
-                run = rounds(
-                    run,
-                    wanted,
-                    &code[..size],
-                    &frame[..count],
-                    &mut spins,
-                    &mut copies,
-                    &mut offsets,
-                    &mut multipliers,
-                    &mut masks,
-                    &mut word,
-                    &mut certificate,
-                );
-            }
-            Command::Put(element) => put(element, &mut copies, &mut offsets),
-        }
+        let fill = command.fill();
+        command.operation = FRAME;
+        command = play(fill, command, &mut code, &mut frame);
     }
 }

@@ -1,8 +1,7 @@
 // A call's line.
-use super::checksum::FIRST;
-use super::checksum::with_i32;
-use super::checksum::with_u8;
-use super::checksum::with_u32;
+use super::command::CALLED;
+use super::command::START;
+use decoder::Called;
 use decoder::Outcome;
 use run::Record;
 use run::Started;
@@ -24,7 +23,14 @@ pub(crate) fn print_started(answer: Started, before: Record) -> Record {
     }
 }
 
-pub(crate) fn print_outcome(outcome: Outcome) {
+// The record of the run after the call.
+pub(crate) fn print_called(called: Called) -> Record {
+    let outcome = called.outcome;
+    print_outcome(outcome);
+    called.run
+}
+
+fn print_outcome(outcome: Outcome) {
     match outcome {
         Outcome::Refused(k) => print_number(b"rounds refused ", k as u64),
         Outcome::Running => print(b"rounds running"),
@@ -41,23 +47,16 @@ fn print_status(status: Status) {
     }
 }
 
-// The rest of a call's line.
-pub(crate) fn print_state(
-    run: Record,
-    spins: &[i32],
-    copies: &[i32],
-    offsets: &[i32],
-    multipliers: &[u32],
-    masks: &[u32],
-    word: &[u8],
-    certificate: &[u8],
-) {
-    let rounds = run.rounds;
-    let status = run.status;
-    print_number(b" ", rounds as u64);
-    print_status(status);
-    let edges = with_i32(with_i32(with_i32(FIRST, spins), copies), offsets);
-    let cuts = with_u32(with_u32(edges, multipliers), masks);
-    print_number(b" | ", with_u8(with_u8(cuts, word), certificate));
-    print(b"\n");
+// The rest of the line of a start or of a call for rounds.
+pub(crate) fn print_state(operation: u8, run: Record, checksum: u64) {
+    match operation {
+        START | CALLED => {
+            let status = run.status;
+            print_number(b" ", run.rounds as u64);
+            print_status(status);
+            print_number(b" | ", checksum);
+            print(b"\n");
+        }
+        _ => {}
+    }
 }

@@ -1,12 +1,12 @@
 -- What the report reads of a frame's run, and its line from that. Definitions only. Assumes nothing.
 use mathlib.Core.List.{List}
 use Prim.Native.Nat.{ℕ}
-use lib.ListN.{length, take}
+use lib.ListN.{length, take, replicate}
 use lib.IntN.{ℤ}
 use Rattle.rules.specs.Limits.{maxBits, maxChecks, maxEdges, roundLimit}
 use Rattle.rules.specs.Refusal.{Answer, refused, gives}
 use Rattle.rules.specs.Bytes.{u16At}
-use Rattle.rules.specs.Buffers.{Buffers, Lengths, needsBy, blank, endLent}
+use Rattle.rules.specs.Buffers.{word, certificate, Buffers, Lengths, needsBy, blank, endLent}
 use Rattle.rules.specs.Run.{Status, running, certified, spent, Called, call}
 use Rattle.rules.specs.Calls.{startedRun}
 use Rattle.rules.specs.Report.{Line, refusedLine, certifiedLine, spentLine, runningLine}
