@@ -52,7 +52,9 @@ rows-none bs ks = refl
 
 module _ {ss ms bs ks : List ℕ} {ls : List ℤ} (f : RowsFit ss ms bs ks ls) (j : ℕ) where
   pub rows-past : length ks ≤ j → rowsLeft ss ms bs ks j ≡ []
-  rows-past h = ap (λ l. rowsFrom l (drop j bs) (drop j ks)) (drop-of-length-le (checksFrom ss ms) (omega (arith, f .masksLong))) ∙ rows-none (drop j bs) (drop j ks)
+  rows-past h =
+      let past : length (checksFrom ss ms) ≤ j = omega (arith, f .masksLong) in
+      ap (λ l. rowsFrom l (drop j bs) (drop j ks)) (drop-of-length-le (checksFrom ss ms) past) ∙ rows-none (drop j bs) (drop j ks)
 
   module _ (h : j < length ks) where
     check : j < length (checksFrom ss ms)
