@@ -18,36 +18,6 @@ Inv-loop counts file₀ start₀ j₀ file start j =
 abbrev μ-loop : tie.MeasureT-loop
 μ-loop counts file₀ start₀ j₀ file start j = length counts - j
 
-loop-holds : tie.Need-loop-holds Inv-loop μ-loop
-loop-holds c = (omega arith, omega arith, refl, refl)
-
-mul-wide : tie.Need-mul-wide Inv-loop μ-loop
-mul-wide c = search needs
-
-shared-slice-read-wide : tie.Need-shared-slice-read-wide Inv-loop μ-loop
-shared-slice-read-wide c = search needs
-
-wide-requires : tie.Need-wide-requires Inv-loop μ-loop
-wide-requires c κs = search needs
-
-mul-put-content : tie.Need-mul-put-content Inv-loop μ-loop
-mul-put-content c = search needs
-
-add-put-content : tie.Need-add-put-content Inv-loop μ-loop
-add-put-content c = search needs
-
-put-content-requires : tie.Need-put-content-requires Inv-loop μ-loop
-put-content-requires c κs = search needs
-
-add-start : tie.Need-add-start Inv-loop μ-loop
-add-start c = search needs
-
-add-j : tie.Need-add-j Inv-loop μ-loop
-add-j c = search needs
-
-loop-less : tie.Need-loop-less Inv-loop μ-loop
-loop-less c = search needs
-
 loop-again : tie.Need-loop-again Inv-loop μ-loop
 loop-again c =
     let args = c .before .before .before .before .before .before .before .before .before .before .args in
@@ -57,9 +27,6 @@ loop-again c =
     let h : loop .j < length (args .counts .now) = c .before .before .before .before .before .before .loop-test .taken in
     let next = content-more (loop .file) (put .last .0) (args .counts .now) (loop .j) (loop .start) (count .result) h (count .ensures .0) (put .ensures) in
     (omega (arith, h), omega (arith, loop .inv .1, count .ensures .1), search needs, next ∙ loop .inv .3)
-
-same-length : tie.Need-same-length Inv-loop μ-loop
-same-length c = search needs
 
 returns : tie.Need-returns Inv-loop μ-loop
 returns c =
@@ -73,16 +40,16 @@ write-contents-spec =
     (tie.spec
     Inv-loop
     μ-loop
-    loop-holds
-    mul-wide
-    shared-slice-read-wide
-    wide-requires
-    mul-put-content
-    add-put-content
-    put-content-requires
-    add-start
-    add-j
-    loop-less
+    (λ c. (omega arith, omega arith, refl, refl))
+    (λ c. search needs)
+    (λ c. search needs)
+    (λ c κs. search needs)
+    (λ c. search needs)
+    (λ c. search needs)
+    (λ c κs. search needs)
+    (λ c. search needs)
+    (λ c. search needs)
+    (λ c. search needs)
     loop-again
-    same-length
+    (λ c. search needs)
     returns)

@@ -7,30 +7,6 @@ use Rattle.code_writer.proofs.WriterLaws.{file-all}
 use Rattle.code_writer.proofs.write_file.Statement.{statement}
 use Rattle.code_writer.proofs.write_file.Tie as tie
 
-wide-requires : tie.Need-wide-requires
-wide-requires c κs = search needs
-
-put16-requires : tie.Need-put16-requires
-put16-requires c κs = search needs
-
-put16-requires-2 : tie.Need-put16-requires-2
-put16-requires-2 c κs = search needs
-
-write-contents-requires : tie.Need-write-contents-requires
-write-contents-requires c κs = search needs
-
-mul-write-members : tie.Need-mul-write-members
-mul-write-members c = search needs
-
-add-write-members : tie.Need-add-write-members
-add-write-members c = search needs
-
-write-members-requires : tie.Need-write-members-requires
-write-members-requires c κs = search needs
-
-same-length : tie.Need-same-length
-same-length c = search needs
-
 returns : tie.Need-returns
 returns c =
     let start = c .before .before .before .before .before .before .before .before .before .before .before .before .before .before .before .before .before .before .before .before in
@@ -48,12 +24,12 @@ pub write-file-spec : {M : Type 1} → statement M
 write-file-spec =
     tie.close
     (tie.spec
-    wide-requires
-    put16-requires
-    put16-requires-2
-    write-contents-requires
-    mul-write-members
-    add-write-members
-    write-members-requires
-    same-length
+    (λ c κs. search needs)
+    (λ c κs. search needs)
+    (λ c κs. search needs)
+    (λ c κs. search needs)
+    (λ c. search needs)
+    (λ c. search needs)
+    (λ c κs. search needs)
+    (λ c. search needs)
     returns)

@@ -18,33 +18,6 @@ Inv-loop members from file₀ k₀ file k =
 abbrev μ-loop : tie.MeasureT-loop
 μ-loop members from file₀ k₀ file k = length members - k
 
-loop-holds : tie.Need-loop-holds Inv-loop μ-loop
-loop-holds c = (omega arith, refl, simp add-zero)
-
-mul-put16 : tie.Need-mul-put16 Inv-loop μ-loop
-mul-put16 c = search needs
-
-add-put16 : tie.Need-add-put16 Inv-loop μ-loop
-add-put16 c = search needs
-
-mul-wide : tie.Need-mul-wide Inv-loop μ-loop
-mul-wide c = search needs
-
-shared-slice-read-wide : tie.Need-shared-slice-read-wide Inv-loop μ-loop
-shared-slice-read-wide c = search needs
-
-wide-requires : tie.Need-wide-requires Inv-loop μ-loop
-wide-requires c κs = search needs
-
-put16-requires : tie.Need-put16-requires Inv-loop μ-loop
-put16-requires c κs = search needs
-
-add-k : tie.Need-add-k Inv-loop μ-loop
-add-k c = search needs
-
-loop-less : tie.Need-loop-less Inv-loop μ-loop
-loop-less c = search needs
-
 loop-again : tie.Need-loop-again Inv-loop μ-loop
 loop-again c =
     let args = c .before .before .before .before .before .before .before .before .before .before .args in
@@ -54,9 +27,6 @@ loop-again c =
     let h : loop .k < length (args .members .now) = c .before .before .before .before .before .before .loop-test .taken in
     let next = member-more (loop .file) (put .last .0) (args .members .now) (args .from) (loop .k) (member .result) h (member .ensures .0) (put .ensures) in
     (omega (arith, h), search needs, next ∙ loop .inv .2)
-
-same-length : tie.Need-same-length Inv-loop μ-loop
-same-length c = search needs
 
 returns : tie.Need-returns Inv-loop μ-loop
 returns c =
@@ -70,15 +40,15 @@ write-members-spec =
     (tie.spec
     Inv-loop
     μ-loop
-    loop-holds
-    mul-put16
-    add-put16
-    mul-wide
-    shared-slice-read-wide
-    wide-requires
-    put16-requires
-    add-k
-    loop-less
+    (λ c. (omega arith, refl, simp add-zero))
+    (λ c. search needs)
+    (λ c. search needs)
+    (λ c. search needs)
+    (λ c. search needs)
+    (λ c κs. search needs)
+    (λ c κs. search needs)
+    (λ c. search needs)
+    (λ c. search needs)
     loop-again
-    same-length
+    (λ c. search needs)
     returns)

@@ -13,26 +13,11 @@ use Rattle.cut.proofs.SeeLaws.{changes-is}
 use Rattle.cut.proofs.change_side.Statement.{statement}
 use Rattle.cut.proofs.change_side.Tie as tie
 
-mul-raised : tie.Need-mul-raised
-mul-raised c = search needs
-
 top-fits : (c : tie.After-struct-told) → SFits w32 (c .before .args .s .top)
 top-fits c = fit w32 (c .before .args .s .top) (search)
 
 sub-raised : tie.Need-sub-raised
 sub-raised c = simp lin (omega (arithZ, known (top-fits c)))
-
-mul-raised-2 : tie.Need-mul-raised-2
-mul-raised-2 c = search needs
-
-slice-set-from-raised : tie.Need-slice-set-from-raised
-slice-set-from-raised c = search needs
-
-bit-requires : tie.Need-bit-requires
-bit-requires c κs = search needs
-
-same-length : tie.Need-same-length
-same-length c = search needs
 
 returns : tie.Need-returns
 returns c =
@@ -42,4 +27,11 @@ returns c =
 pub change-side-spec : {M : Type 1} → statement M
 change-side-spec =
     tie.close
-    (tie.spec mul-raised sub-raised mul-raised-2 slice-set-from-raised bit-requires same-length returns)
+    (tie.spec
+    (λ c. search needs)
+    sub-raised
+    (λ c. search needs)
+    (λ c. search needs)
+    (λ c κs. search needs)
+    (λ c. search needs)
+    returns)

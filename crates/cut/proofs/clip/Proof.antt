@@ -8,12 +8,6 @@ use Rattle.rules.specs.Limits.{unit}
 use Rattle.cut.proofs.clip.Statement.{statement}
 use Rattle.cut.proofs.clip.Tie as tie
 
-sub-if1 : tie.Need-sub-if1
-sub-if1 c = search needs
-
-sub-result : tie.Need-sub-result
-sub-result c = search needs
-
 returns : tie.Need-returns
 returns c = sym (clip-low unit (c .before .args .x) (simp lin (omega arithZ)))
 
@@ -24,4 +18,4 @@ returns-3 : tie.Need-returns-3
 returns-3 c = toZ-ofZ (c .before .before .fits .x) ∙ sym (clip-mid unit (c .before .before .args .x) (simp lin (omega arithZ)))
 
 pub clip-spec : {M : Type 1} → statement M
-clip-spec = tie.close (tie.spec sub-if1 sub-result returns returns-2 returns-3)
+clip-spec = tie.close (tie.spec (λ c. search needs) (λ c. search needs) returns returns-2 returns-3)

@@ -16,9 +16,6 @@ use Rattle.cut.proofs.SeeLaws.{decided-odd, decided-change, decided-sta
 use Rattle.cut.proofs.decide.Statement.{statement}
 use Rattle.cut.proofs.decide.Tie as tie
 
-when-violated-requires : tie.Need-when-violated-requires
-when-violated-requires c κs = search needs
-
 returns : tie.Need-returns
 returns c =
     let start = c .before .before .before .before in
@@ -28,9 +25,6 @@ returns c =
 
 even : (c : tie.Else1) → ones (c .before .before .args .s .mask) % 2 ≡ 1 → ⊥
 even c o = omega arith
-
-above-requires : tie.Need-above-requires
-above-requires c κs = search needs
 
 -- the greatest height, where it is above 0
 above-is : (c : tie.After-above) → c .above .result ≡ up (c .before .before .before .before .args .s .top)
@@ -56,9 +50,6 @@ change-side-requires c κs =
     let start = c .before .before .before .before .before .before .before in
     (start .pre .0, start .pre .2 (short (c .before)), above-within (start .args .s .top) (start .args .s .room) (start .pre .1) (short (c .before)))
 
-same-length : tie.Need-same-length
-same-length c = search needs
-
 returns-2 : tie.Need-returns-2
 returns-2 c =
     let start = c .before .before .before .before .before .before .before .before .before in
@@ -75,11 +66,11 @@ pub decide-spec : {M : Type 1} → statement M
 decide-spec =
     tie.close
     (tie.spec
-    when-violated-requires
+    (λ c κs. search needs)
     returns
-    above-requires
+    (λ c κs. search needs)
     mul-if2
     change-side-requires
-    same-length
+    (λ c. search needs)
     returns-2
     returns-3)

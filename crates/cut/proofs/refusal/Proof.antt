@@ -5,9 +5,6 @@ use Rattle.cut.proofs.ReplyLaws.{refusal-point, refusal-check, refusal-
 use Rattle.cut.proofs.refusal.Statement.{statement}
 use Rattle.cut.proofs.refusal.Tie as tie
 
-point-requires : tie.Need-point-requires
-point-requires c κs = tt
-
 returns : tie.Need-returns
 returns c = refusal-point _ _ _ _ _ (c .before .point .ensures) (c .if1 .taken)
 
@@ -24,4 +21,4 @@ returns-3 c =
     refusal-none _ _ _ _ _ (c .before .before .point .ensures) (c .before .if1 .left) inside
 
 pub refusal-spec : {M : Type 1} → statement M
-refusal-spec = tie.close (tie.spec point-requires returns returns-2 returns-3)
+refusal-spec = tie.close (tie.spec (λ c κs. tt) returns returns-2 returns-3)

@@ -10,9 +10,6 @@ use Rattle.cut.proofs.ReplyLaws.{point-right, none-refused, search-turn
 use Rattle.cut.proofs.search_table.Statement.{statement}
 use Rattle.cut.proofs.search_table.Tie as tie
 
-refusal-requires : tie.Need-refusal-requires
-refusal-requires c κs = tt
-
 -- the table has as many checks as it was said to have
 checks-are : (start : tie.Start) → start .args .checks ≡ length (checksFrom (start .args .starts .now) (start .args .members .now))
 checks-are start = omega (arith, start .pre .1, starts-long _ _ _ (start .pre .0))
@@ -31,9 +28,6 @@ check-cut-requires c κs =
     let passed = none-refused _ _ _ _ (sym (c .before .refusal .ensures) ∙ c .if1 .left) in
     (subst (λ n. Holds n (start .args .starts .now) (start .args .members .now)) (sym (point-right _ _ (passed .0) .0)) (start .pre .0), omega (arith, passed .1, start .pre .1))
 
-answer-of-requires : tie.Need-answer-of-requires
-answer-of-requires c κs = tt
-
 returns-2 : tie.Need-returns-2
 returns-2 c =
     let refused = c .before .before .before in
@@ -41,5 +35,4 @@ returns-2 c =
     search-mask _ _ _ _ _ none (c .before .check-cut .ensures) (c .answer-of .ensures)
 
 pub search-table-spec : {M : Type 1} → statement M
-search-table-spec =
-    tie.close (tie.spec refusal-requires returns check-cut-requires answer-of-requires returns-2)
+search-table-spec = tie.close (tie.spec (λ c κs. tt) returns check-cut-requires (λ c κs. tt) returns-2)

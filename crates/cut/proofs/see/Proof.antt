@@ -26,18 +26,12 @@ returns-2 c =
 room : (c : tie.Else2) → length (c .before .before .args .v .now) ≤ length (c .before .before .args .heights .now)
 room c = omega arith
 
-scan-values-requires : tie.Need-scan-values-requires
-scan-values-requires c κs = search needs
-
 decide-requires : tie.Need-decide-requires
 decide-requires c κs =
     let scanned = c .before .before in
     let most = few (scanned .before .before .before) in
     let e = scanned .scan-values .ensures in
     (place-most _ _ _ most _ (e .0) (e .1), top-most _ _ _ most _ (e .0) (e .1), place-there _ _ _ most _ (e .0) (e .1))
-
-same-length : tie.Need-same-length
-same-length c = search needs
 
 returns-3 : tie.Need-returns-3
 returns-3 c =
@@ -47,6 +41,4 @@ returns-3 c =
     c .before .decide .ensures ∙ decides-seen _ _ _ (few (tested .before)) _ (e .0) (e .1) (room tested)
 
 pub see-spec : {M : Type 1} → statement M
-see-spec =
-    tie.close
-    (tie.spec returns returns-2 scan-values-requires decide-requires same-length returns-3)
+see-spec = tie.close (tie.spec returns returns-2 (λ c κs. search needs) decide-requires (λ c. search needs) returns-3)

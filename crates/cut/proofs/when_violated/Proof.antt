@@ -8,9 +8,6 @@ use Rattle.inputs.proofs.RefusalLaws.{test-holds, test-fails}
 use Rattle.cut.proofs.when_violated.Statement.{statement}
 use Rattle.cut.proofs.when_violated.Tie as tie
 
-mul-if1 : tie.Need-mul-if1
-mul-if1 c = search needs
-
 returns : tie.Need-returns
 returns c =
     let below : c .before .args .left < 2 * unit = omega arith in
@@ -22,4 +19,4 @@ returns-2 c =
     test-fails _ _ _ (le-ltb _ _ from)
 
 pub when-violated-spec : {M : Type 1} → statement M
-when-violated-spec = tie.close (tie.spec mul-if1 returns returns-2)
+when-violated-spec = tie.close (tie.spec (λ c. search needs) returns returns-2)

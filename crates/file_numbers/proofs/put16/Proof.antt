@@ -7,24 +7,6 @@ use Rattle.file_numbers.proofs.put16.Tie as tie
 returns : tie.Need-returns
 returns c = two-out _ _ (c .if1 .taken) _ _
 
-low-byte-requires : tie.Need-low-byte-requires
-low-byte-requires c κs = search needs
-
-put-requires : tie.Need-put-requires
-put-requires c κs = search needs
-
-add-put : tie.Need-add-put
-add-put c = search needs
-
-low-byte-requires-2 : tie.Need-low-byte-requires-2
-low-byte-requires-2 c κs = search needs
-
-put-requires-2 : tie.Need-put-requires-2
-put-requires-2 c κs = search needs
-
-same-length : tie.Need-same-length
-same-length c = search needs
-
 returns-2 : tie.Need-returns-2
 returns-2 c =
     let high = c .before .before in
@@ -37,10 +19,10 @@ put16-spec =
     tie.close
     (tie.spec
     returns
-    low-byte-requires
-    put-requires
-    add-put
-    low-byte-requires-2
-    put-requires-2
-    same-length
+    (λ c κs. search needs)
+    (λ c κs. search needs)
+    (λ c. search needs)
+    (λ c κs. search needs)
+    (λ c κs. search needs)
+    (λ c. search needs)
     returns-2)

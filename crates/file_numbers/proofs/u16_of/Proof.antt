@@ -4,14 +4,5 @@ use borrow.Author.Needs.{needs}
 use Rattle.file_numbers.proofs.u16_of.Statement.{statement}
 use Rattle.file_numbers.proofs.u16_of.Tie as tie
 
-mul-result : tie.Need-mul-result
-mul-result c = search needs
-
-add-result : tie.Need-add-result
-add-result c = search needs
-
-returns : tie.Need-returns
-returns c = (omega arith, omega arith)
-
 pub u16-of-spec : {M : Type 1} → statement M
-u16-of-spec = tie.close (tie.spec mul-result add-result returns)
+u16-of-spec = tie.close (tie.spec (λ c. search needs) (λ c. search needs) (λ c. (omega arith, omega arith)))

@@ -22,38 +22,14 @@ Inv-loop frame word n total₀ i₀ total i = (i ≤ n) × (n ≡ sharedBits fra
 abbrev μ-loop : tie.MeasureT-loop
 μ-loop frame word n total₀ i₀ total i = n - i
 
-least-requires : tie.Need-least-requires Inv-loop μ-loop
-least-requires c κs = search needs
-
-least-requires-2 : tie.Need-least-requires-2 Inv-loop μ-loop
-least-requires-2 c κs = search needs
-
 loop-holds : tie.Need-loop-holds Inv-loop μ-loop
 loop-holds c = (omega arith, c .least2 .ensures ∙ ap (min maxBits) (c .before .least .ensures), added-none _ _)
-
-shared-slice-read-turned : tie.Need-shared-slice-read-turned Inv-loop μ-loop
-shared-slice-read-turned c = omega arith
-
-mul-turned : tie.Need-mul-turned Inv-loop μ-loop
-mul-turned c = search needs
-
-shared-slice-copy-out-turned : tie.Need-shared-slice-copy-out-turned Inv-loop μ-loop
-shared-slice-copy-out-turned c = omega arith
-
-turned-requires : tie.Need-turned-requires Inv-loop μ-loop
-turned-requires c κs = search needs
 
 few : (c : tie.After-turned Inv-loop μ-loop) → c .before .before .before .before .loop .i < maxBits
 few c = omega arith
 
 add-total : tie.Need-add-total Inv-loop μ-loop
 add-total c = added-fits (c .before .before .before .before .loop .inv .2) (few c) (fit w64 (c .turned .result) (c .turned .ok)) (c .turned .ensures .1)
-
-add-i : tie.Need-add-i Inv-loop μ-loop
-add-i c = omega arith
-
-loop-less : tie.Need-loop-less Inv-loop μ-loop
-loop-less c = omega arith
 
 loop-again : tie.Need-loop-again Inv-loop μ-loop
 loop-again c =
@@ -74,15 +50,15 @@ agreement-spec =
     (tie.spec
     Inv-loop
     μ-loop
-    least-requires
-    least-requires-2
+    (λ c κs. search needs)
+    (λ c κs. search needs)
     loop-holds
-    shared-slice-read-turned
-    mul-turned
-    shared-slice-copy-out-turned
-    turned-requires
+    (λ c. omega arith)
+    (λ c. search needs)
+    (λ c. omega arith)
+    (λ c κs. search needs)
     add-total
-    add-i
-    loop-less
+    (λ c. omega arith)
+    (λ c. omega arith)
     loop-again
     returns)

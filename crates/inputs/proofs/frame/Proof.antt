@@ -10,9 +10,6 @@ returns : tie.Need-returns
 unfolding frameRefusal
 returns c = test-fails _ _ _ (ne-eqb _ _ (c .if1 .taken))
 
-numbers-right-requires : tie.Need-numbers-right-requires
-numbers-right-requires c κs = tt
-
 returns-2 : tie.Need-returns-2
 unfolding frameRefusal
 returns-2 c = test-fails _ _ _ (sym (c .before .numbers-right .ensures) ∙ not-true _ (c .if2 .taken)) ∙ test-holds _ _ _ (eq-eqb _ _ (c .before .before .if1 .left))
@@ -22,4 +19,4 @@ unfolding frameRefusal
 returns-3 c = test-holds _ _ _ (sym (c .before .numbers-right .ensures) ∙ not-false _ (c .if2 .left)) ∙ test-holds _ _ _ (eq-eqb _ _ (c .before .before .if1 .left))
 
 pub frame-spec : {M : Type 1} → statement M
-frame-spec = tie.close (tie.spec returns numbers-right-requires returns-2 returns-3)
+frame-spec = tie.close (tie.spec returns (λ c κs. tt) returns-2 returns-3)

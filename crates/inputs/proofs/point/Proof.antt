@@ -10,9 +10,6 @@ returns : tie.Need-returns
 unfolding pointRefusal
 returns c = first-fails _ _ _ _ (ne-eqb _ _ (c .if1 .taken))
 
-spins-right-requires : tie.Need-spins-right-requires
-spins-right-requires c κs = tt
-
 returns-2 : tie.Need-returns-2
 unfolding pointRefusal
 returns-2 c = second-fails _ _ _ _ (eq-eqb _ _ (c .before .before .if1 .left)) (sym (c .before .spins-right .ensures) ∙ not-true _ (c .if2 .taken))
@@ -22,4 +19,4 @@ unfolding pointRefusal
 returns-3 c = both-hold _ _ _ _ (eq-eqb _ _ (c .before .before .if1 .left)) (sym (c .before .spins-right .ensures) ∙ not-false _ (c .if2 .left))
 
 pub point-spec : {M : Type 1} → statement M
-point-spec = tie.close (tie.spec returns spins-right-requires returns-2 returns-3)
+point-spec = tie.close (tie.spec returns (λ c κs. tt) returns-2 returns-3)

@@ -10,9 +10,6 @@ returns : tie.Need-returns
 unfolding wordRefusal
 returns c = first-fails _ _ _ _ (ne-eqb _ _ (c .if1 .taken))
 
-bytes-right-requires : tie.Need-bytes-right-requires
-bytes-right-requires c κs = tt
-
 returns-2 : tie.Need-returns-2
 unfolding wordRefusal
 returns-2 c = second-fails _ _ _ _ (eq-eqb _ _ (c .before .before .if1 .left)) (sym (c .before .bytes-right .ensures) ∙ not-true _ (c .if2 .taken))
@@ -22,4 +19,4 @@ unfolding wordRefusal
 returns-3 c = both-hold _ _ _ _ (eq-eqb _ _ (c .before .before .if1 .left)) (sym (c .before .bytes-right .ensures) ∙ not-false _ (c .if2 .left))
 
 pub word-spec : {M : Type 1} → statement M
-word-spec = tie.close (tie.spec returns bytes-right-requires returns-2 returns-3)
+word-spec = tie.close (tie.spec returns (λ c κs. tt) returns-2 returns-3)

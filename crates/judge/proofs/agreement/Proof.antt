@@ -10,15 +10,6 @@ use Rattle.judge.proofs.StageLaws.{agreement-none, agreement-table}
 use Rattle.judge.proofs.agreement.Statement.{statement}
 use Rattle.judge.proofs.agreement.Tie as tie
 
-check-requires : tie.Need-check-requires
-check-requires c κs = search needs
-
-enum-known-answer : tie.Need-enum-known-answer
-enum-known-answer c = search needs
-
-enum-known-answer-2 : tie.Need-enum-known-answer-2
-enum-known-answer-2 c = search needs
-
 -- the file was accepted
 accepted : (c : tie.After-check) {n m e : ℕ} → c .check .result ≡ Accepted n m e → Readable (c .before .before .before .args .code .now) n m e
 accepted c h = readable _ _ _ _ (ap numbered (sym h) ∙ c .check .ensures)
@@ -36,9 +27,9 @@ pub agreement-spec : {M : Type 1} → statement M
 agreement-spec =
     tie.close
     (tie.spec
-    check-requires
-    enum-known-answer
-    enum-known-answer-2
+    (λ c κs. search needs)
+    (λ c. search needs)
+    (λ c. search needs)
     agreement-table-requires
     returns
     returns-2)

@@ -12,18 +12,6 @@ use Rattle.jugnayap.specs.Numbers.{agreementFrom}
 use Rattle.jugnayap.proofs.jugnayap_agreement.Statement.{statement}
 use Rattle.jugnayap.proofs.jugnayap_agreement.Tie as tie
 
-agreement-requires : tie.Need-agreement-requires
-agreement-requires c κs = search needs
-
-enum-known-answer : tie.Need-enum-known-answer
-enum-known-answer c = search needs
-
-cast-t8 : tie.Need-cast-t8
-cast-t8 c = search needs
-
-enum-known-answer-2 : tie.Need-enum-known-answer-2
-enum-known-answer-2 c = search needs
-
 returns : tie.Need-returns
 unfolding replyOf
 returns c = ap (λ a. agreementFrom (replyOf agreementValues a)) (ap agreedOf (sym (c .before .answer .given .1)) ∙ c .before .before .before .agreement .ensures)
@@ -41,4 +29,10 @@ returns-2 c =
 pub jugnayap-agreement-spec : {M : Type 1} → statement M
 jugnayap-agreement-spec =
     tie.close
-    (tie.spec agreement-requires enum-known-answer cast-t8 enum-known-answer-2 returns returns-2)
+    (tie.spec
+    (λ c κs. search needs)
+    (λ c. search needs)
+    (λ c. search needs)
+    (λ c. search needs)
+    returns
+    returns-2)

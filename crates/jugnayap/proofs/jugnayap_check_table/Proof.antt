@@ -7,18 +7,6 @@ use Rattle.jugnayap.proofs.AnswerLaws.{Small, accepted-small}
 use Rattle.jugnayap.proofs.jugnayap_check_table.Statement.{statement}
 use Rattle.jugnayap.proofs.jugnayap_check_table.Tie as tie
 
-check-requires : tie.Need-check-requires
-check-requires c κs = search needs
-
-enum-known-answer : tie.Need-enum-known-answer
-enum-known-answer c = search needs
-
-cast-t8 : tie.Need-cast-t8
-cast-t8 c = search needs
-
-enum-known-answer-2 : tie.Need-enum-known-answer-2
-enum-known-answer-2 c = search needs
-
 -- the file was accepted
 small : (c : tie.After-known-told2) → Small (c .before .answer2 .given .0 .0) (c .before .answer2 .given .0 .1 .0) (c .before .answer2 .given .0 .1 .1 .0)
 small c = accepted-small (c .before .before .before .before .before .args .code .now) _ _ _ (ap numbered (sym (c .before .answer2 .given .1)) ∙ c .before .before .before .check .ensures)
@@ -42,10 +30,10 @@ pub jugnayap-check-table-spec : {M : Type 1} → statement M
 jugnayap-check-table-spec =
     tie.close
     (tie.spec
-    check-requires
-    enum-known-answer
-    cast-t8
-    enum-known-answer-2
+    (λ c κs. search needs)
+    (λ c. search needs)
+    (λ c. search needs)
+    (λ c. search needs)
     cast-t9
     cast-t10
     cast-t11

@@ -13,26 +13,8 @@ use Rattle.jugnayap.proofs.AnswerLaws.{broken-small}
 use Rattle.jugnayap.proofs.jugnayap_judge.Statement.{statement}
 use Rattle.jugnayap.proofs.jugnayap_judge.Tie as tie
 
-judge-requires : tie.Need-judge-requires
-judge-requires c κs = search needs
-
-enum-known-answer : tie.Need-enum-known-answer
-enum-known-answer c = search needs
-
-cast-t10 : tie.Need-cast-t10
-cast-t10 c = search needs
-
-enum-known-answer-2 : tie.Need-enum-known-answer-2
-enum-known-answer-2 c = search needs
-
 cast-t11 : tie.Need-cast-t11
 cast-t11 c = let small = broken-small _ _ _ _ _ (ap verdictOf (sym (c .before .answer2 .given .1)) ∙ c .before .before .before .judge .ensures) in search needs
-
-enum-told : tie.Need-enum-told
-enum-told c = search needs
-
-enum-known-answer-3 : tie.Need-enum-known-answer-3
-enum-known-answer-3 c = search needs
 
 returns : tie.Need-returns
 unfolding replyOf judgeReply
@@ -62,13 +44,13 @@ pub jugnayap-judge-spec : {M : Type 1} → statement M
 jugnayap-judge-spec =
     tie.close
     (tie.spec
-    judge-requires
-    enum-known-answer
-    cast-t10
-    enum-known-answer-2
+    (λ c κs. search needs)
+    (λ c. search needs)
+    (λ c. search needs)
+    (λ c. search needs)
     cast-t11
-    enum-told
-    enum-known-answer-3
+    (λ c. search needs)
+    (λ c. search needs)
     returns
     returns-2
     returns-3

@@ -6,21 +6,6 @@ use Rattle.jugnayap.proofs.AnswerLaws.{cut-numbers}
 use Rattle.jugnayap.proofs.jugnayap_search_cut.Statement.{statement}
 use Rattle.jugnayap.proofs.jugnayap_search_cut.Tie as tie
 
-search-requires : tie.Need-search-requires
-search-requires c κs = search needs
-
-enum-known-answer : tie.Need-enum-known-answer
-enum-known-answer c = search needs
-
-cast-t8 : tie.Need-cast-t8
-cast-t8 c = search needs
-
-enum-told : tie.Need-enum-told
-enum-told c = search needs
-
-enum-known-answer-2 : tie.Need-enum-known-answer-2
-enum-known-answer-2 c = search needs
-
 returns : tie.Need-returns
 returns c = cut-numbers _ _ _ _ (ap foundOf (sym (c .before .answer .given .1)) ∙ c .before .before .before .search .ensures)
 
@@ -34,11 +19,11 @@ pub jugnayap-search-cut-spec : {M : Type 1} → statement M
 jugnayap-search-cut-spec =
     tie.close
     (tie.spec
-    search-requires
-    enum-known-answer
-    cast-t8
-    enum-told
-    enum-known-answer-2
+    (λ c κs. search needs)
+    (λ c. search needs)
+    (λ c. search needs)
+    (λ c. search needs)
+    (λ c. search needs)
     returns
     returns-2
     returns-3)

@@ -9,18 +9,6 @@ use Rattle.rules.specs.Report.{certifiedLine}
 use Rattle.reporting.proofs.certified_line.Statement.{statement}
 use Rattle.reporting.proofs.certified_line.Tie as tie
 
-agreement-requires : tie.Need-agreement-requires
-agreement-requires c κs = tt
-
-shared-slice-read-u16-of : tie.Need-shared-slice-read-u16-of
-shared-slice-read-u16-of c = search needs
-
-shared-slice-read-u16-of-2 : tie.Need-shared-slice-read-u16-of-2
-shared-slice-read-u16-of-2 c = search needs
-
-u16-of-requires : tie.Need-u16-of-requires
-u16-of-requires c κs = search needs
-
 -- the agreement fits its type
 fits : (c : tie.After-agreement) → SFits w64 (c .agreement .result)
 fits c = record { sfits = c .agreement .ok }
@@ -32,4 +20,4 @@ returns c =
     ap₂ (certifiedLine (summed .before .before .before .args .rounds)) (toZ-ofZ (fits summed) ∙ summed .agreement .ensures .0) (c .u16-of .ensures .0)
 
 pub certified-line-spec : {M : Type 1} → statement M
-certified-line-spec = tie.close (tie.spec agreement-requires shared-slice-read-u16-of shared-slice-read-u16-of-2 u16-of-requires returns)
+certified-line-spec = tie.close (tie.spec (λ c κs. tt) (λ c. search needs) (λ c. search needs) (λ c κs. search needs) returns)

@@ -7,24 +7,6 @@ use Rattle.reporting.proofs.LineLaws.{line-of, certified-short}
 use Rattle.reporting.proofs.frame_line.Statement.{statement}
 use Rattle.reporting.proofs.frame_line.Tie as tie
 
-slice-aggregate-decode : tie.Need-slice-aggregate-decode
-slice-aggregate-decode c = search needs
-
-slice-aggregate-decode-2 : tie.Need-slice-aggregate-decode-2
-slice-aggregate-decode-2 c = search needs
-
-decode-requires : tie.Need-decode-requires
-decode-requires c κs = search needs
-
-enum-known-outcome : tie.Need-enum-known-outcome
-enum-known-outcome c = search needs
-
-enum-told : tie.Need-enum-told
-enum-told c = search needs
-
-enum-told-2 : tie.Need-enum-told-2
-enum-told-2 c = search needs
-
 array-share-prefix-word : tie.Need-array-share-prefix-word
 array-share-prefix-word c =
     let ran = c .before .before .before .before .decode in
@@ -32,15 +14,6 @@ array-share-prefix-word c =
 
 slice-aggregate-certified-line : tie.Need-slice-aggregate-certified-line
 slice-aggregate-certified-line c = simp length-take (omega (arith, array-share-prefix-word (c .before)))
-
-slice-aggregate-certified-line-2 : tie.Need-slice-aggregate-certified-line-2
-slice-aggregate-certified-line-2 c = search needs
-
-certified-line-requires : tie.Need-certified-line-requires
-certified-line-requires c κs = search needs
-
-enum-told-3 : tie.Need-enum-told-3
-enum-told-3 c = search needs
 
 returns : tie.Need-returns
 returns c =
@@ -66,17 +39,17 @@ pub frame-line-spec : {M : Type 1} → statement M
 frame-line-spec =
     tie.close
     (tie.spec
-    slice-aggregate-decode
-    slice-aggregate-decode-2
-    decode-requires
-    enum-known-outcome
-    enum-told
-    enum-told-2
+    (λ c. search needs)
+    (λ c. search needs)
+    (λ c κs. search needs)
+    (λ c. search needs)
+    (λ c. search needs)
+    (λ c. search needs)
     array-share-prefix-word
     slice-aggregate-certified-line
-    slice-aggregate-certified-line-2
-    certified-line-requires
-    enum-told-3
+    (λ c. search needs)
+    (λ c κs. search needs)
+    (λ c. search needs)
     returns
     returns-2
     returns-3

@@ -6,36 +6,15 @@ use Rattle.run.proofs.AdmitLaws.{checks-few, admission-refused, admissi
 use Rattle.run.proofs.admit.Statement.{statement}
 use Rattle.run.proofs.admit.Tie as tie
 
-load-requires : tie.Need-load-requires
-load-requires c κs = tt
-
-enum-known-answer : tie.Need-enum-known-answer
-enum-known-answer c = search needs
-
-enum-known-answer-2 : tie.Need-enum-known-answer-2
-enum-known-answer-2 c = search needs
-
 admit-sized-requires : tie.Need-admit-sized-requires
 admit-sized-requires c κs =
     let load = c .before .before .before .before .before .before .before in
     checks-few _ _ _ _ _ _ (load .load .ensures) _ _ _ (ap numbered (c .before .answer2 .given .1))
 
-same-length : tie.Need-same-length
-same-length c = search needs
-
-same-length-2 : tie.Need-same-length-2
-same-length-2 c = search needs
-
 returns : tie.Need-returns
 returns c =
     let load = c .before .before .before .before .before .before .before in
     admission-refused _ _ _ _ _ _ (load .load .ensures) _ _ _ _ _ _ (c .before .answer .given .0 .0) (ap numbered (c .before .answer .given .1))
-
-same-length-3 : tie.Need-same-length-3
-same-length-3 c = search needs
-
-same-length-4 : tie.Need-same-length-4
-same-length-4 c = search needs
 
 returns-2 : tie.Need-returns-2
 returns-2 c =
@@ -46,13 +25,13 @@ pub admit-spec : {M : Type 1} → statement M
 admit-spec =
     tie.close
     (tie.spec
-    load-requires
-    enum-known-answer
-    enum-known-answer-2
+    (λ c κs. tt)
+    (λ c. search needs)
+    (λ c. search needs)
     admit-sized-requires
-    same-length
-    same-length-2
+    (λ c. search needs)
+    (λ c. search needs)
     returns
-    same-length-3
-    same-length-4
+    (λ c. search needs)
+    (λ c. search needs)
     returns-2)

@@ -10,15 +10,6 @@ use Rattle.run.proofs.StartLaws.{start-refused, start-few-copies, start
 use Rattle.run.proofs.start.Statement.{statement}
 use Rattle.run.proofs.start.Tie as tie
 
-check-requires : tie.Need-check-requires
-check-requires c κs = search needs
-
-enum-known-answer : tie.Need-enum-known-answer
-enum-known-answer c = search needs
-
-enum-known-answer-2 : tie.Need-enum-known-answer-2
-enum-known-answer-2 c = search needs
-
 -- the file was accepted
 accepted : (c : tie.After-answer2) → Readable (c .before .before .before .before .args .code .now) (c .answer2 .given .0 .0) (c .answer2 .given .0 .1 .0) (c .answer2 .given .0 .1 .1 .0)
 accepted c = readable _ _ _ _ (ap numbered (sym (c .answer2 .given .1)) ∙ c .before .before .check .ensures)
@@ -43,23 +34,8 @@ returns-2 c =
 offsets-fit : (c : tie.Else2) → c .before .before .before .answer2 .given .0 .1 .1 .0 ≤ length (c .before .before .before .before .before .before .before .args .offsets .now)
 offsets-fit c = omega arith
 
-clear-first-requires : tie.Need-clear-first-requires
-clear-first-requires c κs = search needs
-
-clear-first-requires-2 : tie.Need-clear-first-requires-2
-clear-first-requires-2 c κs = search needs
-
-fresh-requires : tie.Need-fresh-requires
-fresh-requires c κs = search needs
-
 returns-3 : tie.Need-returns-3
 returns-3 c = start-refused _ _ _ _ (refused-is _ _ (ap numbered (sym (c .before .answer .given .1)) ∙ c .before .before .before .check .ensures))
-
-same-length : tie.Need-same-length
-same-length c = search needs
-
-same-length-2 : tie.Need-same-length-2
-same-length-2 c = search needs
 
 returns-4 : tie.Need-returns-4
 returns-4 c =
@@ -71,15 +47,15 @@ pub start-spec : {M : Type 1} → statement M
 start-spec =
     tie.close
     (tie.spec
-    check-requires
-    enum-known-answer
-    enum-known-answer-2
+    (λ c κs. search needs)
+    (λ c. search needs)
+    (λ c. search needs)
     returns
     returns-2
-    clear-first-requires
-    clear-first-requires-2
-    fresh-requires
+    (λ c κs. search needs)
+    (λ c κs. search needs)
+    (λ c κs. search needs)
     returns-3
-    same-length
-    same-length-2
+    (λ c. search needs)
+    (λ c. search needs)
     returns-4)

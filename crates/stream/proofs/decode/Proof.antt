@@ -25,39 +25,6 @@ loop-holds : tie.Need-loop-holds Inv-loop μ-loop
 unfolding numbersOf
 loop-holds c = (search needs, refl, refl)
 
-mul-u16-of : tie.Need-mul-u16-of Inv-loop μ-loop
-mul-u16-of c = search needs
-
-shared-slice-read-u16-of : tie.Need-shared-slice-read-u16-of Inv-loop μ-loop
-shared-slice-read-u16-of c = search needs
-
-mul-u16-of-2 : tie.Need-mul-u16-of-2 Inv-loop μ-loop
-mul-u16-of-2 c = search needs
-
-add-u16-of : tie.Need-add-u16-of Inv-loop μ-loop
-add-u16-of c = search needs
-
-shared-slice-read-u16-of-2 : tie.Need-shared-slice-read-u16-of-2 Inv-loop μ-loop
-shared-slice-read-u16-of-2 c = search needs
-
-u16-of-requires : tie.Need-u16-of-requires Inv-loop μ-loop
-u16-of-requires c κs = search needs
-
-signed-requires : tie.Need-signed-requires Inv-loop μ-loop
-signed-requires c κs = search needs
-
-mul-t15 : tie.Need-mul-t15 Inv-loop μ-loop
-mul-t15 c = search needs
-
-slice-set-from-numbers : tie.Need-slice-set-from-numbers Inv-loop μ-loop
-slice-set-from-numbers c = search needs
-
-add-i : tie.Need-add-i Inv-loop μ-loop
-add-i c = search needs
-
-loop-less : tie.Need-loop-less Inv-loop μ-loop
-loop-less c = search needs
-
 loop-again : tie.Need-loop-again Inv-loop μ-loop
 unfolding u16At
 loop-again c =
@@ -66,9 +33,6 @@ loop-again c =
     let value = toZ-ofZ (fit w16 (c .signed .result) (c .signed .ok)) ∙ c .signed .ensures ∙ ap (toZ w16) (c .before .u16-of .ensures .0) in
     let next = numbers-more (args .bytes .now) (loop .i) (loop .numbers) (args .numbers .now) _ (search needs) (loop .inv .2) value in
     (omega arith, search needs, next)
-
-same-length : tie.Need-same-length Inv-loop μ-loop
-same-length c = search needs
 
 returns : tie.Need-returns Inv-loop μ-loop
 returns c =
@@ -84,17 +48,17 @@ decode-spec =
     Inv-loop
     μ-loop
     loop-holds
-    mul-u16-of
-    shared-slice-read-u16-of
-    mul-u16-of-2
-    add-u16-of
-    shared-slice-read-u16-of-2
-    u16-of-requires
-    signed-requires
-    mul-t15
-    slice-set-from-numbers
-    add-i
-    loop-less
+    (λ c. search needs)
+    (λ c. search needs)
+    (λ c. search needs)
+    (λ c. search needs)
+    (λ c. search needs)
+    (λ c κs. search needs)
+    (λ c κs. search needs)
+    (λ c. search needs)
+    (λ c. search needs)
+    (λ c. search needs)
+    (λ c. search needs)
     loop-again
-    same-length
+    (λ c. search needs)
     returns)

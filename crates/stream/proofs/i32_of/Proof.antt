@@ -8,18 +8,6 @@ use mir.Val.{toZ}
 use Rattle.stream.proofs.i32_of.Statement.{statement}
 use Rattle.stream.proofs.i32_of.Tie as tie
 
-cast-result : tie.Need-cast-result
-cast-result c = search needs
-
-returns : tie.Need-returns
-returns c = search needs
-
-sub-result : tie.Need-sub-result
-sub-result c = search needs
-
-cast-result-2 : tie.Need-cast-result-2
-cast-result-2 c = search needs
-
 twice : (n : ℕ) → n ≤ 4294967295 → 4294967295 - (4294967295 - n) ≡ n
 twice n h = omega arith
 
@@ -27,4 +15,4 @@ returns-2 : tie.Need-returns-2
 returns-2 c = ap (toZ w32) (twice (c .before .args .n) (search needs))
 
 pub i32-of-spec : {M : Type 1} → statement M
-i32-of-spec = tie.close (tie.spec cast-result returns sub-result cast-result-2 returns-2)
+i32-of-spec = tie.close (tie.spec (λ c. search needs) (λ c. search needs) (λ c. search needs) (λ c. search needs) returns-2)

@@ -13,9 +13,6 @@ use borrow.Author.Needs.{needs}
 use Rattle.stream.proofs.print_signed.Statement.{statement}
 use Rattle.stream.proofs.print_signed.Tie as tie
 
-slice-aggregate-print-number : tie.Need-slice-aggregate-print-number
-slice-aggregate-print-number c = search needs
-
 add-bare : tie.Need-add-bare
 add-bare c = let x = known (c .before .before .fits .n) in simp lin (omega arithZ)
 
@@ -36,36 +33,21 @@ room n (negsuc m) f h e = absurd (h .le)
 add-print-number : tie.Need-add-print-number
 add-print-number c = record { fits = room (c .bare .result) (raw (sub-bare (c .before))) (sub-bare (c .before)) (nonneg (c .before)) (c .bare .ensures ∙ ap natAbs (toZ-ofZ (sub-bare (c .before)))) }
 
-print-number-requires : tie.Need-print-number-requires
-print-number-requires c κs = search needs
-
-slice-aggregate-print-number-2 : tie.Need-slice-aggregate-print-number-2
-slice-aggregate-print-number-2 c = search needs
-
 bare-requires-2 : tie.Need-bare-requires-2
 bare-requires-2 c κs = simp lin (omega (arithZ, known (c .before .before .fits .n)))
-
-print-number-requires-2 : tie.Need-print-number-requires-2
-print-number-requires-2 c κs = search needs
-
-returns : tie.Need-returns
-returns c = search needs
-
-returns-2 : tie.Need-returns-2
-returns-2 c = search needs
 
 pub print-signed-spec : {M : Type 1} → statement M
 print-signed-spec =
     tie.close
     (tie.spec
-    slice-aggregate-print-number
+    (λ c. search needs)
     add-bare
     sub-bare
     bare-requires
     add-print-number
-    print-number-requires
-    slice-aggregate-print-number-2
+    (λ c κs. search needs)
+    (λ c. search needs)
     bare-requires-2
-    print-number-requires-2
-    returns
-    returns-2)
+    (λ c κs. search needs)
+    (λ c. search needs)
+    (λ c. search needs))

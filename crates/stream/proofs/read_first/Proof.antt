@@ -6,18 +6,6 @@ use Rattle.stream.proofs.PartLaws.{front-read}
 use Rattle.stream.proofs.read_first.Statement.{statement}
 use Rattle.stream.proofs.read_first.Tie as tie
 
-slice-relend-prefix-read-full : tie.Need-slice-relend-prefix-read-full
-slice-relend-prefix-read-full c = search needs
-
-slice-aggregate-read-full : tie.Need-slice-aggregate-read-full
-slice-aggregate-read-full c = simp length-take (omega arith)
-
-read-full-requires : tie.Need-read-full-requires
-read-full-requires c κs = search needs
-
-same-length : tie.Need-same-length
-same-length c = search needs
-
 returns : tie.Need-returns
 returns c =
     let read = c .before .before .read-full in
@@ -27,8 +15,8 @@ pub read-first-spec : {M : Type 1} → statement M
 read-first-spec =
     tie.close
     (tie.spec
-    slice-relend-prefix-read-full
-    slice-aggregate-read-full
-    read-full-requires
-    same-length
+    (λ c. search needs)
+    (λ c. simp length-take (omega arith))
+    (λ c κs. search needs)
+    (λ c. search needs)
     returns)

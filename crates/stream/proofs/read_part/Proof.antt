@@ -4,35 +4,14 @@ use Rattle.stream.proofs.PartLaws.{whole-fits, front-stored}
 use Rattle.stream.proofs.read_part.Statement.{statement}
 use Rattle.stream.proofs.read_part.Tie as tie
 
-read-size-requires : tie.Need-read-size-requires
-read-size-requires c κs = search needs
-
-enum-known-stated : tie.Need-enum-known-stated
-enum-known-stated c = search needs
-
-returns : tie.Need-returns
-returns c = search needs
-
-read-first-requires : tie.Need-read-first-requires
-read-first-requires c κs = search whole-fits
-
-part-of-requires : tie.Need-part-of-requires
-part-of-requires c κs = search needs
-
-same-length : tie.Need-same-length
-same-length c = search needs
-
-returns-2 : tie.Need-returns-2
-returns-2 c = search (front-stored, whole-fits)
-
 pub read-part-spec : {M : Type 1} → statement M
 read-part-spec =
     tie.close
     (tie.spec
-    read-size-requires
-    enum-known-stated
-    returns
-    read-first-requires
-    part-of-requires
-    same-length
-    returns-2)
+    (λ c κs. search needs)
+    (λ c. search needs)
+    (λ c. search needs)
+    (λ c κs. search whole-fits)
+    (λ c κs. search needs)
+    (λ c. search needs)
+    (λ c. search (front-stored, whole-fits)))

@@ -8,18 +8,6 @@ use mir.Val.{toZ}
 use Rattle.stream.proofs.signed.Statement.{statement}
 use Rattle.stream.proofs.signed.Tie as tie
 
-cast-result : tie.Need-cast-result
-cast-result c = search needs
-
-returns : tie.Need-returns
-returns c = search needs
-
-sub-result : tie.Need-sub-result
-sub-result c = search needs
-
-cast-result-2 : tie.Need-cast-result-2
-cast-result-2 c = search needs
-
 twice : (n : ℕ) → n ≤ 65535 → 65535 - (65535 - n) ≡ n
 twice n h = omega arith
 
@@ -27,4 +15,4 @@ returns-2 : tie.Need-returns-2
 returns-2 c = ap (toZ w16) (twice (c .before .args .n) (search needs))
 
 pub signed-spec : {M : Type 1} → statement M
-signed-spec = tie.close (tie.spec cast-result returns sub-result cast-result-2 returns-2)
+signed-spec = tie.close (tie.spec (λ c. search needs) (λ c. search needs) (λ c. search needs) (λ c. search needs) returns-2)

@@ -5,18 +5,6 @@ use Rattle.stream.specs.Parts.{wholeSize}
 use Rattle.stream.proofs.whole.Statement.{statement}
 use Rattle.stream.proofs.whole.Tie as tie
 
-enum-told : tie.Need-enum-told
-enum-told c = search needs
-
-enum-told-2 : tie.Need-enum-told-2
-enum-told-2 c = search needs
-
-enum-told-3 : tie.Need-enum-told-3
-enum-told-3 c = search needs
-
-enum-known-part : tie.Need-enum-known-part
-enum-known-part c = search needs
-
 returns : tie.Need-returns
 returns c = sym (ap wholeSize (c .enum-told .given .1))
 
@@ -33,10 +21,10 @@ pub whole-spec : {M : Type 1} → statement M
 whole-spec =
     tie.close
     (tie.spec
-    enum-told
-    enum-told-2
-    enum-told-3
-    enum-known-part
+    (λ c. search needs)
+    (λ c. search needs)
+    (λ c. search needs)
+    (λ c. search needs)
     returns
     returns-2
     returns-3

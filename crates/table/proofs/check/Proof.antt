@@ -16,23 +16,11 @@ use Rattle.table.proofs.check.Tie as tie
 returns : tie.Need-returns
 returns c = sym (first-stage _ _ _ refl refl ∙ must-fails _ _ _ _ (lt-leb _ _ (c .if1 .taken)))
 
-u16-at-requires : tie.Need-u16-at-requires
-u16-at-requires c κs = search needs
-
-u16-at-requires-2 : tie.Need-u16-at-requires-2
-u16-at-requires-2 c κs = search needs
-
-in-range-requires : tie.Need-in-range-requires
-in-range-requires c κs = tt
-
 returns-2 : tie.Need-returns-2
 returns-2 c =
     sym (first-stage _ _ _ (c .before .before .before .u16-at .ensures .0) (c .before .before .u16-at2 .ensures .0)
     ∙ must-holds _ _ _ _ (le-leb _ _ (c .before .before .before .before .if1 .left))
     ∙ must-fails _ _ _ _ (and-fails _ _ (sym (c .before .in-range .ensures) ∙ not-true _ (c .if2 .taken))))
-
-in-range-requires-2 : tie.Need-in-range-requires-2
-in-range-requires-2 c κs = tt
 
 returns-3 : tie.Need-returns-3
 returns-3 c =
@@ -81,11 +69,11 @@ check-spec =
     tie.close
     (tie.spec
     returns
-    u16-at-requires
-    u16-at-requires-2
-    in-range-requires
+    (λ c κs. search needs)
+    (λ c κs. search needs)
+    (λ c κs. tt)
     returns-2
-    in-range-requires-2
+    (λ c κs. tt)
     returns-3
     contents-end-requires
     returns-4

@@ -10,15 +10,6 @@ use Rattle.table.proofs.LoadedLaws.{loaded-refused, loaded-few-starts, 
 use Rattle.table.proofs.load.Statement.{statement}
 use Rattle.table.proofs.load.Tie as tie
 
-check-requires : tie.Need-check-requires
-check-requires c κs = tt
-
-enum-known-answer : tie.Need-enum-known-answer
-enum-known-answer c = search needs
-
-enum-known-answer-2 : tie.Need-enum-known-answer-2
-enum-known-answer-2 c = search needs
-
 -- the file was accepted
 accepted : (c : tie.After-answer2)
     → Readable (c .before .before .before .before .before .before .args .code .now) (c .answer2 .given .0 .0) (c .answer2 .given .0 .1 .0) (c .answer2 .given .0 .1 .1 .0)
@@ -60,12 +51,6 @@ write-members-requires c κs =
 returns-3 : tie.Need-returns-3
 returns-3 c = loaded-refused _ _ _ _ (refused-is _ _ (ap numbered (sym (c .before .answer .given .1)) ∙ c .before .before .before .check .ensures))
 
-same-length : tie.Need-same-length
-same-length c = search needs
-
-same-length-2 : tie.Need-same-length-2
-same-length-2 c = search needs
-
 returns-4 : tie.Need-returns-4
 returns-4 c =
     let room = c .before .before .before .before .before .before .before .before .before in
@@ -76,15 +61,15 @@ pub load-spec : {M : Type 1} → statement M
 load-spec =
     tie.close
     (tie.spec
-    check-requires
-    enum-known-answer
-    enum-known-answer-2
+    (λ c κs. tt)
+    (λ c. search needs)
+    (λ c. search needs)
     returns
     returns-2
     write-starts-requires
     contents-end-requires
     write-members-requires
     returns-3
-    same-length
-    same-length-2
+    (λ c. search needs)
+    (λ c. search needs)
     returns-4)

@@ -27,23 +27,11 @@ returns-2 c =
 even : (c : tie.Else2) → length (c .before .before .before .before .before .args .multipliers .now) ≡ length (c .before .before .before .before .before .args .masks .now)
 even c = omega arith
 
-mul-if3 : tie.Need-mul-if3
-mul-if3 c = search needs
-
-add-if3 : tie.Need-add-if3
-add-if3 c = search needs
-
 returns-3 : tie.Need-returns-3
 returns-3 c =
     let args = c .before .before .before .before .before .before .args in
     let short : length (args .certificate .now) < certificateLength (length (args .masks .now)) = omega arith in
     certificate-short _ _ _ (few (c .before .before)) (even (c .before)) short
-
-write-entries-requires : tie.Need-write-entries-requires
-write-entries-requires c κs = (omega arith, omega arith)
-
-same-length : tie.Need-same-length
-same-length c = search needs
 
 returns-4 : tie.Need-returns-4
 returns-4 c =
@@ -56,9 +44,9 @@ write-certificate-spec =
     (tie.spec
     returns
     returns-2
-    mul-if3
-    add-if3
+    (λ c. search needs)
+    (λ c. search needs)
     returns-3
-    write-entries-requires
-    same-length
+    (λ c κs. (omega arith, omega arith))
+    (λ c. search needs)
     returns-4)

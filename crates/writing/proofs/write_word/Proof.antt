@@ -31,27 +31,6 @@ returns c =
     let short : length (args .word .now) < length (args .spins .now) = omega arith in
     word-short _ _ short
 
-loop-holds : tie.Need-loop-holds Inv-loop μ-loop
-loop-holds c = (omega arith, refl, refl)
-
-mul-bit-byte : tie.Need-mul-bit-byte Inv-loop μ-loop
-mul-bit-byte c = search needs
-
-shared-slice-copy-out-bit-byte : tie.Need-shared-slice-copy-out-bit-byte Inv-loop μ-loop
-shared-slice-copy-out-bit-byte c = search needs
-
-bit-byte-requires : tie.Need-bit-byte-requires Inv-loop μ-loop
-bit-byte-requires c κs = search needs
-
-slice-write-word : tie.Need-slice-write-word Inv-loop μ-loop
-slice-write-word c = omega arith
-
-add-i : tie.Need-add-i Inv-loop μ-loop
-add-i c = search needs
-
-loop-less : tie.Need-loop-less Inv-loop μ-loop
-loop-less c = search needs
-
 loop-again : tie.Need-loop-again Inv-loop μ-loop
 loop-again c =
     let args = c .before .before .before .before .before .before .args in
@@ -65,9 +44,6 @@ loop-again c =
       sets-more (loop .word) (bytesOf (negatives s)) (loop .i) 0 (c .bit-byte .result) (omega (arith, bytes-length s))
           (c .bit-byte .ensures ∙ ap (λ z. digit (isNeg z)) (toZ-ofZ el) ∙ sym (bytes-at s (loop .i) h)) ∙ loop .inv .2,
     )
-
-same-length : tie.Need-same-length Inv-loop μ-loop
-same-length c = search needs
 
 returns-2 : tie.Need-returns-2 Inv-loop μ-loop
 returns-2 c =
@@ -86,13 +62,13 @@ write-word-spec =
     Inv-loop
     μ-loop
     returns
-    loop-holds
-    mul-bit-byte
-    shared-slice-copy-out-bit-byte
-    bit-byte-requires
-    slice-write-word
-    add-i
-    loop-less
+    (λ c. (omega arith, refl, refl))
+    (λ c. search needs)
+    (λ c. search needs)
+    (λ c κs. search needs)
+    (λ c. omega arith)
+    (λ c. search needs)
+    (λ c. search needs)
     loop-again
-    same-length
+    (λ c. search needs)
     returns-2)

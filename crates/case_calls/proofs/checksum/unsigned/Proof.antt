@@ -20,8 +20,5 @@ nonneg c = simp (toZ-ofZ, cast-result c) (simp lin (omega (arithZ, known (c .fit
 cast-result-2 : tie.Need-cast-result-2
 cast-result-2 c = to-unsigned tt (add-result c) (nonneg c)
 
-returns : tie.Need-returns
-returns c = search needs
-
 pub unsigned-spec : {M : Type 1} → statement M
-unsigned-spec = tie.close (tie.spec cast-result add-result cast-result-2 returns)
+unsigned-spec = tie.close (tie.spec cast-result add-result cast-result-2 (λ c. search needs))

@@ -12,32 +12,8 @@ Inv-loop start buffer h₀ i₀ h i = i ≤ length buffer
 abbrev μ-loop : tie.MeasureT-loop
 μ-loop start buffer h₀ i₀ h i = length buffer - i
 
-loop-holds : tie.Need-loop-holds Inv-loop μ-loop
-loop-holds c = search needs
-
-mul-with : tie.Need-mul-with Inv-loop μ-loop
-mul-with c = search needs
-
-shared-slice-read-with : tie.Need-shared-slice-read-with Inv-loop μ-loop
-shared-slice-read-with c = search needs
-
 cast-with : tie.Need-cast-with Inv-loop μ-loop
 cast-with c = omega (arith, c .shared-slice-known2 .given (c .before .before .loop .i))
-
-with-requires : tie.Need-with-requires Inv-loop μ-loop
-with-requires c κs = search needs
-
-add-i : tie.Need-add-i Inv-loop μ-loop
-add-i c = search needs
-
-loop-less : tie.Need-loop-less Inv-loop μ-loop
-loop-less c = search needs
-
-loop-again : tie.Need-loop-again Inv-loop μ-loop
-loop-again c = search needs
-
-returns : tie.Need-returns Inv-loop μ-loop
-returns c = search needs
 
 pub with-u32-spec : {M : Type 1} → statement M
 with-u32-spec =
@@ -45,12 +21,12 @@ with-u32-spec =
     (tie.spec
     Inv-loop
     μ-loop
-    loop-holds
-    mul-with
-    shared-slice-read-with
+    (λ c. search needs)
+    (λ c. search needs)
+    (λ c. search needs)
     cast-with
-    with-requires
-    add-i
-    loop-less
-    loop-again
-    returns)
+    (λ c κs. search needs)
+    (λ c. search needs)
+    (λ c. search needs)
+    (λ c. search needs)
+    (λ c. search needs))

@@ -15,27 +15,6 @@ use Rattle.cut.specs.CutMask.{cutMask}
 use Rattle.cut.proofs.check.check_cut.Statement.{statement}
 use Rattle.cut.proofs.check.check_cut.Tie as tie
 
-mul-wide : tie.Need-mul-wide
-mul-wide c = search needs
-
-shared-slice-read-wide : tie.Need-shared-slice-read-wide
-shared-slice-read-wide c = search needs
-
-wide-requires : tie.Need-wide-requires
-wide-requires c κs = search needs
-
-add-wide : tie.Need-add-wide
-add-wide c = search needs
-
-mul-wide-2 : tie.Need-mul-wide-2
-mul-wide-2 c = search needs
-
-shared-slice-read-wide-2 : tie.Need-shared-slice-read-wide-2
-shared-slice-read-wide-2 c = search needs
-
-wide-requires-2 : tie.Need-wide-requires-2
-wide-requires-2 c κs = search needs
-
 -- check j is there
 check : (start : tie.Start) → start .args .j < length (checksFrom (start .args .starts .now) (start .args .members .now))
 check start = omega (arith, start .pre .1, starts-long _ _ _ (start .pre .0))
@@ -77,13 +56,13 @@ pub check-cut-spec : {M : Type 1} → statement M
 check-cut-spec =
     tie.close
     (tie.spec
-    mul-wide
-    shared-slice-read-wide
-    wide-requires
-    add-wide
-    mul-wide-2
-    shared-slice-read-wide-2
-    wide-requires-2
+    (λ c. search needs)
+    (λ c. search needs)
+    (λ c κs. search needs)
+    (λ c. search needs)
+    (λ c. search needs)
+    (λ c. search needs)
+    (λ c κs. search needs)
     mul-members-cut
     sub-members-cut
     part-members-cut-start

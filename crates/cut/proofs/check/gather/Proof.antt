@@ -19,18 +19,6 @@ Inv-loop spins members values₀ k₀ values k = (k ≤ length members) × (leng
 abbrev μ-loop : tie.MeasureT-loop
 μ-loop spins members values₀ k₀ values k = length members - k
 
-loop-holds : tie.Need-loop-holds Inv-loop μ-loop
-loop-holds c = (omega arith, refl, refl)
-
-mul-wide : tie.Need-mul-wide Inv-loop μ-loop
-mul-wide c = search needs
-
-shared-slice-read-wide : tie.Need-shared-slice-read-wide Inv-loop μ-loop
-shared-slice-read-wide c = search needs
-
-wide-requires : tie.Need-wide-requires Inv-loop μ-loop
-wide-requires c κs = tt
-
 reads-inside : (c : tie.After-wide Inv-loop μ-loop) → c .wide .result < length (c .before .before .before .before .before .args .spins .now)
 reads-inside c =
     let start = c .before .before .before .before .before in
@@ -44,18 +32,6 @@ mul-values c =
 shared-slice-copy-out-values : tie.Need-shared-slice-copy-out-values Inv-loop μ-loop
 shared-slice-copy-out-values c = reads-inside c
 
-mul-t12 : tie.Need-mul-t12 Inv-loop μ-loop
-mul-t12 c = search needs
-
-slice-set-from-values : tie.Need-slice-set-from-values Inv-loop μ-loop
-slice-set-from-values c = omega arith
-
-add-k : tie.Need-add-k Inv-loop μ-loop
-add-k c = omega arith
-
-loop-less : tie.Need-loop-less Inv-loop μ-loop
-loop-less c = omega arith
-
 loop-again : tie.Need-loop-again Inv-loop μ-loop
 loop-again c =
     let start = c .before .before .before .before .before .before in
@@ -67,9 +43,6 @@ loop-again c =
       gather-more (at (args .spins .now)) (args .members .now) (args .values .now) (loop .values) (loop .k) _ (c .before .before .before .loop-test .taken) (start .pre .0) (loop .inv .2)
           (read ∙ ap (at (args .spins .now)) (c .before .wide .ensures)),
     )
-
-same-length : tie.Need-same-length Inv-loop μ-loop
-same-length c = search needs
 
 returns : tie.Need-returns Inv-loop μ-loop
 returns c =
@@ -83,16 +56,16 @@ gather-spec =
     (tie.spec
     Inv-loop
     μ-loop
-    loop-holds
-    mul-wide
-    shared-slice-read-wide
-    wide-requires
+    (λ c. (omega arith, refl, refl))
+    (λ c. search needs)
+    (λ c. search needs)
+    (λ c κs. tt)
     mul-values
     shared-slice-copy-out-values
-    mul-t12
-    slice-set-from-values
-    add-k
-    loop-less
+    (λ c. search needs)
+    (λ c. omega arith)
+    (λ c. omega arith)
+    (λ c. omega arith)
     loop-again
-    same-length
+    (λ c. search needs)
     returns)

@@ -12,25 +12,10 @@ use Rattle.cut.proofs.SeeLaws.{seen-mask}
 use Rattle.cut.proofs.check.members_cut.Statement.{statement}
 use Rattle.cut.proofs.check.members_cut.Tie as tie
 
-slice-aggregate-gather : tie.Need-slice-aggregate-gather
-slice-aggregate-gather c = search needs
-
-gather-requires : tie.Need-gather-requires
-gather-requires c κs = search needs
-
-array-share-prefix-values : tie.Need-array-share-prefix-values
-array-share-prefix-values c = search needs
-
 slice-aggregate-see : tie.Need-slice-aggregate-see
 slice-aggregate-see c =
     let start = c .before .before .before .before .before in
     front-length (at (start .args .spins .now)) (start .args .members .now) _ _ (c .before .before .gather .ensures)
-
-slice-aggregate-see-2 : tie.Need-slice-aggregate-see-2
-slice-aggregate-see-2 c = search needs
-
-see-requires : tie.Need-see-requires
-see-requires c κs = search needs
 
 returns : tie.Need-returns
 returns c =
@@ -45,10 +30,10 @@ pub members-cut-spec : {M : Type 1} → statement M
 members-cut-spec =
     tie.close
     (tie.spec
-    slice-aggregate-gather
-    gather-requires
-    array-share-prefix-values
+    (λ c. search needs)
+    (λ c κs. search needs)
+    (λ c. search needs)
     slice-aggregate-see
-    slice-aggregate-see-2
-    see-requires
+    (λ c. search needs)
+    (λ c κs. search needs)
     returns)

@@ -28,28 +28,10 @@ Inv-loop v heights₀ s₀ i₀ heights s i = (i ≤ length v) × Scanned (take 
 abbrev μ-loop : tie.MeasureT-loop
 μ-loop v heights₀ s₀ i₀ heights s i = length v - i
 
-new-requires : tie.Need-new-requires Inv-loop μ-loop
-new-requires c κs = tt
-
 loop-holds : tie.Need-loop-holds Inv-loop μ-loop
 loop-holds c =
     let e = c .new .ensures in
     (omega arith, scanned-none (c .new .result) (e .0) (e .1) (e .2) (e .3), refl, refl)
-
-mul-x : tie.Need-mul-x Inv-loop μ-loop
-mul-x c = omega arith
-
-shared-slice-copy-out-x : tie.Need-shared-slice-copy-out-x Inv-loop μ-loop
-shared-slice-copy-out-x c = omega arith
-
-height-of-requires : tie.Need-height-of-requires Inv-loop μ-loop
-height-of-requires c κs = tt
-
-mul-h : tie.Need-mul-h Inv-loop μ-loop
-mul-h c = omega arith
-
-slice-set-from-h : tie.Need-slice-set-from-h Inv-loop μ-loop
-slice-set-from-h c = omega arith
 
 -- the value that is read
 abbrev valueAt : tie.At-loop Inv-loop μ-loop → ℤ
@@ -75,12 +57,6 @@ with-requires c κs =
       subst (λ z. z ⩽ pos unit) (sym (sight c)) (height-top (at (args .v .now) (loop .i))),
     )
 
-add-i : tie.Need-add-i Inv-loop μ-loop
-add-i c = omega arith
-
-loop-less : tie.Need-loop-less Inv-loop μ-loop
-loop-less c = omega arith
-
 loop-again : tie.Need-loop-again Inv-loop μ-loop
 loop-again c =
     let args = c .before .before .before .before .before .before .args in
@@ -92,9 +68,6 @@ loop-again c =
       length-set (loop .heights) (loop .i) _ ∙ loop .inv .2,
       heights-more (args .v .now) (args .heights .now) (loop .heights) (loop .i) _ (omega arith) (omega arith) (sight (c .before)) (loop .inv .3),
     )
-
-same-length : tie.Need-same-length Inv-loop μ-loop
-same-length c = search needs
 
 returns : tie.Need-returns Inv-loop μ-loop
 returns c =
@@ -109,16 +82,16 @@ scan-values-spec =
     (tie.spec
     Inv-loop
     μ-loop
-    new-requires
+    (λ c κs. tt)
     loop-holds
-    mul-x
-    shared-slice-copy-out-x
-    height-of-requires
-    mul-h
-    slice-set-from-h
+    (λ c. omega arith)
+    (λ c. omega arith)
+    (λ c κs. tt)
+    (λ c. omega arith)
+    (λ c. omega arith)
     with-requires
-    add-i
-    loop-less
+    (λ c. omega arith)
+    (λ c. omega arith)
     loop-again
-    same-length
+    (λ c. search needs)
     returns)

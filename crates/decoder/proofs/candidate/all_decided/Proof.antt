@@ -21,24 +21,6 @@ Inv-loop spins all₀ i₀ all i = (i ≤ length spins) × (noZero spins ≡ (al
 abbrev μ-loop : tie.MeasureT-loop
 μ-loop spins all₀ i₀ all i = length spins - i
 
-loop-holds : tie.Need-loop-holds Inv-loop μ-loop
-loop-holds c = (omega arith, refl)
-
-mul-decided : tie.Need-mul-decided Inv-loop μ-loop
-mul-decided c = search needs
-
-shared-slice-copy-out-decided : tie.Need-shared-slice-copy-out-decided Inv-loop μ-loop
-shared-slice-copy-out-decided c = search needs
-
-decided-requires : tie.Need-decided-requires Inv-loop μ-loop
-decided-requires c κs = search needs
-
-add-i : tie.Need-add-i Inv-loop μ-loop
-add-i c = search needs
-
-loop-less : tie.Need-loop-less Inv-loop μ-loop
-loop-less c = search needs
-
 loop-again : tie.Need-loop-again Inv-loop μ-loop
 loop-again c =
     let s = c .before .before .before .before .args .spins .now in
@@ -62,11 +44,11 @@ all-decided-spec =
     (tie.spec
     Inv-loop
     μ-loop
-    loop-holds
-    mul-decided
-    shared-slice-copy-out-decided
-    decided-requires
-    add-i
-    loop-less
+    (λ c. (omega arith, refl))
+    (λ c. search needs)
+    (λ c. search needs)
+    (λ c κs. search needs)
+    (λ c. search needs)
+    (λ c. search needs)
     loop-again
     returns)

@@ -31,26 +31,8 @@ loop-holds c =
     let start = c .before .before in
     (omega (arith, starts-long _ _ _ (start .pre)), refl)
 
-add-loop : tie.Need-add-loop Inv-loop μ-loop
-add-loop c = search needs
-
-mul-a : tie.Need-mul-a Inv-loop μ-loop
-mul-a c = search needs
-
-shared-slice-read-a : tie.Need-shared-slice-read-a Inv-loop μ-loop
-shared-slice-read-a c = search needs
-
 cast-a : tie.Need-cast-a Inv-loop μ-loop
 cast-a c = omega (arith, c .shared-slice-known3 .given (c .before .before .loop .j))
-
-add-e : tie.Need-add-e Inv-loop μ-loop
-add-e c = search needs
-
-mul-e : tie.Need-mul-e Inv-loop μ-loop
-mul-e c = search needs
-
-shared-slice-read-e : tie.Need-shared-slice-read-e Inv-loop μ-loop
-shared-slice-read-e c = search needs
 
 cast-e : tie.Need-cast-e Inv-loop μ-loop
 cast-e c = omega (arith, c .shared-slice-known4 .given (c .before .before .before .loop .j + 1))
@@ -88,12 +70,6 @@ returns c =
     let even = meets-odd (negatives (start .args .spins .now)) (checksFrom (start .args .starts .now) (start .args .members .now)) j (check here) (part-is _ _ _ (start .pre) j (check here)) in
     sym (here .before .loop .inv .1 ∙ even (sym (c .before .is-odd .ensures) ∙ c .if1 .taken))
 
-add-j : tie.Need-add-j Inv-loop μ-loop
-add-j c = search needs
-
-loop-less : tie.Need-loop-less Inv-loop μ-loop
-loop-less c = search needs
-
 loop-again : tie.Need-loop-again Inv-loop μ-loop
 loop-again c =
     let here = c .before .before .before .before .before in
@@ -116,13 +92,13 @@ all-even-spec =
     Inv-loop
     μ-loop
     loop-holds
-    add-loop
-    mul-a
-    shared-slice-read-a
+    (λ c. search needs)
+    (λ c. search needs)
+    (λ c. search needs)
     cast-a
-    add-e
-    mul-e
-    shared-slice-read-e
+    (λ c. search needs)
+    (λ c. search needs)
+    (λ c. search needs)
     cast-e
     mul-is-odd
     sub-is-odd
@@ -130,7 +106,7 @@ all-even-spec =
     part-is-odd-end
     is-odd-requires
     returns
-    add-j
-    loop-less
+    (λ c. search needs)
+    (λ c. search needs)
     loop-again
     returns-2)

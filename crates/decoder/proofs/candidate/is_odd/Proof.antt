@@ -11,9 +11,6 @@ use Rattle.decoder.proofs.ExactLaws.{take-exact}
 use Rattle.decoder.proofs.candidate.is_odd.Statement.{statement}
 use Rattle.decoder.proofs.candidate.is_odd.Tie as tie
 
-slice-aggregate-is-odd-of : tie.Need-slice-aggregate-is-odd-of
-slice-aggregate-is-odd-of c = simp length-take (omega arith)
-
 is-odd-of-requires : tie.Need-is-odd-of-requires
 is-odd-of-requires c κs =
     let start = c .before .before .before in
@@ -24,13 +21,12 @@ returns c =
     let a = c .before .before .before .before .args in
     c .is-odd-of .ensures ∙ ap (λ ms. odd (bitsAt (negatives (a .spins .now)) ms)) (take-exact 6 (a .members .now) (omega arith))
 
-is-odd-of-requires-2 : tie.Need-is-odd-of-requires-2
-is-odd-of-requires-2 c κs = search needs
-
-returns-2 : tie.Need-returns-2
-returns-2 c = search needs
-
 pub is-odd-spec : {M : Type 1} → statement M
 is-odd-spec =
     tie.close
-    (tie.spec slice-aggregate-is-odd-of is-odd-of-requires returns is-odd-of-requires-2 returns-2)
+    (tie.spec
+    (λ c. simp length-take (omega arith))
+    is-odd-of-requires
+    returns
+    (λ c κs. search needs)
+    (λ c. search needs))

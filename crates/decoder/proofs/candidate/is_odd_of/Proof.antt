@@ -23,15 +23,6 @@ Inv-loop members spins t₀ k₀ t k =
 abbrev μ-loop : tie.MeasureT-loop
 μ-loop members spins odd₀ k₀ odd k = length members - k
 
-loop-holds : tie.Need-loop-holds Inv-loop μ-loop
-loop-holds c = (omega arith, refl)
-
-mul-i : tie.Need-mul-i Inv-loop μ-loop
-mul-i c = search needs
-
-shared-slice-read-i : tie.Need-shared-slice-read-i Inv-loop μ-loop
-shared-slice-read-i c = search needs
-
 cast-i : tie.Need-cast-i Inv-loop μ-loop
 cast-i c = omega (arith, c .shared-slice-known2 .given (c .before .before .loop .k))
 
@@ -42,15 +33,6 @@ shared-slice-copy-out-flipped : tie.Need-shared-slice-copy-out-flipped Inv-loop 
 shared-slice-copy-out-flipped c =
     let start = c .before .before .before .before in
     below-at (length (start .args .spins .now)) (start .args .members .now) (c .before .before .loop .k) (c .before .loop-test .taken) (start .pre)
-
-flipped-requires : tie.Need-flipped-requires Inv-loop μ-loop
-flipped-requires c κs = search needs
-
-add-k : tie.Need-add-k Inv-loop μ-loop
-add-k c = search needs
-
-loop-less : tie.Need-loop-less Inv-loop μ-loop
-loop-less c = search needs
 
 loop-again : tie.Need-loop-again Inv-loop μ-loop
 loop-again c =
@@ -75,14 +57,14 @@ is-odd-of-spec =
     (tie.spec
     Inv-loop
     μ-loop
-    loop-holds
-    mul-i
-    shared-slice-read-i
+    (λ c. (omega arith, refl))
+    (λ c. search needs)
+    (λ c. search needs)
     cast-i
     mul-flipped
     shared-slice-copy-out-flipped
-    flipped-requires
-    add-k
-    loop-less
+    (λ c κs. search needs)
+    (λ c. search needs)
+    (λ c. search needs)
     loop-again
     returns)

@@ -7,16 +7,10 @@ use Rattle.decoder.proofs.SignLaws.{met-none, met-some}
 use Rattle.decoder.proofs.candidate.meets_checks.Statement.{statement}
 use Rattle.decoder.proofs.candidate.meets_checks.Tie as tie
 
-all-decided-requires : tie.Need-all-decided-requires
-all-decided-requires c κs = search needs
-
 returns : tie.Need-returns
 returns c =
     let a = c .before .before .before .before .args in
     sym (met-none (a .spins .now) (checksFrom (a .starts .now) (a .members .now)) (sym (c .before .all-decided .ensures) ∙ not-true _ (c .if1 .taken)))
-
-all-even-requires : tie.Need-all-even-requires
-all-even-requires c κs = search needs
 
 returns-2 : tie.Need-returns-2
 returns-2 c =
@@ -24,4 +18,4 @@ returns-2 c =
     c .all-even .ensures ∙ sym (met-some (a .spins .now) (checksFrom (a .starts .now) (a .members .now)) (sym (c .before .before .all-decided .ensures) ∙ not-false _ (c .before .if1 .left)))
 
 pub meets-checks-spec : {M : Type 1} → statement M
-meets-checks-spec = tie.close (tie.spec all-decided-requires returns all-even-requires returns-2)
+meets-checks-spec = tie.close (tie.spec (λ c κs. search needs) returns (λ c κs. search needs) returns-2)

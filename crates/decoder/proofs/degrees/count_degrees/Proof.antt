@@ -23,12 +23,6 @@ abbrev μ-loop : tie.MeasureT-loop
 loop-holds : tie.Need-loop-holds Inv-loop μ-loop
 loop-holds c = (omega arith, (refl, λ i h. omega (arith, getD-replicate {A = ℕ} maxBits i 0 0 h)))
 
-mul-x : tie.Need-mul-x Inv-loop μ-loop
-mul-x c = search needs
-
-shared-slice-read-x : tie.Need-shared-slice-read-x Inv-loop μ-loop
-shared-slice-read-x c = search needs
-
 inside : (c : tie.In-loop Inv-loop μ-loop) → getD (c .before .before .args .members .now) (c .before .loop .e) 0 < maxBits
 inside c = below-at maxBits (c .before .before .args .members .now) (c .before .loop .e) (omega arith) (c .before .before .pre .1)
 
@@ -49,12 +43,6 @@ add-degrees c =
 
 array-write-degrees : tie.Need-array-write-degrees Inv-loop μ-loop
 array-write-degrees c = omega (arith, inside (c .before), c .before .before .loop .inv .1 .0)
-
-add-e : tie.Need-add-e Inv-loop μ-loop
-add-e c = omega arith
-
-loop-less : tie.Need-loop-less Inv-loop μ-loop
-loop-less c = omega arith
 
 loop-again : tie.Need-loop-again Inv-loop μ-loop
 loop-again c =
@@ -79,14 +67,14 @@ count-degrees-spec =
     Inv-loop
     μ-loop
     loop-holds
-    mul-x
-    shared-slice-read-x
+    (λ c. search needs)
+    (λ c. search needs)
     cast-x
     mul-degrees
     array-read-degrees
     add-degrees
     array-write-degrees
-    add-e
-    loop-less
+    (λ c. omega arith)
+    (λ c. omega arith)
     loop-again
     returns)

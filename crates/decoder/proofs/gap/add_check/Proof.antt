@@ -15,16 +15,10 @@ returns c =
     let a = c .before .before .args in
     put-none (rowOf (a .members .now) (a .b) (a .mask)) (a .mask) (c .if1 .taken)
 
-add-row-requires : tie.Need-add-row-requires
-add-row-requires c κs = search needs
-
 price-of-requires : tie.Need-price-of-requires
 price-of-requires c κs =
     let fits = c .before .before .before .before .before .pre in
     (fits .small, fits .few)
-
-same-length : tie.Need-same-length
-same-length c = search needs
 
 returns-2 : tie.Need-returns-2
 returns-2 c =
@@ -34,5 +28,4 @@ returns-2 c =
     (row-put (a .members .now) (a .b) (a .mask) (c .before .before .add-row .ensures) price)
 
 pub add-check-spec : {M : Type 1} → statement M
-add-check-spec =
-    tie.close (tie.spec returns add-row-requires price-of-requires same-length returns-2)
+add-check-spec = tie.close (tie.spec returns (λ c κs. search needs) price-of-requires (λ c. search needs) returns-2)

@@ -28,12 +28,6 @@ abbrev μ-loop : tie.MeasureT-loop
 loop-holds : tie.Need-loop-holds Inv-loop μ-loop
 loop-holds c = (omega arith, members-none (c .before .pre .sizes))
 
-mul-i : tie.Need-mul-i Inv-loop μ-loop
-mul-i c = search needs
-
-shared-slice-read-i : tie.Need-shared-slice-read-i Inv-loop μ-loop
-shared-slice-read-i c = search needs
-
 inside : (c : tie.In-loop Inv-loop μ-loop) → getD (c .before .before .before .args .members .now) (c .before .loop .k) 0 < length (c .before .loop .numbers)
 inside c =
     let start = c .before .before .before in
@@ -62,12 +56,6 @@ mul-t15 c = omega (arith, c .before .before .shared-slice-known2 .given (c .befo
 slice-set-from-numbers : tie.Need-slice-set-from-numbers Inv-loop μ-loop
 slice-set-from-numbers c = inside (c .before .before .before)
 
-add-k : tie.Need-add-k Inv-loop μ-loop
-add-k c = search needs
-
-loop-less : tie.Need-loop-less Inv-loop μ-loop
-loop-less c = search needs
-
 loop-again : tie.Need-loop-again Inv-loop μ-loop
 loop-again c =
     let start = c .before .before .before .before .before .before in
@@ -91,16 +79,16 @@ add-row-of-spec =
     Inv-loop
     μ-loop
     loop-holds
-    mul-i
-    shared-slice-read-i
+    (λ c. search needs)
+    (λ c. search needs)
     cast-i
     mul-weighted
     slice-copy-out-weighted
     weighted-requires
     mul-t15
     slice-set-from-numbers
-    add-k
-    loop-less
+    (λ c. search needs)
+    (λ c. search needs)
     loop-again
     same-length
     returns)

@@ -28,9 +28,6 @@ abbrev μ-loop : tie.MeasureT-loop
 loop-holds : tie.Need-loop-holds Inv-loop μ-loop
 loop-holds c = (omega arith, rows-none (c .before .before .before .before .pre .sizes))
 
-mul-a : tie.Need-mul-a Inv-loop μ-loop
-mul-a c = search needs
-
 shared-slice-read-a : tie.Need-shared-slice-read-a Inv-loop μ-loop
 shared-slice-read-a c =
     let here = c .before in
@@ -38,12 +35,6 @@ shared-slice-read-a c =
 
 cast-a : tie.Need-cast-a Inv-loop μ-loop
 cast-a c = omega (arith, c .shared-slice-known5 .given (c .before .before .loop .j))
-
-add-e : tie.Need-add-e Inv-loop μ-loop
-add-e c = search needs
-
-mul-e : tie.Need-mul-e Inv-loop μ-loop
-mul-e c = search needs
 
 shared-slice-read-e : tie.Need-shared-slice-read-e Inv-loop μ-loop
 shared-slice-read-e c =
@@ -69,19 +60,10 @@ part-add-check-end c =
     let here = c .before .before in
     part-ends (here .before .before .before .before .before .before .pre) (here .before .loop .j) (here .loop-test .taken) .1
 
-mul-add-check-2 : tie.Need-mul-add-check-2 Inv-loop μ-loop
-mul-add-check-2 c = search needs
-
 shared-slice-read-add-check : tie.Need-shared-slice-read-add-check Inv-loop μ-loop
 shared-slice-read-add-check c =
     let here = c .before .before .before .before in
     multiplier-in (here .before .before .before .before .before .before .pre) (here .before .loop .j) (here .loop-test .taken)
-
-mul-add-check-3 : tie.Need-mul-add-check-3 Inv-loop μ-loop
-mul-add-check-3 c = search needs
-
-shared-slice-read-add-check-2 : tie.Need-shared-slice-read-add-check-2 Inv-loop μ-loop
-shared-slice-read-add-check-2 c = search needs
 
 add-check-requires : tie.Need-add-check-requires Inv-loop μ-loop
 add-check-requires c κs =
@@ -100,12 +82,6 @@ add-sum c =
     let few = few-rows rows (loop .j) (here .loop-test .taken) in
     summed-fits rowLimit (loop .j) (loop .sum) (call .result) (toZ w64 (loop .sum)) (fit w64 (call .result) (call .ok)) (omega (arith, few)) (refl, loop .inv .1 .sum)
     (sized (call .ensures .prices) (step-adds rows (loop .j) (here .loop-test .taken) .sum) .1)
-
-add-j : tie.Need-add-j Inv-loop μ-loop
-add-j c = search needs
-
-loop-less : tie.Need-loop-less Inv-loop μ-loop
-loop-less c = search needs
 
 loop-again : tie.Need-loop-again Inv-loop μ-loop
 loop-again c =
@@ -136,25 +112,25 @@ add-rows-spec =
     Inv-loop
     μ-loop
     loop-holds
-    mul-a
+    (λ c. search needs)
     shared-slice-read-a
     cast-a
-    add-e
-    mul-e
+    (λ c. search needs)
+    (λ c. search needs)
     shared-slice-read-e
     cast-e
     mul-add-check
     sub-add-check
     part-add-check-start
     part-add-check-end
-    mul-add-check-2
+    (λ c. search needs)
     shared-slice-read-add-check
-    mul-add-check-3
-    shared-slice-read-add-check-2
+    (λ c. search needs)
+    (λ c. search needs)
     add-check-requires
     add-sum
-    add-j
-    loop-less
+    (λ c. search needs)
+    (λ c. search needs)
     loop-again
     same-length
     returns)

@@ -25,35 +25,11 @@ Inv-loop frame spins sum₀ i₀ sum i = (i ≤ length spins) × Summed frameSiz
 abbrev μ-loop : tie.MeasureT-loop
 μ-loop frame spins sum₀ i₀ sum i = length spins - i
 
-loop-holds : tie.Need-loop-holds Inv-loop μ-loop
-loop-holds c = (omega arith, summed-none frameSize)
-
-mul-turned : tie.Need-mul-turned Inv-loop μ-loop
-mul-turned c = search needs
-
-shared-slice-copy-out-turned : tie.Need-shared-slice-copy-out-turned Inv-loop μ-loop
-shared-slice-copy-out-turned c = search needs
-
-mul-turned-2 : tie.Need-mul-turned-2 Inv-loop μ-loop
-mul-turned-2 c = search needs
-
-shared-slice-copy-out-turned-2 : tie.Need-shared-slice-copy-out-turned-2 Inv-loop μ-loop
-shared-slice-copy-out-turned-2 c = search needs
-
-turned-requires : tie.Need-turned-requires Inv-loop μ-loop
-turned-requires c κs = search needs
-
 add-sum : tie.Need-add-sum Inv-loop μ-loop
 add-sum c =
     let loop = c .before .before .before .before .loop in
     let t = c .turned in
     summed-fits frameSize (loop .i) (loop .sum) (t .result) _ (fit w64 (t .result) (t .ok)) (omega arith) (loop .inv .1) (t .ensures .1)
-
-add-i : tie.Need-add-i Inv-loop μ-loop
-add-i c = search needs
-
-loop-less : tie.Need-loop-less Inv-loop μ-loop
-loop-less c = search needs
 
 loop-again : tie.Need-loop-again Inv-loop μ-loop
 loop-again c =
@@ -82,14 +58,14 @@ agreed-spec =
     (tie.spec
     Inv-loop
     μ-loop
-    loop-holds
-    mul-turned
-    shared-slice-copy-out-turned
-    mul-turned-2
-    shared-slice-copy-out-turned-2
-    turned-requires
+    (λ c. (omega arith, summed-none frameSize))
+    (λ c. search needs)
+    (λ c. search needs)
+    (λ c. search needs)
+    (λ c. search needs)
+    (λ c κs. search needs)
     add-sum
-    add-i
-    loop-less
+    (λ c. search needs)
+    (λ c. search needs)
     loop-again
     returns)

@@ -18,26 +18,17 @@ use Rattle.decoder.specs.Closing.{rowsOn, RowsFit}
 use Rattle.decoder.proofs.gap.bound_of.Statement.{statement}
 use Rattle.decoder.proofs.gap.bound_of.Tie as tie
 
-load-requires : tie.Need-load-requires
-load-requires c κs = search needs
-
 add-rows-requires : tie.Need-add-rows-requires
 add-rows-requires c κs =
     let start = c .before .before .before .before .before .before .before .before in
     let a = start .args in
     subst (RowsFit (a .starts .now) (a .members .now) (a .multipliers .now) (a .masks .now)) (sym (c .before .before .load .ensures)) (start .pre .0)
 
-sum-sizes-requires : tie.Need-sum-sizes-requires
-sum-sizes-requires c κs = search needs
-
 add-result : tie.Need-add-result
 add-result c =
     let sizes = c .sum-sizes in
     let put = c .before .before .before .add-rows in
     plus-fits (fit w64 (sizes .result) (sizes .ok)) (fit w64 (put .result) (put .ok)) (sizes .ensures .1) (put .ensures .sum) (omega arith)
-
-same-length : tie.Need-same-length
-same-length c = search needs
 
 returns : tie.Need-returns
 returns c =
@@ -59,4 +50,10 @@ returns c =
 pub bound-of-spec : {M : Type 1} → statement M
 bound-of-spec =
     tie.close
-    (tie.spec load-requires add-rows-requires sum-sizes-requires add-result same-length returns)
+    (tie.spec
+    (λ c κs. search needs)
+    add-rows-requires
+    (λ c κs. search needs)
+    add-result
+    (λ c. search needs)
+    returns)

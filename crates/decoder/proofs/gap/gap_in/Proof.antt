@@ -14,19 +14,10 @@ use Rattle.decoder.proofs.GapLaws.{rows-fit}
 use Rattle.decoder.proofs.gap.gap_in.Statement.{statement}
 use Rattle.decoder.proofs.gap.gap_in.Tie as tie
 
-bound-of-requires : tie.Need-bound-of-requires
-bound-of-requires c κs = (search rows-fit, search needs)
-
-agreed-requires : tie.Need-agreed-requires
-agreed-requires c κs = search needs
-
 sub-result : tie.Need-sub-result
 sub-result c =
     let least = c .before .before .bound-of in
     less-fits (fit w64 (least .result) (least .ok)) (fit w64 (c .agreed .result) (c .agreed .ok)) (least .ensures .1) (c .agreed .ensures .1) (omega arith)
-
-same-length : tie.Need-same-length
-same-length c = search needs
 
 returns : tie.Need-returns
 returns c =
@@ -40,4 +31,11 @@ returns c =
     (least .ensures .0 ∙ ap (λ n. bound n 1 l rows) (start .pre .0 .frameLong)) (c .agreed .ensures .0 ∙ once _)
 
 pub gap-in-spec : {M : Type 1} → statement M
-gap-in-spec = tie.close (tie.spec bound-of-requires agreed-requires sub-result same-length returns)
+gap-in-spec =
+    tie.close
+    (tie.spec
+    (λ c κs. (search rows-fit, search needs))
+    (λ c κs. search needs)
+    sub-result
+    (λ c. search needs)
+    returns)

@@ -22,30 +22,6 @@ Inv-loop frame numbers₀ i₀ numbers i =
 abbrev μ-loop : tie.MeasureT-loop
 μ-loop frame numbers₀ i₀ numbers i = length frame - i
 
-loop-holds : tie.Need-loop-holds Inv-loop μ-loop
-loop-holds c = (omega arith, refl, refl)
-
-mul-wide : tie.Need-mul-wide Inv-loop μ-loop
-mul-wide c = search needs
-
-shared-slice-copy-out-wide : tie.Need-shared-slice-copy-out-wide Inv-loop μ-loop
-shared-slice-copy-out-wide c = search needs
-
-wide-requires : tie.Need-wide-requires Inv-loop μ-loop
-wide-requires c κs = search needs
-
-mul-t9 : tie.Need-mul-t9 Inv-loop μ-loop
-mul-t9 c = search needs
-
-slice-set-from-numbers : tie.Need-slice-set-from-numbers Inv-loop μ-loop
-slice-set-from-numbers c = search needs
-
-add-i : tie.Need-add-i Inv-loop μ-loop
-add-i c = search needs
-
-loop-less : tie.Need-loop-less Inv-loop μ-loop
-loop-less c = search needs
-
 loop-again : tie.Need-loop-again Inv-loop μ-loop
 loop-again c =
     let args = c .before .before .before .before .args in
@@ -57,9 +33,6 @@ loop-again c =
       sets-more (loop .numbers) (args .frame .now) (loop .i) (pos 0) (toZ w64 (ofZ w64 (c .wide .result))) (omega arith)
           (toZ-ofZ (fit w64 (c .wide .result) (c .wide .ok)) ∙ c .wide .ensures ∙ toZ-ofZ el) ∙ loop .inv .2,
     )
-
-same-length : tie.Need-same-length Inv-loop μ-loop
-same-length c = search needs
 
 returns : tie.Need-returns Inv-loop μ-loop
 returns c =
@@ -73,14 +46,14 @@ load-spec =
     (tie.spec
     Inv-loop
     μ-loop
-    loop-holds
-    mul-wide
-    shared-slice-copy-out-wide
-    wide-requires
-    mul-t9
-    slice-set-from-numbers
-    add-i
-    loop-less
+    (λ c. (omega arith, refl, refl))
+    (λ c. search needs)
+    (λ c. search needs)
+    (λ c κs. search needs)
+    (λ c. search needs)
+    (λ c. search needs)
+    (λ c. search needs)
+    (λ c. search needs)
     loop-again
-    same-length
+    (λ c. search needs)
     returns)

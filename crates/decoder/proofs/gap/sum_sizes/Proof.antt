@@ -23,15 +23,6 @@ Inv-loop numbers sum₀ i₀ sum i = (i ≤ length numbers) × Summed sizeLimit 
 abbrev μ-loop : tie.MeasureT-loop
 μ-loop numbers sum₀ i₀ sum i = length numbers - i
 
-loop-holds : tie.Need-loop-holds Inv-loop μ-loop
-loop-holds c = (omega arith, summed-none sizeLimit)
-
-mul-size : tie.Need-mul-size Inv-loop μ-loop
-mul-size c = search needs
-
-shared-slice-copy-out-size : tie.Need-shared-slice-copy-out-size Inv-loop μ-loop
-shared-slice-copy-out-size c = search needs
-
 size-requires : tie.Need-size-requires Inv-loop μ-loop
 size-requires c κs =
     let loop = c .before .before .loop in
@@ -42,12 +33,6 @@ add-sum : tie.Need-add-sum Inv-loop μ-loop
 add-sum c =
     let loop = c .before .before .before .loop in
     summed-fits sizeLimit (loop .i) (loop .sum) (c .size .result) _ (fit w64 (c .size .result) (c .size .ok)) (omega arith) (loop .inv .1) (c .size .ensures .1)
-
-add-i : tie.Need-add-i Inv-loop μ-loop
-add-i c = omega arith
-
-loop-less : tie.Need-loop-less Inv-loop μ-loop
-loop-less c = omega arith
 
 loop-again : tie.Need-loop-again Inv-loop μ-loop
 loop-again c =
@@ -70,12 +55,12 @@ sum-sizes-spec =
     (tie.spec
     Inv-loop
     μ-loop
-    loop-holds
-    mul-size
-    shared-slice-copy-out-size
+    (λ c. (omega arith, summed-none sizeLimit))
+    (λ c. search needs)
+    (λ c. search needs)
     size-requires
     add-sum
-    add-i
-    loop-less
+    (λ c. omega arith)
+    (λ c. omega arith)
     loop-again
     returns)

@@ -14,9 +14,6 @@ use Rattle.rules.specs.Parity.{side}
 use Rattle.decoder.proofs.gap.weighted.Statement.{statement}
 use Rattle.decoder.proofs.gap.weighted.Tie as tie
 
-cast-result : tie.Need-cast-result
-cast-result c = search needs
-
 b-fits : (c : tie.Start) → SFits w64 (pos (c .args .b))
 b-fits c = fits-size w64 (pos (c .args .b)) (omega arith)
 
@@ -31,9 +28,6 @@ returns c =
     let a = start .args in
     plus-reads (start .fits .x) (b-fits start) (add-result c) ∙ ap (λ t. a .x +ℤ side t (pos (a .b))) (sym (eq-eqb (a .mask % 2) 1 (c .if1 .taken)))
 
-cast-result-2 : tie.Need-cast-result-2
-cast-result-2 c = search needs
-
 sub-result : tie.Need-sub-result
 sub-result c =
     let start = c .before in
@@ -46,5 +40,4 @@ returns-2 c =
     less-reads (start .fits .x) (b-fits start) (sub-result c) ∙ ap (λ t. a .x +ℤ side t (pos (a .b))) (sym (ne-eqb (a .mask % 2) 1 (c .if1 .left)))
 
 pub weighted-spec : {M : Type 1} → statement M
-weighted-spec =
-    tie.close (tie.spec cast-result add-result returns cast-result-2 sub-result returns-2)
+weighted-spec = tie.close (tie.spec (λ c. search needs) add-result returns (λ c. search needs) sub-result returns-2)

@@ -6,12 +6,6 @@ use Rattle.decoder.proofs.LiftedLaws.{count-some}
 use Rattle.decoder.proofs.multiplier.fall.Statement.{statement}
 use Rattle.decoder.proofs.multiplier.fall.Tie as tie
 
-slope-at-requires : tie.Need-slope-at-requires
-slope-at-requires c κs = search needs
-
-sub-result : tie.Need-sub-result
-sub-result c = search needs
-
 div-result : tie.Need-div-result
 div-result c = subst (λ n. 0 < n) (sym (c .slope-at .ensures .1)) (count-some (c .before .args .heights .now) (c .before .args .b) (c .before .pre .3))
 
@@ -19,4 +13,4 @@ returns : tie.Need-returns
 returns c = ap₂ (λ s n. (s - 8192) / n) (c .slope-at .ensures .0) (c .slope-at .ensures .1)
 
 pub fall-spec : {M : Type 1} → statement M
-fall-spec = tie.close (tie.spec slope-at-requires sub-result div-result returns)
+fall-spec = tie.close (tie.spec (λ c κs. search needs) (λ c. search needs) div-result returns)

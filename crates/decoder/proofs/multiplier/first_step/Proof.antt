@@ -17,15 +17,6 @@ use Rattle.decoder.proofs.QuotientLaws.{natural-is}
 use Rattle.decoder.proofs.multiplier.first_step.Statement.{statement}
 use Rattle.decoder.proofs.multiplier.first_step.Tie as tie
 
-cast-d : tie.Need-cast-d
-cast-d c = search needs
-
-mul-together : tie.Need-mul-together
-mul-together c = search needs
-
-sum-of-requires : tie.Need-sum-of-requires
-sum-of-requires c κs = search needs
-
 -- what all heights lack together
 lack-is : (c : tie.After-sum-of) → pos 8192 -ℤ toZ w32 (ofZ w32 (c .sum-of .result)) ≡ pos 8192 -ℤ sumZ (c .before .args .heights .now)
 lack-is c = ap (λ z. pos 8192 -ℤ z) (toZ-ofZ (fit w32 (c .sum-of .result) (c .sum-of .ok)) ∙ c .sum-of .ensures)
@@ -43,9 +34,6 @@ together-is c = toZ-ofZ (sub-together c) ∙ lack-is c
 cast-together : tie.Need-cast-together
 cast-together c = to-unsigned tt (sub-together c) (subst (λ z. pos 0 ≤ℤ z) (sym (lack-is c)) (lack-fits c .1))
 
-mul-alone : tie.Need-mul-alone
-mul-alone c = search needs
-
 -- what the greatest lacks
 top-lacks : (c : tie.After-sum-of) → pos 8192 -ℤ toZ w32 (ofZ w32 (c .before .args .top)) ≡ pos 8192 -ℤ c .before .args .top
 top-lacks c = ap (λ z. pos 8192 -ℤ z) (toZ-ofZ (c .before .fits .top))
@@ -62,16 +50,10 @@ alone-most c = subst (λ n. n ≤ stepLimit) (alone-is c) (start-most (c .before
 cast-alone : tie.Need-cast-alone
 cast-alone c = to-unsigned tt (sub-alone c) (subst (λ z. pos 0 ≤ℤ z) (sym (top-lacks c)) (start-fits (c .before .args .top) (c .before .pre .low) (c .before .pre .high) .1))
 
-sub-level : tie.Need-sub-level
-sub-level c = search needs
-
 add-level : tie.Need-add-level
 add-level c =
     let small = subst (λ n. n ≤ 268443648) (ap natAbs (sym (together-is c))) (lack-fits c .2) in
     record { fits = omega (arith, small, c .before .pre .few) }
-
-div-level : tie.Need-div-level
-div-level c = search needs
 
 returns : tie.Need-returns
 returns c =
@@ -91,16 +73,16 @@ pub first-step-spec : {M : Type 1} → statement M
 first-step-spec =
     tie.close
     (tie.spec
-    cast-d
-    mul-together
-    sum-of-requires
+    (λ c. search needs)
+    (λ c. search needs)
+    (λ c κs. search needs)
     sub-together
     cast-together
-    mul-alone
+    (λ c. search needs)
     sub-alone
     cast-alone
-    sub-level
+    (λ c. search needs)
     add-level
-    div-level
+    (λ c. search needs)
     returns
     returns-2)

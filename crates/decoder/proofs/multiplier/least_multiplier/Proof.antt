@@ -14,9 +14,6 @@ Inv-loop heights top b₀ b = (b ≤ stepLimit) × (8192 ≤ sumAt heights b)
 abbrev μ-loop : tie.MeasureT-loop
 μ-loop heights top b₀ b = b
 
-first-step-requires : tie.Need-first-step-requires Inv-loop μ-loop
-first-step-requires c κs = search needs
-
 loop-holds : tie.Need-loop-holds Inv-loop μ-loop
 loop-holds c = c .first-step .ensures
 
@@ -49,7 +46,7 @@ least-multiplier-spec =
     (tie.spec
     Inv-loop
     μ-loop
-    first-step-requires
+    (λ c κs. search needs)
     loop-holds
     fall-requires
     returns

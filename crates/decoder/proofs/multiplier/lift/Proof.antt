@@ -11,17 +11,11 @@ use Rattle.decoder.proofs.MultiplierLaws.{lift-fits}
 use Rattle.decoder.proofs.multiplier.lift.Statement.{statement}
 use Rattle.decoder.proofs.multiplier.lift.Tie as tie
 
-cast-above : tie.Need-cast-above
-cast-above c = search needs
-
 add-above : tie.Need-add-above
 add-above c = op-fits w32 _+ℤ_ (toZ-ofZ (c .fits .h)) (word-pos (c .args .b) (c .pre .1)) (lift-fits (c .args .h) (c .args .b) (c .pre .0) (c .pre .1))
-
-above-requires : tie.Need-above-requires
-above-requires c κs = tt
 
 returns : tie.Need-returns
 returns c = c .above .ensures ∙ ap up (toZ-ofZ (add-above (c .before)) ∙ ap₂ _+ℤ_ (toZ-ofZ (c .before .fits .h)) (word-pos (c .before .args .b) (c .before .pre .1)))
 
 pub lift-spec : {M : Type 1} → statement M
-lift-spec = tie.close (tie.spec cast-above add-above above-requires returns)
+lift-spec = tie.close (tie.spec (λ c. search needs) add-above (λ c κs. tt) returns)

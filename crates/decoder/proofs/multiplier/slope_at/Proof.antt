@@ -25,12 +25,6 @@ abbrev μ-loop : tie.MeasureT-loop
 loop-holds : tie.Need-loop-holds Inv-loop μ-loop
 loop-holds c = (omega arith, first-none _ _ .0, first-none _ _ .1, omega arith, omega arith)
 
-mul-lift : tie.Need-mul-lift Inv-loop μ-loop
-mul-lift c = omega arith
-
-shared-slice-copy-out-lift : tie.Need-shared-slice-copy-out-lift Inv-loop μ-loop
-shared-slice-copy-out-lift c = omega arith
-
 element : (c : tie.After-lift-arg Inv-loop μ-loop) → SFits w32 (at (c .before .before .before .args .heights .now) (c .before .before .loop .i))
 element c = fit w32 (at (c .before .before .before .args .heights .now) (c .before .before .loop .i)) (c .lift-arg .given)
 
@@ -52,17 +46,8 @@ lift-le c =
 add-sum : tie.Need-add-sum Inv-loop μ-loop
 add-sum c = omega (arith, lift-le c)
 
-one-if-requires : tie.Need-one-if-requires Inv-loop μ-loop
-one-if-requires c κs = tt
-
 add-count : tie.Need-add-count Inv-loop μ-loop
 add-count c = omega (arith, c .one-if .ensures)
-
-add-i : tie.Need-add-i Inv-loop μ-loop
-add-i c = omega arith
-
-loop-less : tie.Need-loop-less Inv-loop μ-loop
-loop-less c = omega arith
 
 loop-again : tie.Need-loop-again Inv-loop μ-loop
 loop-again c =
@@ -92,13 +77,13 @@ slope-at-spec =
     Inv-loop
     μ-loop
     loop-holds
-    mul-lift
-    shared-slice-copy-out-lift
+    (λ c. omega arith)
+    (λ c. omega arith)
     lift-requires
     add-sum
-    one-if-requires
+    (λ c κs. tt)
     add-count
-    add-i
-    loop-less
+    (λ c. omega arith)
+    (λ c. omega arith)
     loop-again
     returns)

@@ -28,12 +28,6 @@ abbrev μ-loop : tie.MeasureT-loop
 loop-holds : tie.Need-loop-holds Inv-loop μ-loop
 loop-holds c = (omega arith, refl, record { hi = omega arith; lo = omega arith })
 
-mul-sum : tie.Need-mul-sum Inv-loop μ-loop
-mul-sum c = omega arith
-
-shared-slice-copy-out-sum : tie.Need-shared-slice-copy-out-sum Inv-loop μ-loop
-shared-slice-copy-out-sum c = omega arith
-
 -- the sum and the height that was read
 next-is : (c : tie.After-sum Inv-loop μ-loop) → toZ w32 (c .before .before .loop .sum) +ℤ toZ w32 (ofZ w32 (at (c .before .before .before .args .heights .now) (c .before .before .loop .i)))
     ≡ toZ w32 (c .before .before .loop .sum) +ℤ at (c .before .before .before .args .heights .now) (c .before .before .loop .i)
@@ -51,12 +45,6 @@ next c =
 
 add-sum : tie.Need-add-sum Inv-loop μ-loop
 add-sum c = subst (SFits w32) (sym (next-is c)) (next c .0)
-
-add-i : tie.Need-add-i Inv-loop μ-loop
-add-i c = omega arith
-
-loop-less : tie.Need-loop-less Inv-loop μ-loop
-loop-less c = omega arith
 
 loop-again : tie.Need-loop-again Inv-loop μ-loop
 loop-again c =
@@ -81,10 +69,10 @@ sum-of-spec =
     Inv-loop
     μ-loop
     loop-holds
-    mul-sum
-    shared-slice-copy-out-sum
+    (λ c. omega arith)
+    (λ c. omega arith)
     add-sum
-    add-i
-    loop-less
+    (λ c. omega arith)
+    (λ c. omega arith)
     loop-again
     returns)

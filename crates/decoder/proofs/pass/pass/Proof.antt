@@ -24,15 +24,6 @@ loop-holds c = (passing-first (c .before .before .before .before .pre), start-fi
 add-loop : tie.Need-add-loop Inv-loop μ-loop
 add-loop c = omega (arith, one-more (c .before .before .before .before .before .pre), c .loop .inv .0 .few)
 
-add-e : tie.Need-add-e Inv-loop μ-loop
-add-e c = search needs
-
-mul-e : tie.Need-mul-e Inv-loop μ-loop
-mul-e c = search needs
-
-shared-slice-read-e : tie.Need-shared-slice-read-e Inv-loop μ-loop
-shared-slice-read-e c = search needs
-
 cast-e : tie.Need-cast-e Inv-loop μ-loop
 cast-e c = omega (arith, c .shared-slice-known3 .given (c .before .before .loop .j + 1))
 
@@ -75,9 +66,9 @@ pass-spec =
     μ-loop
     loop-holds
     add-loop
-    add-e
-    mul-e
-    shared-slice-read-e
+    (λ c. search needs)
+    (λ c. search needs)
+    (λ c. search needs)
     cast-e
     pass-one-requires
     add-j

@@ -6,15 +6,6 @@ use borrow.Author.Needs.{needs}
 use Rattle.decoder.proofs.perform.outcome_of.Statement.{statement}
 use Rattle.decoder.proofs.perform.outcome_of.Tie as tie
 
-enum-told : tie.Need-enum-told
-enum-told c = search needs
-
-enum-told-2 : tie.Need-enum-told-2
-enum-told-2 c = search needs
-
-enum-told-3 : tie.Need-enum-told-3
-enum-told-3 c = search needs
-
 returns : tie.Need-returns
 returns c = ap (λ x. gives (statusOf x)) (sym (c .enum-told .given .1))
 
@@ -25,5 +16,4 @@ returns-3 : tie.Need-returns-3
 returns-3 c = ap (λ x. gives (statusOf x)) (sym (c .enum-told3 .given .1))
 
 pub outcome-of-spec : {M : Type 1} → statement M
-outcome-of-spec =
-    tie.close (tie.spec enum-told enum-told-2 enum-told-3 returns returns-2 returns-3)
+outcome-of-spec = tie.close (tie.spec (λ c. search needs) (λ c. search needs) (λ c. search needs) returns returns-2 returns-3)

@@ -51,9 +51,6 @@ slice-aggregate-run-rounds c = sym (length-take-le _ _ (c .before .before .befor
 slice-aggregate-run-rounds-2 : tie.Need-slice-aggregate-run-rounds-2
 slice-aggregate-run-rounds-2 c = sym (length-take-le _ _ (c .before .before .before .before .before .before .before .before .before .before .pre .membersRoom))
 
-slice-aggregate-run-rounds-3 : tie.Need-slice-aggregate-run-rounds-3
-slice-aggregate-run-rounds-3 c = search needs
-
 slice-relend-prefix-run-rounds : tie.Need-slice-relend-prefix-run-rounds
 slice-relend-prefix-run-rounds c = c .before .before .before .before .before .before .before .before .before .before .before .pre .room spins
 
@@ -169,7 +166,7 @@ perform-spec =
     count-degrees-requires
     slice-aggregate-run-rounds
     slice-aggregate-run-rounds-2
-    slice-aggregate-run-rounds-3
+    (λ c. search needs)
     slice-relend-prefix-run-rounds
     slice-aggregate-run-rounds-4
     slice-relend-prefix-run-rounds-2

@@ -21,9 +21,6 @@ find-word-requires c κs =
     let one = c .before .before .before .before .before .before .before .before .before .before .before .before .before .before .before .before in
     gap-fits (begun one .pre .0) (begun one .pre .1) (one .find-spins .ensures) (two .pass .ensures)
 
-record-after-requires : tie.Need-record-after-requires
-record-after-requires c κs = tt
-
 same-length : tie.Need-same-length
 same-length c = c .before .before .before .before .before .before .before .before .before .before .before .before .before .before .before .before .before .before .find-spins .kept .1 .1 .1 .1 .1 .0
 
@@ -52,7 +49,7 @@ do-round-spec =
     find-spins-requires
     pass-requires
     find-word-requires
-    record-after-requires
+    (λ c κs. tt)
     same-length
     same-length-2
     same-length-3

@@ -9,23 +9,11 @@ use Rattle.decoder.proofs.RoundLaws.{none-found, word-found}
 use Rattle.decoder.proofs.round.find_word.Statement.{statement}
 use Rattle.decoder.proofs.round.find_word.Tie as tie
 
-meets-checks-requires : tie.Need-meets-checks-requires
-meets-checks-requires c κs = search needs
-
 returns : tie.Need-returns
 returns c = none-found _ _ _ _ _ (sym (c .before .meets-checks .ensures) ∙ not-true _ (c .if1 .taken))
-
-gap-of-requires : tie.Need-gap-of-requires
-gap-of-requires c κs = search needs
 
 returns-2 : tie.Need-returns-2
 returns-2 c = word-found _ _ _ _ _ _ (sym (c .before .before .meets-checks .ensures) ∙ not-false _ (c .before .if1 .left)) (toZ-ofZ (fit w64 (c .gap-of .result) (c .gap-of .ok)) ∙ c .gap-of .ensures)
 
 pub find-word-spec : {M : Type 1} → statement M
-find-word-spec =
-    tie.close
-    (tie.spec
-    meets-checks-requires
-    returns
-    gap-of-requires
-    returns-2)
+find-word-spec = tie.close (tie.spec (λ c κs. search needs) returns (λ c κs. search needs) returns-2)

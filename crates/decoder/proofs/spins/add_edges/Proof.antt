@@ -26,12 +26,6 @@ abbrev μ-loop : tie.MeasureT-loop
 loop-holds : tie.Need-loop-holds Inv-loop μ-loop
 loop-holds c = (omega arith, gathered-none (c .args .totals .now) (c .args .members .now) (minus (c .args .copies .now) (c .args .offsets .now)))
 
-mul-x : tie.Need-mul-x Inv-loop μ-loop
-mul-x c = omega arith
-
-shared-slice-read-x : tie.Need-shared-slice-read-x Inv-loop μ-loop
-shared-slice-read-x c = omega arith
-
 -- the edge's member is a place of the totals
 inside : (c : tie.In-loop Inv-loop μ-loop) → getD (c .before .before .args .members .now) (c .before .loop .e) 0 < length (c .before .loop .totals)
 inside c =
@@ -41,14 +35,8 @@ inside c =
 cast-x : tie.Need-cast-x Inv-loop μ-loop
 cast-x c = omega (arith, c .shared-slice-known .given (c .before .before .loop .e))
 
-mul-totals : tie.Need-mul-totals Inv-loop μ-loop
-mul-totals c = omega arith
-
 shared-slice-copy-out-totals : tie.Need-shared-slice-copy-out-totals Inv-loop μ-loop
 shared-slice-copy-out-totals c = omega (arith, c .before .before .before .pre .copiesLong)
-
-mul-totals-2 : tie.Need-mul-totals-2 Inv-loop μ-loop
-mul-totals-2 c = omega arith
 
 shared-slice-copy-out-totals-2 : tie.Need-shared-slice-copy-out-totals-2 Inv-loop μ-loop
 shared-slice-copy-out-totals-2 c = omega (arith, c .before .before .before .before .pre .offsetsLong)
@@ -94,12 +82,6 @@ add-totals c =
 slice-set-from-totals : tie.Need-slice-set-from-totals Inv-loop μ-loop
 slice-set-from-totals c = inside (c .before .before .before .before)
 
-add-e : tie.Need-add-e Inv-loop μ-loop
-add-e c = omega arith
-
-loop-less : tie.Need-loop-less Inv-loop μ-loop
-loop-less c = omega arith
-
 loop-again : tie.Need-loop-again Inv-loop μ-loop
 loop-again c =
     let start = c .before .before .before .before .before .before in
@@ -131,20 +113,20 @@ add-edges-spec =
     Inv-loop
     μ-loop
     loop-holds
-    mul-x
-    shared-slice-read-x
+    (λ c. omega arith)
+    (λ c. omega arith)
     cast-x
-    mul-totals
+    (λ c. omega arith)
     shared-slice-copy-out-totals
-    mul-totals-2
+    (λ c. omega arith)
     shared-slice-copy-out-totals-2
     sub-totals
     mul-totals-3
     slice-copy-out-totals
     add-totals
     slice-set-from-totals
-    add-e
-    loop-less
+    (λ c. omega arith)
+    (λ c. omega arith)
     loop-again
     same-length
     returns)

@@ -22,9 +22,6 @@ Inv-loop totals degrees spins₀ i₀ spins i = (i ≤ length spins₀) × (spin
 abbrev μ-loop : tie.MeasureT-loop
 μ-loop totals degrees spins₀ i₀ spins i = length spins₀ - i
 
-loop-holds : tie.Need-loop-holds Inv-loop μ-loop
-loop-holds c = (omega arith, sym (fill-none _ _))
-
 long : (c : tie.At-loop Inv-loop μ-loop) → length (c .loop .spins) ≡ length (c .before .before .args .spins .now)
 long c =
     let args = c .before .before .args in
@@ -33,14 +30,8 @@ long c =
 inside : (c : tie.In-loop Inv-loop μ-loop) → c .before .loop .i < length (c .before .before .before .args .spins .now)
 inside c = omega (arith, long (c .before))
 
-mul-spin-of : tie.Need-mul-spin-of Inv-loop μ-loop
-mul-spin-of c = omega arith
-
 shared-slice-copy-out-spin-of : tie.Need-shared-slice-copy-out-spin-of Inv-loop μ-loop
 shared-slice-copy-out-spin-of c = omega (arith, inside c, c .before .before .before .pre .totals)
-
-mul-spin-of-2 : tie.Need-mul-spin-of-2 Inv-loop μ-loop
-mul-spin-of-2 c = omega arith
 
 shared-slice-read-spin-of : tie.Need-shared-slice-read-spin-of Inv-loop μ-loop
 shared-slice-read-spin-of c = omega (arith, inside (c .before .before), c .before .before .before .before .before .pre .degrees)
@@ -48,14 +39,8 @@ shared-slice-read-spin-of c = omega (arith, inside (c .before .before), c .befor
 spin-of-requires : tie.Need-spin-of-requires Inv-loop μ-loop
 spin-of-requires c κs = c .before .before .before .before .before .pre .standing (c .before .before .before .loop .i) (inside (c .before .before))
 
-mul-t13 : tie.Need-mul-t13 Inv-loop μ-loop
-mul-t13 c = omega arith
-
 slice-set-from-spins : tie.Need-slice-set-from-spins Inv-loop μ-loop
 slice-set-from-spins c = c .before .before .before .loop-test .taken
-
-add-i : tie.Need-add-i Inv-loop μ-loop
-add-i c = omega arith
 
 loop-less : tie.Need-loop-less Inv-loop μ-loop
 loop-less c = omega (arith, inside (c .before .before .before))
@@ -92,15 +77,15 @@ divide-totals-spec =
     (tie.spec
     Inv-loop
     μ-loop
-    loop-holds
-    mul-spin-of
+    (λ c. (omega arith, sym (fill-none _ _)))
+    (λ c. omega arith)
     shared-slice-copy-out-spin-of
-    mul-spin-of-2
+    (λ c. omega arith)
     shared-slice-read-spin-of
     spin-of-requires
-    mul-t13
+    (λ c. omega arith)
     slice-set-from-spins
-    add-i
+    (λ c. omega arith)
     loop-less
     loop-again
     same-length

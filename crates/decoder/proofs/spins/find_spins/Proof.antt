@@ -11,24 +11,12 @@ use Rattle.decoder.proofs.TotalsLaws.{zeros, edges-fit, totals-fit, spi
 use Rattle.decoder.proofs.spins.find_spins.Statement.{statement}
 use Rattle.decoder.proofs.spins.find_spins.Tie as tie
 
-slice-aggregate-take-frame : tie.Need-slice-aggregate-take-frame
-slice-aggregate-take-frame c = search needs
-
-take-frame-requires : tie.Need-take-frame-requires
-take-frame-requires c κs = search needs
-
-slice-aggregate-add-edges : tie.Need-slice-aggregate-add-edges
-slice-aggregate-add-edges c = search needs
-
 add-edges-requires : tie.Need-add-edges-requires
 add-edges-requires c κs =
     let start = c .before .before .before .before .before .before in
     let args = start .args in
     subst (λ t. EdgesFit t (args .members .now) (args .copies .now) (args .offsets .now)) (sym (c .before .before .take-frame .ensures))
     (edges-fit (length (args .spins .now)) (args .frame .now) (args .members .now) (args .degrees .now) (args .copies .now) (args .offsets .now) (start .pre))
-
-slice-aggregate-divide-totals : tie.Need-slice-aggregate-divide-totals
-slice-aggregate-divide-totals c = search needs
 
 -- the totals as the edges leave them
 abbrev totals : tie.After-add-edges → List ℤ
@@ -47,9 +35,6 @@ divide-totals-requires c κs =
     let added = c .before .before .before in
     totals-fit (length (args .spins .now)) (args .frame .now) (args .members .now) (args .degrees .now) (args .copies .now) (args .offsets .now) (start .pre) (totals added) (gathered added)
 
-same-length : tie.Need-same-length
-same-length c = search needs
-
 returns : tie.Need-returns
 returns c =
     let start = c .before .before .before .before .before .before .before .before .before .before .before .before in
@@ -62,11 +47,11 @@ pub find-spins-spec : {M : Type 1} → statement M
 find-spins-spec =
     tie.close
     (tie.spec
-    slice-aggregate-take-frame
-    take-frame-requires
-    slice-aggregate-add-edges
+    (λ c. search needs)
+    (λ c κs. search needs)
+    (λ c. search needs)
     add-edges-requires
-    slice-aggregate-divide-totals
+    (λ c. search needs)
     divide-totals-requires
-    same-length
+    (λ c. search needs)
     returns)

@@ -16,12 +16,6 @@ use Rattle.decoder.proofs.QuotientLaws.{at-least, clip-first}
 use Rattle.decoder.proofs.spins.spin_of.Statement.{statement}
 use Rattle.decoder.proofs.spins.spin_of.Tie as tie
 
-mul-most : tie.Need-mul-most
-mul-most c = search needs
-
-cast-clip-to : tie.Need-cast-clip-to
-cast-clip-to c = search needs
-
 most-is : (c : tie.Start) → toZ w32 (4096 * c .args .degree) ≡ pos (4096 * c .args .degree)
 most-is c = toZ-pos w32 (omega (arith, c .fits .degree))
 
@@ -30,9 +24,6 @@ degree-is c = toZ-pos w32 (omega (arith, c .fits .degree))
 
 clip-to-requires : tie.Need-clip-to-requires
 clip-to-requires c κs = subst (λ z. pos 0 ≤ℤ z) (sym (most-is c)) (at-least 0 (4096 * c .args .degree) (omega arith))
-
-cast-divided : tie.Need-cast-divided
-cast-divided c = search needs
 
 divided-requires : tie.Need-divided-requires
 divided-requires c κs = subst (λ z. pos 1 ≤ℤ z) (sym (degree-is (c .before))) (at-least 1 (c .before .args .degree) (c .before .pre))
@@ -52,4 +43,10 @@ returns c =
 pub spin-of-spec : {M : Type 1} → statement M
 spin-of-spec =
     tie.close
-    (tie.spec mul-most cast-clip-to clip-to-requires cast-divided divided-requires returns)
+    (tie.spec
+    (λ c. search needs)
+    (λ c. search needs)
+    clip-to-requires
+    (λ c. search needs)
+    divided-requires
+    returns)

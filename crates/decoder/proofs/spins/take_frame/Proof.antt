@@ -25,29 +25,14 @@ loop-holds c = (omega arith, sym (fill-none (c .args .frame .now) (c .args .tota
 long : (c : tie.At-loop Inv-loop μ-loop) → length (c .loop .totals) ≡ length (c .before .args .totals .now)
 long c = ap length (c .loop .inv .1) ∙ fill-length (c .loop .i) (c .before .args .frame .now) (c .before .args .totals .now)
 
-mul-totals : tie.Need-mul-totals Inv-loop μ-loop
-mul-totals c = omega arith
-
-shared-slice-copy-out-totals : tie.Need-shared-slice-copy-out-totals Inv-loop μ-loop
-shared-slice-copy-out-totals c = omega arith
-
 number-fits : (c : tie.After-totals Inv-loop μ-loop) → SFits w16 (at (c .before .before .before .args .frame .now) (c .before .before .loop .i))
 number-fits c = fit w16 (at (c .before .before .before .args .frame .now) (c .before .before .loop .i)) (c .totals .given)
 
 cast-totals : tie.Need-cast-totals Inv-loop μ-loop
 cast-totals c = rw (toZ-ofZ (number-fits c)) (sfits-widen tt (number-fits c))
 
-mul-t9 : tie.Need-mul-t9 Inv-loop μ-loop
-mul-t9 c = omega arith
-
 slice-set-from-totals : tie.Need-slice-set-from-totals Inv-loop μ-loop
 slice-set-from-totals c = omega (arith, long (c .before .before))
-
-add-i : tie.Need-add-i Inv-loop μ-loop
-add-i c = omega arith
-
-loop-less : tie.Need-loop-less Inv-loop μ-loop
-loop-less c = omega arith
 
 loop-again : tie.Need-loop-again Inv-loop μ-loop
 loop-again c =
@@ -71,13 +56,13 @@ take-frame-spec =
     Inv-loop
     μ-loop
     loop-holds
-    mul-totals
-    shared-slice-copy-out-totals
+    (λ c. omega arith)
+    (λ c. omega arith)
     cast-totals
-    mul-t9
+    (λ c. omega arith)
     slice-set-from-totals
-    add-i
-    loop-less
+    (λ c. omega arith)
+    (λ c. omega arith)
     loop-again
     same-length
     returns)

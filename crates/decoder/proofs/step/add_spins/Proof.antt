@@ -25,9 +25,6 @@ Inv-loop spins members offsets₀ i₀ offsets i = (i ≤ length members) × (of
 abbrev μ-loop : tie.MeasureT-loop
 μ-loop spins members offsets₀ i₀ offsets i = length members - i
 
-loop-holds : tie.Need-loop-holds Inv-loop μ-loop
-loop-holds c = (omega arith, sym (fill-none _ _))
-
 same : (c : tie.At-loop Inv-loop μ-loop) → let a = c .before .before .args in length (values (at (a .spins .now)) (a .members .now) (a .offsets .now)) ≡ length (a .offsets .now)
 same c = let a = c .before .before .args in values-length (at (a .spins .now)) (a .members .now) (a .offsets .now) ∙ sym (c .before .before .pre .0)
 
@@ -36,12 +33,6 @@ long c = ap length (c .loop .inv .1) ∙ fill-length (c .loop .i) _ _
 
 old : (c : tie.At-loop Inv-loop μ-loop) → at (c .loop .offsets) (c .loop .i) ≡ at (c .before .before .args .offsets .now) (c .loop .i)
 old c = ap (λ l. at l (c .loop .i)) (c .loop .inv .1) ∙ fill-at (c .loop .i) _ _ (pos 0)
-
-mul-m : tie.Need-mul-m Inv-loop μ-loop
-mul-m c = omega arith
-
-shared-slice-read-m : tie.Need-shared-slice-read-m Inv-loop μ-loop
-shared-slice-read-m c = omega arith
 
 cast-m : tie.Need-cast-m Inv-loop μ-loop
 cast-m c = omega (arith, c .shared-slice-known2 .given (c .before .before .loop .i))
@@ -53,9 +44,6 @@ shared-slice-copy-out-value : tie.Need-shared-slice-copy-out-value Inv-loop μ-l
 shared-slice-copy-out-value c =
     let a = c .before .before .before .before .args in
     below-at (length (a .spins .now)) (a .members .now) (c .before .before .loop .i) (omega arith) (c .before .before .before .before .pre .1)
-
-mul-value-2 : tie.Need-mul-value-2 Inv-loop μ-loop
-mul-value-2 c = omega arith
 
 slice-copy-out-value : tie.Need-slice-copy-out-value Inv-loop μ-loop
 slice-copy-out-value c = omega (arith, long (c .before .before .before), c .before .before .before .before .before .pre .0)
@@ -75,17 +63,8 @@ value-requires c κs =
       subst (Within offsetLimit) (sym (offset-is c)) (within-at offsetLimit (start .args .offsets .now) (start .pre .3) (l .i)),
     )
 
-mul-t16 : tie.Need-mul-t16 Inv-loop μ-loop
-mul-t16 c = omega arith
-
 slice-set-from-offsets : tie.Need-slice-set-from-offsets Inv-loop μ-loop
 slice-set-from-offsets c = omega (arith, long (c .before .before .before .before .before), c .before .before .before .before .before .before .before .pre .0)
-
-add-i : tie.Need-add-i Inv-loop μ-loop
-add-i c = omega arith
-
-loop-less : tie.Need-loop-less Inv-loop μ-loop
-loop-less c = omega arith
 
 loop-again : tie.Need-loop-again Inv-loop μ-loop
 loop-again c =
@@ -111,19 +90,19 @@ add-spins-spec =
     (tie.spec
     Inv-loop
     μ-loop
-    loop-holds
-    mul-m
-    shared-slice-read-m
+    (λ c. (omega arith, sym (fill-none _ _)))
+    (λ c. omega arith)
+    (λ c. omega arith)
     cast-m
     mul-value
     shared-slice-copy-out-value
-    mul-value-2
+    (λ c. omega arith)
     slice-copy-out-value
     value-requires
-    mul-t16
+    (λ c. omega arith)
     slice-set-from-offsets
-    add-i
-    loop-less
+    (λ c. omega arith)
+    (λ c. omega arith)
     loop-again
     same-length
     returns)

@@ -24,9 +24,6 @@ Inv-loop mask b copies₀ offsets₀ i₀ copies offsets i = Moving b mask copie
 abbrev μ-loop : tie.MeasureT-loop
 μ-loop mask b copies₀ offsets₀ i₀ copies offsets i = length offsets₀ - i
 
-loop-holds : tie.Need-loop-holds Inv-loop μ-loop
-loop-holds c = moving-first _ _ _ _
-
 long : (c : tie.At-loop Inv-loop μ-loop) → (length (c .loop .copies) ≡ length (c .before .args .offsets .now)) × (length (c .loop .offsets) ≡ length (c .before .args .offsets .now))
 long c =
     let a = c .before .args in
@@ -34,9 +31,6 @@ long c =
 
 mul-v : tie.Need-mul-v Inv-loop μ-loop
 mul-v c = omega (arith, long (c .before))
-
-slice-copy-out-v : tie.Need-slice-copy-out-v Inv-loop μ-loop
-slice-copy-out-v c = omega arith
 
 holds-requires : tie.Need-holds-requires Inv-loop μ-loop
 holds-requires c κs = omega (arith, long (c .before .before), c .before .before .before .pre .few)
@@ -101,9 +95,9 @@ move-all-spec =
     (tie.spec
     Inv-loop
     μ-loop
-    loop-holds
+    (λ c. moving-first _ _ _ _)
     mul-v
-    slice-copy-out-v
+    (λ c. omega arith)
     holds-requires
     moved-requires
     sub-y

@@ -11,16 +11,10 @@ use Rattle.decoder.proofs.MoveLaws.{word-pos, up-fits, down-fits}
 use Rattle.decoder.proofs.step.moved.Statement.{statement}
 use Rattle.decoder.proofs.step.moved.Tie as tie
 
-cast-clip : tie.Need-cast-clip
-cast-clip c = search needs
-
 add-clip : tie.Need-add-clip
 add-clip c =
     let a = c .before .args in
     op-fits w32 _+ℤ_ (toZ-ofZ (c .before .fits .v)) (word-pos (a .b) (c .before .pre .1)) (up-fits (a .v) (a .b) (c .before .pre .0) (c .before .pre .1))
-
-clip-requires : tie.Need-clip-requires
-clip-requires c κs = search needs
 
 returns : tie.Need-returns
 returns c =
@@ -29,16 +23,10 @@ returns c =
     ∙ ap (clipZ 4096) (toZ-ofZ (add-clip (c .before)) ∙ ap₂ _+ℤ_ (toZ-ofZ (c .before .before .fits .v)) (word-pos (a .b) (c .before .before .pre .1)))
     ∙ ap (λ t. move 4096 (a .b) t (a .v)) (sym (c .before .if1 .taken))
 
-cast-clip-2 : tie.Need-cast-clip-2
-cast-clip-2 c = search needs
-
 sub-clip : tie.Need-sub-clip
 sub-clip c =
     let a = c .before .args in
     op-fits w32 _-ℤ_ (toZ-ofZ (c .before .fits .v)) (word-pos (a .b) (c .before .pre .1)) (down-fits (a .v) (a .b) (c .before .pre .0) (c .before .pre .1))
-
-clip-requires-2 : tie.Need-clip-requires-2
-clip-requires-2 c κs = search needs
 
 returns-2 : tie.Need-returns-2
 returns-2 c =
@@ -51,11 +39,11 @@ pub moved-spec : {M : Type 1} → statement M
 moved-spec =
     tie.close
     (tie.spec
-    cast-clip
+    (λ c. search needs)
     add-clip
-    clip-requires
+    (λ c κs. search needs)
     returns
-    cast-clip-2
+    (λ c. search needs)
     sub-clip
-    clip-requires-2
+    (λ c κs. search needs)
     returns-2)

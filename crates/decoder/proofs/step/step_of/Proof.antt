@@ -9,12 +9,6 @@ use Rattle.decoder.proofs.StepLaws.{multiplier-asks, move-asks, step-le
 use Rattle.decoder.proofs.step.step_of.Statement.{statement}
 use Rattle.decoder.proofs.step.step_of.Tie as tie
 
-add-spins-requires : tie.Need-add-spins-requires
-add-spins-requires c κs = search needs
-
-see-requires : tie.Need-see-requires
-see-requires c κs = search needs
-
 multiplier-for-requires : tie.Need-multiplier-for-requires
 multiplier-for-requires c κs f =
     let saw = c .before .before .before in
@@ -34,12 +28,6 @@ move-all-requires c κs =
     move-asks (a .spins .now) (a .members .now) (a .copies .now) (a .offsets .now) _ (start .pre) (added .add-spins .ensures) _ _ (saw .see .result .mask) (saw .see .result .top) (saw .see .ensures)
     (found .multiplier-for .result) (found .multiplier-for .ensures)
 
-same-length : tie.Need-same-length
-same-length c = search needs
-
-same-length-2 : tie.Need-same-length-2
-same-length-2 c = search needs
-
 returns : tie.Need-returns
 returns c =
     let moved = c .before .before in
@@ -55,10 +43,10 @@ pub step-of-spec : {M : Type 1} → statement M
 step-of-spec =
     tie.close
     (tie.spec
-    add-spins-requires
-    see-requires
+    (λ c κs. search needs)
+    (λ c κs. search needs)
     multiplier-for-requires
     move-all-requires
-    same-length
-    same-length-2
+    (λ c. search needs)
+    (λ c. search needs)
     returns)

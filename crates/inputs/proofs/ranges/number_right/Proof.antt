@@ -6,9 +6,6 @@ use Rattle.inputs.proofs.RangeLaws.{range-upper, range-lower}
 use Rattle.inputs.proofs.ranges.number_right.Statement.{statement}
 use Rattle.inputs.proofs.ranges.number_right.Tie as tie
 
-sub-if1 : tie.Need-sub-if1
-sub-if1 c = search needs
-
 returns : tie.Need-returns
 returns c = range-upper frameLimit (c .before .args .x) _ (toZ-ofZ (c .before .fits .x)) (c .if1 .taken)
 
@@ -16,4 +13,4 @@ returns-2 : tie.Need-returns-2
 returns-2 c = range-lower frameLimit (c .before .args .x) _ (toZ-ofZ (c .before .fits .x)) (c .if1 .left)
 
 pub number-right-spec : {M : Type 1} → statement M
-number-right-spec = tie.close (tie.spec sub-if1 returns returns-2)
+number-right-spec = tie.close (tie.spec (λ c. search needs) returns returns-2)

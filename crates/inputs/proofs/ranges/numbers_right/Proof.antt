@@ -19,29 +19,11 @@ Inv-loop l i₀ i = (i ≤ length l) × (eachWithin frameLimit l ≡ eachWithin 
 abbrev μ-loop : tie.MeasureT-loop
 μ-loop l i₀ i = length l - i
 
-loop-holds : tie.Need-loop-holds Inv-loop μ-loop
-loop-holds c = (omega arith, refl)
-
-mul-number-right : tie.Need-mul-number-right Inv-loop μ-loop
-mul-number-right c = search needs
-
-shared-slice-copy-out-number-right : tie.Need-shared-slice-copy-out-number-right Inv-loop μ-loop
-shared-slice-copy-out-number-right c = search needs
-
-number-right-requires : tie.Need-number-right-requires Inv-loop μ-loop
-number-right-requires c κs = tt
-
 returns : tie.Need-returns Inv-loop μ-loop
 returns c =
     let read = c .before .before in
     let loop = read .before .before .loop in
     sym (loop .inv .1 ∙ within-fails frameLimit _ _ (read .before .loop-test .taken) (fit w16 _ (read .number-right-arg .given)) _ (c .before .number-right .ensures) (not-true _ (c .if1 .taken)))
-
-add-i : tie.Need-add-i Inv-loop μ-loop
-add-i c = omega arith
-
-loop-less : tie.Need-loop-less Inv-loop μ-loop
-loop-less c = omega arith
 
 loop-again : tie.Need-loop-again Inv-loop μ-loop
 loop-again c =
@@ -59,12 +41,12 @@ numbers-right-spec =
     (tie.spec
     Inv-loop
     μ-loop
-    loop-holds
-    mul-number-right
-    shared-slice-copy-out-number-right
-    number-right-requires
+    (λ c. (omega arith, refl))
+    (λ c. search needs)
+    (λ c. search needs)
+    (λ c κs. tt)
     returns
-    add-i
-    loop-less
+    (λ c. omega arith)
+    (λ c. omega arith)
     loop-again
     returns-2)

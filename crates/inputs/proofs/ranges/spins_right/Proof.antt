@@ -19,29 +19,11 @@ Inv-loop s i₀ i = (i ≤ length s) × (eachWithin unit s ≡ eachWithin unit (
 abbrev μ-loop : tie.MeasureT-loop
 μ-loop s i₀ i = length s - i
 
-loop-holds : tie.Need-loop-holds Inv-loop μ-loop
-loop-holds c = (omega arith, refl)
-
-mul-spin-right : tie.Need-mul-spin-right Inv-loop μ-loop
-mul-spin-right c = search needs
-
-shared-slice-copy-out-spin-right : tie.Need-shared-slice-copy-out-spin-right Inv-loop μ-loop
-shared-slice-copy-out-spin-right c = search needs
-
-spin-right-requires : tie.Need-spin-right-requires Inv-loop μ-loop
-spin-right-requires c κs = tt
-
 returns : tie.Need-returns Inv-loop μ-loop
 returns c =
     let read = c .before .before in
     let loop = read .before .before .loop in
     sym (loop .inv .1 ∙ within-fails unit _ _ (read .before .loop-test .taken) (fit w32 _ (read .spin-right-arg .given)) _ (c .before .spin-right .ensures) (not-true _ (c .if1 .taken)))
-
-add-i : tie.Need-add-i Inv-loop μ-loop
-add-i c = omega arith
-
-loop-less : tie.Need-loop-less Inv-loop μ-loop
-loop-less c = omega arith
 
 loop-again : tie.Need-loop-again Inv-loop μ-loop
 loop-again c =
@@ -58,12 +40,12 @@ spins-right-spec =
     (tie.spec
     Inv-loop
     μ-loop
-    loop-holds
-    mul-spin-right
-    shared-slice-copy-out-spin-right
-    spin-right-requires
+    (λ c. (omega arith, refl))
+    (λ c. search needs)
+    (λ c. search needs)
+    (λ c κs. tt)
     returns
-    add-i
-    loop-less
+    (λ c. omega arith)
+    (λ c. omega arith)
     loop-again
     returns-2)

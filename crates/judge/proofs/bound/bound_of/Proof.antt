@@ -17,9 +17,6 @@ use Rattle.judge.specs.Rows.{AllPlaced}
 use Rattle.judge.proofs.bound.bound_of.Statement.{statement}
 use Rattle.judge.proofs.bound.bound_of.Tie as tie
 
-scale-frame-requires : tie.Need-scale-frame-requires
-scale-frame-requires c κs = search needs
-
 put-entries-requires : tie.Need-put-entries-requires
 put-entries-requires c κs =
     let start = c .before .before .before .before .before .before .before in
@@ -30,17 +27,11 @@ put-entries-requires c κs =
       each-within scaledLimit (scaled .last .0) (λ i h. scaled .ensures i (omega arith) .size),
     )
 
-sizes-requires : tie.Need-sizes-requires
-sizes-requires c κs = search needs
-
 add-result : tie.Need-add-result
 add-result c =
     let sizes = c .sizes in
     let put = c .before .before .before .put-entries in
     plus-fits (fit w64 (sizes .result) (sizes .ok)) (fit w64 (put .result) (put .ok)) (sizes .ensures .1) (put .ensures .sum) (omega arith)
-
-same-length : tie.Need-same-length
-same-length c = search needs
 
 returns : tie.Need-returns
 returns c =
@@ -59,9 +50,9 @@ pub bound-of-spec : {M : Type 1} → statement M
 bound-of-spec =
     tie.close
     (tie.spec
-    scale-frame-requires
+    (λ c κs. search needs)
     put-entries-requires
-    sizes-requires
+    (λ c κs. search needs)
     add-result
-    same-length
+    (λ c. search needs)
     returns)

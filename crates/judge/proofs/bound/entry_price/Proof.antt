@@ -13,12 +13,6 @@ use Rattle.integers.specs.Signed64.{product-fits, product-reads}
 use Rattle.judge.proofs.bound.entry_price.Statement.{statement}
 use Rattle.judge.proofs.bound.entry_price.Tie as tie
 
-cast-result : tie.Need-cast-result
-cast-result c = search needs
-
-cast-result-2 : tie.Need-cast-result-2
-cast-result-2 c = search needs
-
 sub-result : tie.Need-sub-result
 sub-result c = let d : toZ w64 (c .args .d) ≡ pos (c .args .d) = toZ-pos w64 (omega arith) in simp lin (omega arithZ)
 
@@ -34,4 +28,4 @@ returns c =
     ∙ ap (λ z. pos (c .args .multiplier) *ℤ (z -ℤ pos 2)) (toZ-pos w64 {n = c .args .d} (omega arith))
 
 pub entry-price-spec : {M : Type 1} → statement M
-entry-price-spec = tie.close (tie.spec cast-result cast-result-2 sub-result mul-result returns)
+entry-price-spec = tie.close (tie.spec (λ c. search needs) (λ c. search needs) sub-result mul-result returns)

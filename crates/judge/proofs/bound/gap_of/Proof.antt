@@ -20,18 +20,6 @@ use Rattle.judge.specs.Rows.{AllPlaced, rowsIn}
 use Rattle.judge.proofs.bound.gap_of.Statement.{statement}
 use Rattle.judge.proofs.bound.gap_of.Tie as tie
 
-u16-at-requires : tie.Need-u16-at-requires
-u16-at-requires c κs = search needs
-
-u16-at-requires-2 : tie.Need-u16-at-requires-2
-u16-at-requires-2 c κs = search needs
-
-array-borrow-prefix-reduced : tie.Need-array-borrow-prefix-reduced
-array-borrow-prefix-reduced c = search needs
-
-slice-aggregate-bound-of : tie.Need-slice-aggregate-bound-of
-slice-aggregate-bound-of c = sym (length-take-le _ _ (omega arith))
-
 bound-of-requires : tie.Need-bound-of-requires
 bound-of-requires c κs =
     let start = c .before .before .before .before .before .before .before in
@@ -41,9 +29,6 @@ bound-of-requires c κs =
       subst (λ s. s ≤ maxScale) (sym (c .before .u16-at2 .ensures .0)) (start .pre .2),
       subst (AllPlaced (length (args .frame .now)) (args .starts .now) (args .members .now) (args .bytes .now)) (sym (c .before .before .u16-at .ensures .0)) (start .pre .3),
     )
-
-agreement-requires : tie.Need-agreement-requires
-agreement-requires c κs = tt
 
 times-requires : tie.Need-times-requires
 times-requires c κs =
@@ -76,12 +61,12 @@ pub gap-of-spec : {M : Type 1} → statement M
 gap-of-spec =
     tie.close
     (tie.spec
-    u16-at-requires
-    u16-at-requires-2
-    array-borrow-prefix-reduced
-    slice-aggregate-bound-of
+    (λ c κs. search needs)
+    (λ c κs. search needs)
+    (λ c. search needs)
+    (λ c. sym (length-take-le _ _ (omega arith)))
     bound-of-requires
-    agreement-requires
+    (λ c κs. tt)
     times-requires
     sub-result
     returns)

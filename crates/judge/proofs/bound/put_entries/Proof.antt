@@ -54,12 +54,6 @@ add-total c =
     summed-fits rowLimit (loop .k) (loop .total) (put .result) (toZ w64 (loop .total)) (fit w64 (put .result) (put .ok))
     (omega (arith, start .pre .0 .long .few)) (refl, loop .inv .1 .sum) (sized (put .ensures .prices) (adds .sum) .1)
 
-add-k : tie.Need-add-k Inv-loop μ-loop
-add-k c = omega arith
-
-loop-less : tie.Need-loop-less Inv-loop μ-loop
-loop-less c = omega arith
-
 loop-again : tie.Need-loop-again Inv-loop μ-loop
 loop-again c =
     let start = c .before .before .before .before .before .before .before .before in
@@ -91,8 +85,8 @@ put-entries-spec =
     loop-holds
     put-entry-requires
     add-total
-    add-k
-    loop-less
+    (λ c. omega arith)
+    (λ c. omega arith)
     loop-again
     same-length
     returns)

@@ -27,23 +27,8 @@ mask-at-requires c κs = c .before .before .before .before .before .pre .0
 start-at-requires : tie.Need-start-at-requires
 start-at-requires c κs = omega (arith, c .before .before .check-at .ensures .0, c .before .before .before .before .before .before .pre .1 .part .start .room)
 
-add-start-at : tie.Need-add-start-at
-add-start-at c = omega arith
-
 start-at-requires-2 : tie.Need-start-at-requires-2
 start-at-requires-2 c κs = omega (arith, c .before .before .before .check-at .ensures .0, c .before .before .before .before .before .before .before .pre .1 .part .start .room)
-
-mul-put-on : tie.Need-mul-put-on
-mul-put-on c = omega arith
-
-sub-put-on : tie.Need-sub-put-on
-sub-put-on c = search part-order
-
-part-put-on-start : tie.Need-part-put-on-start
-part-put-on-start c = search part-order
-
-part-put-on-end : tie.Need-part-put-on-end
-part-put-on-end c = search part-end
 
 put-on-requires : tie.Need-put-on-requires
 put-on-requires c κs =
@@ -54,17 +39,11 @@ put-on-requires c κs =
     let lent = subst (λ l. Below (length (start .args .reduced .now)) l × (length l ≤ maxDegree)) ms (p .part .inside, degree-few p) in
     (lent .0, lent .1, omega (arith, here .before .before .before .multiplier-at .ensures, p .small), start .pre .2)
 
-sub-entry-price : tie.Need-sub-entry-price
-sub-entry-price c = search part-order
-
 entry-price-requires : tie.Need-entry-price-requires
 entry-price-requires c κs =
     let here = c .before .before .before .before in
     let p = here .before .before .before .before .before .before .before .before .pre .1 in
     (omega (arith, here .before .before .before .multiplier-at .ensures, p .small), search part-few)
-
-same-length : tie.Need-same-length
-same-length c = search needs
 
 returns : tie.Need-returns
 returns c =
@@ -91,14 +70,14 @@ put-entry-spec =
     multiplier-at-requires
     mask-at-requires
     start-at-requires
-    add-start-at
+    (λ c. omega arith)
     start-at-requires-2
-    mul-put-on
-    sub-put-on
-    part-put-on-start
-    part-put-on-end
+    (λ c. omega arith)
+    (λ c. search part-order)
+    (λ c. search part-order)
+    (λ c. search part-end)
     put-on-requires
-    sub-entry-price
+    (λ c. search part-order)
     entry-price-requires
-    same-length
+    (λ c. search needs)
     returns)

@@ -24,17 +24,8 @@ abbrev μ-loop : tie.MeasureT-loop
 loop-holds : tie.Need-loop-holds Inv-loop μ-loop
 loop-holds c = (omega arith, members-none (c .before .pre .3))
 
-mul-i : tie.Need-mul-i Inv-loop μ-loop
-mul-i c = omega arith
-
-shared-slice-read-i : tie.Need-shared-slice-read-i Inv-loop μ-loop
-shared-slice-read-i c = omega arith
-
 cast-i : tie.Need-cast-i Inv-loop μ-loop
 cast-i c = omega (arith, c .shared-slice-known2 .given (c .before .before .loop .k))
-
-weight-requires : tie.Need-weight-requires Inv-loop μ-loop
-weight-requires c κs = tt
 
 mul-reduced : tie.Need-mul-reduced Inv-loop μ-loop
 mul-reduced c = omega (arith, c .before .shared-slice-known2 .given (c .before .before .before .loop .k))
@@ -64,12 +55,6 @@ mul-t16 c = omega (arith, c .before .before .shared-slice-known2 .given (c .befo
 slice-set-from-reduced : tie.Need-slice-set-from-reduced Inv-loop μ-loop
 slice-set-from-reduced c = inside (c .before .before .before)
 
-add-k : tie.Need-add-k Inv-loop μ-loop
-add-k c = omega arith
-
-loop-less : tie.Need-loop-less Inv-loop μ-loop
-loop-less c = omega arith
-
 loop-again : tie.Need-loop-again Inv-loop μ-loop
 loop-again c =
     let start = c .before .before .before .before .before .before in
@@ -92,17 +77,17 @@ put-on-spec =
     Inv-loop
     μ-loop
     loop-holds
-    mul-i
-    shared-slice-read-i
+    (λ c. omega arith)
+    (λ c. omega arith)
     cast-i
-    weight-requires
+    (λ c κs. tt)
     mul-reduced
     slice-copy-out-reduced
     add-reduced
     mul-t16
     slice-set-from-reduced
-    add-k
-    loop-less
+    (λ c. omega arith)
+    (λ c. omega arith)
     loop-again
     same-length
     returns)

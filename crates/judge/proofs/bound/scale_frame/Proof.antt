@@ -27,31 +27,10 @@ abbrev μ-loop : tie.MeasureT-loop
 loop-holds : tie.Need-loop-holds Inv-loop μ-loop
 loop-holds c = (omega arith, refl, λ j h. absurd (omega arith))
 
-mul-wide : tie.Need-mul-wide Inv-loop μ-loop
-mul-wide c = search needs
-
-shared-slice-copy-out-wide : tie.Need-shared-slice-copy-out-wide Inv-loop μ-loop
-shared-slice-copy-out-wide c = search needs
-
-wide-requires : tie.Need-wide-requires Inv-loop μ-loop
-wide-requires c κs = tt
-
 times-requires : tie.Need-times-requires Inv-loop μ-loop
 times-requires c κs =
     let small = sized (toZ-ofZ (fit w64 (c .wide .result) (c .wide .ok))) (c .wide .ensures .1) .1 in
     (c .before .before .before .before .pre .1, within-wider frameSize (maxBits * frameSize) _ (omega arith) small)
-
-mul-t11 : tie.Need-mul-t11 Inv-loop μ-loop
-mul-t11 c = search needs
-
-slice-set-from-reduced : tie.Need-slice-set-from-reduced Inv-loop μ-loop
-slice-set-from-reduced c = search needs
-
-add-i : tie.Need-add-i Inv-loop μ-loop
-add-i c = omega arith
-
-loop-less : tie.Need-loop-less Inv-loop μ-loop
-loop-less c = omega arith
 
 loop-again : tie.Need-loop-again Inv-loop μ-loop
 loop-again c =
@@ -81,14 +60,14 @@ scale-frame-spec =
     Inv-loop
     μ-loop
     loop-holds
-    mul-wide
-    shared-slice-copy-out-wide
-    wide-requires
+    (λ c. search needs)
+    (λ c. search needs)
+    (λ c κs. tt)
     times-requires
-    mul-t11
-    slice-set-from-reduced
-    add-i
-    loop-less
+    (λ c. search needs)
+    (λ c. search needs)
+    (λ c. omega arith)
+    (λ c. omega arith)
     loop-again
     same-length
     returns)

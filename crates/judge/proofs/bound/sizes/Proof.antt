@@ -23,15 +23,6 @@ Inv-loop reduced total₀ i₀ total i = (i ≤ length reduced) × Summed sizeLi
 abbrev μ-loop : tie.MeasureT-loop
 μ-loop reduced total₀ i₀ total i = length reduced - i
 
-loop-holds : tie.Need-loop-holds Inv-loop μ-loop
-loop-holds c = (omega arith, summed-none sizeLimit)
-
-mul-size : tie.Need-mul-size Inv-loop μ-loop
-mul-size c = search needs
-
-shared-slice-copy-out-size : tie.Need-shared-slice-copy-out-size Inv-loop μ-loop
-shared-slice-copy-out-size c = search needs
-
 size-requires : tie.Need-size-requires Inv-loop μ-loop
 size-requires c κs =
     let loop = c .before .before .loop in
@@ -42,12 +33,6 @@ add-total : tie.Need-add-total Inv-loop μ-loop
 add-total c =
     let loop = c .before .before .before .loop in
     summed-fits sizeLimit (loop .i) (loop .total) (c .size .result) _ (fit w64 (c .size .result) (c .size .ok)) (omega arith) (loop .inv .1) (c .size .ensures .1)
-
-add-i : tie.Need-add-i Inv-loop μ-loop
-add-i c = omega arith
-
-loop-less : tie.Need-loop-less Inv-loop μ-loop
-loop-less c = omega arith
 
 loop-again : tie.Need-loop-again Inv-loop μ-loop
 loop-again c =
@@ -70,12 +55,12 @@ sizes-spec =
     (tie.spec
     Inv-loop
     μ-loop
-    loop-holds
-    mul-size
-    shared-slice-copy-out-size
+    (λ c. (omega arith, summed-none sizeLimit))
+    (λ c. search needs)
+    (λ c. search needs)
     size-requires
     add-total
-    add-i
-    loop-less
+    (λ c. omega arith)
+    (λ c. omega arith)
     loop-again
     returns)

@@ -9,9 +9,6 @@ use Rattle.integers.specs.Signed64.{sized, pos-within, product-fits, product-re
 use Rattle.judge.proofs.bound.times.Statement.{statement}
 use Rattle.judge.proofs.bound.times.Tie as tie
 
-cast-result : tie.Need-cast-result
-cast-result c = search needs
-
 mul-result : tie.Need-mul-result
 mul-result c = product-fits maxScale (maxBits * frameSize) (c .args .scale) (c .args .x) (c .fits .x) (c .pre .0) (omega arith) (omega arith) (c .pre .1)
 
@@ -21,4 +18,4 @@ returns c =
     (within-* maxScale (maxBits * frameSize) (pos (c .args .scale)) (c .args .x) (pos-within maxScale (c .args .scale) (c .pre .0)) (c .pre .1))
 
 pub times-spec : {M : Type 1} → statement M
-times-spec = tie.close (tie.spec cast-result mul-result returns)
+times-spec = tie.close (tie.spec (λ c. search needs) mul-result returns)

@@ -12,12 +12,6 @@ use Rattle.integers.specs.Signed64.{pos-within, neg-fits, neg-reads}
 use Rattle.judge.proofs.bound.weight.Statement.{statement}
 use Rattle.judge.proofs.bound.weight.Tie as tie
 
-cast-result : tie.Need-cast-result
-cast-result c = search needs
-
-cast-result-2 : tie.Need-cast-result-2
-cast-result-2 c = search needs
-
 sub-result : tie.Need-sub-result
 sub-result c =
     let b = c .before .args .multiplier in
@@ -34,4 +28,4 @@ returns-2 c =
     neg-reads (pos (args .multiplier)) _ (toZ-pos w64 (omega arith)) (sub-result c) ∙ ap (λ t. side t (pos (args .multiplier))) (sym (ne-eqb (args .mask % 2) 1 (c .if1 .left)))
 
 pub weight-spec : {M : Type 1} → statement M
-weight-spec = tie.close (tie.spec cast-result cast-result-2 sub-result returns returns-2)
+weight-spec = tie.close (tie.spec (λ c. search needs) (λ c. search needs) sub-result returns returns-2)

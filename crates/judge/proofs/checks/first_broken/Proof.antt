@@ -26,20 +26,11 @@ check c =
     let start = c .before .before .before .before .before in
     omega (arith, c .loop-test .taken, start .pre .1, starts-long _ _ _ (start .pre .0))
 
-loop-holds : tie.Need-loop-holds Inv-loop μ-loop
-loop-holds c = (omega arith, refl)
-
 start-at-requires : tie.Need-start-at-requires Inv-loop μ-loop
 start-at-requires c κs = omega (arith, c .loop-test .taken, c .before .before .before .before .before .pre .1)
 
-add-start-at : tie.Need-add-start-at Inv-loop μ-loop
-add-start-at c = omega arith
-
 start-at-requires-2 : tie.Need-start-at-requires-2 Inv-loop μ-loop
 start-at-requires-2 c κs = omega (arith, c .before .loop-test .taken, c .before .before .before .before .before .before .pre .1)
-
-mul-odd-check : tie.Need-mul-odd-check Inv-loop μ-loop
-mul-odd-check c = omega arith
 
 -- its part of the members
 inside : (c : tie.After-start-at2 Inv-loop μ-loop) → (c .before .start-at .result ≤ c .start-at2 .result)
@@ -74,12 +65,6 @@ returns c =
     let part = part-lent _ _ _ (start .pre .0) _ (check here) (read .before .start-at .ensures .0) (read .start-at2 .ensures .0) in
     sym (here .before .loop .inv .1 ∙ broken-here (bitsOf (start .args .word .now)) _ _ _ (check here) part (sym (c .before .odd-check .ensures) ∙ c .if1 .taken))
 
-add-j : tie.Need-add-j Inv-loop μ-loop
-add-j c = omega arith
-
-loop-less : tie.Need-loop-less Inv-loop μ-loop
-loop-less c = omega arith
-
 loop-again : tie.Need-loop-again Inv-loop μ-loop
 loop-again c =
     let read = c .before .before .before in
@@ -100,17 +85,17 @@ first-broken-spec =
     (tie.spec
     Inv-loop
     μ-loop
-    loop-holds
+    (λ c. (omega arith, refl))
     start-at-requires
-    add-start-at
+    (λ c. omega arith)
     start-at-requires-2
-    mul-odd-check
+    (λ c. omega arith)
     sub-odd-check
     part-odd-check-start
     part-odd-check-end
     odd-check-requires
     returns
-    add-j
-    loop-less
+    (λ c. omega arith)
+    (λ c. omega arith)
     loop-again
     returns-2)

@@ -19,15 +19,6 @@ Inv-loop word members sum₀ k₀ sum k = (k ≤ length members) × (sum ⊕ odd
 abbrev μ-loop : tie.MeasureT-loop
 μ-loop word members sum₀ k₀ sum k = length members - k
 
-loop-holds : tie.Need-loop-holds Inv-loop μ-loop
-loop-holds c = (omega arith, refl)
-
-mul-i : tie.Need-mul-i Inv-loop μ-loop
-mul-i c = search needs
-
-shared-slice-read-i : tie.Need-shared-slice-read-i Inv-loop μ-loop
-shared-slice-read-i c = search needs
-
 cast-i : tie.Need-cast-i Inv-loop μ-loop
 cast-i c = omega (arith, c .shared-slice-known3 .given (c .before .before .loop .k))
 
@@ -35,15 +26,6 @@ shared-slice-read-flipped : tie.Need-shared-slice-read-flipped Inv-loop μ-loop
 shared-slice-read-flipped c =
     let start = c .before .before .before .before .before .before in
     below-at (length (start .args .word .now)) (start .args .members .now) (c .before .before .before .loop .k) (c .before .before .loop-test .taken) (start .pre)
-
-flipped-requires : tie.Need-flipped-requires Inv-loop μ-loop
-flipped-requires c κs = tt
-
-add-k : tie.Need-add-k Inv-loop μ-loop
-add-k c = omega arith
-
-loop-less : tie.Need-loop-less Inv-loop μ-loop
-loop-less c = omega arith
 
 loop-again : tie.Need-loop-again Inv-loop μ-loop
 loop-again c =
@@ -66,13 +48,13 @@ odd-check-spec =
     (tie.spec
     Inv-loop
     μ-loop
-    loop-holds
-    mul-i
-    shared-slice-read-i
+    (λ c. (omega arith, refl))
+    (λ c. search needs)
+    (λ c. search needs)
     cast-i
     shared-slice-read-flipped
-    flipped-requires
-    add-k
-    loop-less
+    (λ c κs. tt)
+    (λ c. omega arith)
+    (λ c. omega arith)
     loop-again
     returns)

@@ -9,26 +9,11 @@ use Rattle.judge.proofs.entries.certificate_refusal.Tie as tie
 returns : tie.Need-returns
 returns c = certificate-short _ _ _ (c .if1 .taken)
 
-u16-at-requires : tie.Need-u16-at-requires
-u16-at-requires c κs = search needs
-
 returns-2 : tie.Need-returns-2
 returns-2 c = certificate-many _ _ _ _ (c .before .u16-at .ensures .0) (c .before .before .if1 .left) (c .if2 .taken)
 
-mul-if3 : tie.Need-mul-if3
-mul-if3 c = search needs
-
-add-if3 : tie.Need-add-if3
-add-if3 c = search needs
-
 returns-3 : tie.Need-returns-3
 returns-3 c = certificate-long _ _ _ _ (c .before .before .u16-at .ensures .0) (c .before .before .before .if1 .left) (c .before .if2 .left) (c .if3 .taken)
-
-u16-at-requires-2 : tie.Need-u16-at-requires-2
-u16-at-requires-2 c κs = search needs
-
-in-range-requires : tie.Need-in-range-requires
-in-range-requires c κs = tt
 
 returns-4 : tie.Need-returns-4
 returns-4 c =
@@ -55,13 +40,13 @@ certificate-refusal-spec =
     tie.close
     (tie.spec
     returns
-    u16-at-requires
+    (λ c κs. search needs)
     returns-2
-    mul-if3
-    add-if3
+    (λ c. search needs)
+    (λ c. search needs)
     returns-3
-    u16-at-requires-2
-    in-range-requires
+    (λ c κs. search needs)
+    (λ c κs. tt)
     returns-4
     entries-refusal-requires
     returns-5)

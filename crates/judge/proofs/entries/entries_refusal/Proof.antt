@@ -32,12 +32,6 @@ returns c =
     sym (loop .inv .1
     ∙ items-stop (args .m) (degreeAt (args .starts .now)) (args .bytes .now) (args .q) (loop .k) _ (c .before .before .loop-test .taken) (c .before .entry-refusal .ensures) (c .if1 .taken))
 
-add-k : tie.Need-add-k Inv-loop μ-loop
-add-k c = omega arith
-
-loop-less : tie.Need-loop-less Inv-loop μ-loop
-loop-less c = omega arith
-
 loop-again : tie.Need-loop-again Inv-loop μ-loop
 loop-again c =
     let args = c .before .before .before .before .before .before .args in
@@ -61,7 +55,7 @@ entries-refusal-spec =
     loop-holds
     entry-refusal-requires
     returns
-    add-k
-    loop-less
+    (λ c. omega arith)
+    (λ c. omega arith)
     loop-again
     returns-2)

@@ -7,20 +7,8 @@ use Rattle.judge.proofs.RefusalLaws.{entry-check, entry-multiplier, ent
 use Rattle.judge.proofs.entries.entry_refusal.Statement.{statement}
 use Rattle.judge.proofs.entries.entry_refusal.Tie as tie
 
-check-at-requires : tie.Need-check-at-requires
-check-at-requires c κs = search needs
-
 returns : tie.Need-returns
 returns c = entry-check _ _ _ _ _ _ (c .before .check-at .ensures .0) refl (c .if1 .taken)
-
-multiplier-at-requires : tie.Need-multiplier-at-requires
-multiplier-at-requires c κs = search needs
-
-cast-in-range : tie.Need-cast-in-range
-cast-in-range c = search needs
-
-in-range-requires : tie.Need-in-range-requires
-in-range-requires c κs = tt
 
 returns-2 : tie.Need-returns-2
 returns-2 c =
@@ -32,9 +20,6 @@ degree-requires c κs =
     let listed = c .before .before .before in
     let start = listed .before .before .before .before .pre .0 (listed .before .check-at .result) (listed .if1 .left) in
     (start .room, start .order)
-
-mask-at-requires : tie.Need-mask-at-requires
-mask-at-requires c κs = search needs
 
 mask-right-requires : tie.Need-mask-right-requires
 mask-right-requires c κs =
@@ -48,9 +33,6 @@ returns-3 c =
     entry-mask _ _ _ _ _ _ (listed .before .check-at .ensures .0) (ranged .before .before .multiplier-at .ensures) (listed .if1 .left)
     (sym (ranged .before .in-range .ensures) ∙ not-false _ (ranged .if2 .left)) _ _ (c .before .before .mask-at .ensures) (c .before .before .before .degree .ensures)
     (sym (c .before .mask-right .ensures) ∙ not-true _ (c .if3 .taken))
-
-ordered-requires : tie.Need-ordered-requires
-ordered-requires c κs = search needs
 
 returns-4 : tie.Need-returns-4
 returns-4 c =
@@ -74,16 +56,16 @@ pub entry-refusal-spec : {M : Type 1} → statement M
 entry-refusal-spec =
     tie.close
     (tie.spec
-    check-at-requires
+    (λ c κs. search needs)
     returns
-    multiplier-at-requires
-    cast-in-range
-    in-range-requires
+    (λ c κs. search needs)
+    (λ c. search needs)
+    (λ c κs. tt)
     returns-2
     degree-requires
-    mask-at-requires
+    (λ c κs. search needs)
     mask-right-requires
     returns-3
-    ordered-requires
+    (λ c κs. search needs)
     returns-4
     returns-5)

@@ -13,15 +13,6 @@ use Rattle.table.proofs.AnswerLaws.{and-fails, and-holds}
 use Rattle.judge.proofs.entries.mask_right.Statement.{statement}
 use Rattle.judge.proofs.entries.mask_right.Tie as tie
 
-cast-result : tie.Need-cast-result
-cast-result c = search needs
-
-cast-result-2 : tie.Need-cast-result-2
-cast-result-2 c = search needs
-
-shl-result : tie.Need-shl-result
-shl-result c = search needs
-
 returns : tie.Need-returns
 unfolding maskRight
 returns c =
@@ -36,4 +27,4 @@ returns-2 c =
     off ∙ sym (and-fails _ _ off)
 
 pub mask-right-spec : {M : Type 1} → statement M
-mask-right-spec = tie.close (tie.spec cast-result cast-result-2 shl-result returns returns-2)
+mask-right-spec = tie.close (tie.spec (λ c. search needs) (λ c. search needs) (λ c. search needs) returns returns-2)

@@ -12,15 +12,6 @@ returns c =
     let args = c .before .before .args in
     follows-first (args .bytes .now) (args .q) (args .k) (itemAt (args .bytes .now) (args .q) (args .k)) (c .if1 .taken)
 
-sub-check-at : tie.Need-sub-check-at
-sub-check-at c = search needs
-
-check-at-requires : tie.Need-check-at-requires
-check-at-requires c κs = search needs
-
-check-at-requires-2 : tie.Need-check-at-requires-2
-check-at-requires-2 c κs = search needs
-
 returns-2 : tie.Need-returns-2
 returns-2 c =
     let args = c .before .before .before .before .before .args in
@@ -31,15 +22,6 @@ returns-2 c =
 -- the check is not above the one before
 at-most : (c : tie.Else2) → c .before .check-at2 .result ≤ c .before .before .check-at .result
 at-most c = omega arith
-
-sub-mask-at : tie.Need-sub-mask-at
-sub-mask-at c = search needs
-
-mask-at-requires : tie.Need-mask-at-requires
-mask-at-requires c κs = search needs
-
-mask-at-requires-2 : tie.Need-mask-at-requires-2
-mask-at-requires-2 c κs = search needs
 
 returns-3 : tie.Need-returns-3
 returns-3 c =
@@ -60,12 +42,12 @@ ordered-spec =
     tie.close
     (tie.spec
     returns
-    sub-check-at
-    check-at-requires
-    check-at-requires-2
+    (λ c. search needs)
+    (λ c κs. search needs)
+    (λ c κs. search needs)
     returns-2
-    sub-mask-at
-    mask-at-requires
-    mask-at-requires-2
+    (λ c. search needs)
+    (λ c κs. search needs)
+    (λ c κs. search needs)
     returns-3
     returns-4)

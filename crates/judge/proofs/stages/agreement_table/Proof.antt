@@ -9,22 +9,13 @@ use Rattle.judge.proofs.StageLaws.{frame-word-long, agreement-frame, ag
 use Rattle.judge.proofs.stages.agreement_table.Statement.{statement}
 use Rattle.judge.proofs.stages.agreement_table.Tie as tie
 
-frame-requires : tie.Need-frame-requires
-frame-requires c κs = tt
-
 returns : tie.Need-returns
 returns c = agreement-frame _ _ (c .before .before .before .args .word .now) _ (c .before .frame .ensures) (c .if1 .taken)
-
-word-requires : tie.Need-word-requires
-word-requires c κs = tt
 
 returns-2 : tie.Need-returns-2
 returns-2 c =
     let framed = c .before .before in
     agreement-word _ (framed .before .before .before .args .frame .now) _ _ (framed .before .frame .ensures) (framed .if1 .left) _ (c .before .word .ensures) (c .if2 .taken)
-
-agreement-requires : tie.Need-agreement-requires
-agreement-requires c κs = tt
 
 returns-3 : tie.Need-returns-3
 returns-3 c =
@@ -37,6 +28,4 @@ returns-3 c =
     (toZ-ofZ (fit w64 (c .agreement .result) (c .agreement .ok)) ∙ c .agreement .ensures .0 ∙ whole)
 
 pub agreement-table-spec : {M : Type 1} → statement M
-agreement-table-spec =
-    tie.close
-    (tie.spec frame-requires returns word-requires returns-2 agreement-requires returns-3)
+agreement-table-spec = tie.close (tie.spec (λ c κs. tt) returns (λ c κs. tt) returns-2 (λ c κs. tt) returns-3)

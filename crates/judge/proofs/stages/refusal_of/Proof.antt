@@ -8,18 +8,12 @@ use Rattle.judge.specs.Stages.{judgeRefusal}
 use Rattle.judge.proofs.stages.refusal_of.Statement.{statement}
 use Rattle.judge.proofs.stages.refusal_of.Tie as tie
 
-frame-requires : tie.Need-frame-requires
-frame-requires c κs = tt
-
 returns : tie.Need-returns
 unfolding judgeRefusal
 returns c =
     let args = c .before .before .before .before .before .args in
     let rest = orElse (wordRefusal (args .n) (args .word .now)) (certificateRefusal (args .m) (degreeAt (args .starts .now)) (args .certificate .now)) in
     sym (ap (λ k. orElse k rest) (sym (c .before .frame .ensures)) ∙ else-refused (c .before .frame .result) rest (c .if1 .taken))
-
-word-requires : tie.Need-word-requires
-word-requires c κs = tt
 
 returns-2 : tie.Need-returns-2
 unfolding judgeRefusal
@@ -43,12 +37,4 @@ returns-3 c =
     ∙ else-next (c .before .before .word .result) last (c .before .if2 .left))
 
 pub refusal-of-spec : {M : Type 1} → statement M
-refusal-of-spec =
-    tie.close
-    (tie.spec
-    frame-requires
-    returns
-    word-requires
-    returns-2
-    certificate-refusal-requires
-    returns-3)
+refusal-of-spec = tie.close (tie.spec (λ c κs. tt) returns (λ c κs. tt) returns-2 certificate-refusal-requires returns-3)

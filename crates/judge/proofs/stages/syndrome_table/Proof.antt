@@ -12,9 +12,6 @@ use Rattle.judge.proofs.stages.syndrome_table.Tie as tie
 abbrev table : tie.Start → Table
 table start = tableOf (start .args .n) (start .args .starts .now) (start .args .members .now)
 
-word-requires : tie.Need-word-requires
-word-requires c κs = tt
-
 returns : tie.Need-returns
 returns c = syndrome-turned (table (c .before .before .before .before .before)) _ _ (c .before .word .ensures) (c .if1 .taken)
 
@@ -23,12 +20,6 @@ first-broken-requires c κs =
     let start = c .before .before .before .before .before in
     let long = word-long _ _ (sym (c .before .word .ensures) ∙ c .if1 .left) in
     (subst (λ n. Holds n (start .args .starts .now) (start .args .members .now)) (sym long) (start .pre .0), start .pre .1)
-
-enum-known-found : tie.Need-enum-known-found
-enum-known-found c = search needs
-
-enum-told : tie.Need-enum-told
-enum-told c = search needs
 
 returns-2 : tie.Need-returns-2
 returns-2 c =
@@ -46,10 +37,10 @@ pub syndrome-table-spec : {M : Type 1} → statement M
 syndrome-table-spec =
     tie.close
     (tie.spec
-    word-requires
+    (λ c κs. tt)
     returns
     first-broken-requires
-    enum-known-found
-    enum-told
+    (λ c. search needs)
+    (λ c. search needs)
     returns-2
     returns-3)

@@ -21,12 +21,6 @@ first-broken-requires c κs =
     let right = unrefused _ _ _ _ _ _ (start .pre .2) in
     (subst (λ n. Holds n (start .args .starts .now) (start .args .members .now)) (sym (right .1)) (start .pre .0), start .pre .1)
 
-enum-known-found : tie.Need-enum-known-found
-enum-known-found c = search needs
-
-enum-told : tie.Need-enum-told
-enum-told c = search needs
-
 gap-of-requires : tie.Need-gap-of-requires
 gap-of-requires c κs =
     let start = c .before .before .before .before .before .before .before in
@@ -70,8 +64,8 @@ verdict-of-spec =
     tie.close
     (tie.spec
     first-broken-requires
-    enum-known-found
-    enum-told
+    (λ c. search needs)
+    (λ c. search needs)
     gap-of-requires
     returns
     returns-2

@@ -7,21 +7,6 @@ use Rattle.decoder.specs.Reply.{outcomeOf}
 use Rattle.jugnayap.proofs.numbers.refusal_number.Statement.{statement}
 use Rattle.jugnayap.proofs.numbers.refusal_number.Tie as tie
 
-enum-known-outcome : tie.Need-enum-known-outcome
-enum-known-outcome c = search needs
-
-cast-result : tie.Need-cast-result
-cast-result c = search needs
-
-enum-told : tie.Need-enum-told
-enum-told c = search needs
-
-enum-told-2 : tie.Need-enum-told-2
-enum-told-2 c = search needs
-
-enum-told-3 : tie.Need-enum-told-3
-enum-told-3 c = search needs
-
 returns : tie.Need-returns
 unfolding replyOf
 returns c = ap (λ x. replyOf statusValues (outcomeOf x) .number) (sym (c .before .outcome .given .1))
@@ -42,11 +27,11 @@ pub refusal-number-spec : {M : Type 1} → statement M
 refusal-number-spec =
     tie.close
     (tie.spec
-    enum-known-outcome
-    cast-result
-    enum-told
-    enum-told-2
-    enum-told-3
+    (λ c. search needs)
+    (λ c. search needs)
+    (λ c. search needs)
+    (λ c. search needs)
+    (λ c. search needs)
     returns
     returns-2
     returns-3

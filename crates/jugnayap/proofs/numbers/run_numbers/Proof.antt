@@ -4,11 +4,8 @@ use mathlib.Core.Path.{ap}
 use Rattle.jugnayap.proofs.numbers.run_numbers.Statement.{statement}
 use Rattle.jugnayap.proofs.numbers.run_numbers.Tie as tie
 
-status-number-requires : tie.Need-status-number-requires
-status-number-requires c κs = search needs
-
 returns : tie.Need-returns
 returns c = ap (λ s. record { rounds = c .before .args .done .rounds; status = s }) (c .status-number .ensures)
 
 pub run-numbers-spec : {M : Type 1} → statement M
-run-numbers-spec = tie.close (tie.spec status-number-requires returns)
+run-numbers-spec = tie.close (tie.spec (λ c κs. search needs) returns)

@@ -8,18 +8,6 @@ use Rattle.jugnayap.specs.Numbers.{startedFrom}
 use Rattle.jugnayap.proofs.numbers.started_numbers.Statement.{statement}
 use Rattle.jugnayap.proofs.numbers.started_numbers.Tie as tie
 
-enum-known-started : tie.Need-enum-known-started
-enum-known-started c = search needs
-
-cast-t5 : tie.Need-cast-t5
-cast-t5 c = search needs
-
-enum-known-started-2 : tie.Need-enum-known-started-2
-enum-known-started-2 c = search needs
-
-run-numbers-requires : tie.Need-run-numbers-requires
-run-numbers-requires c κs = search needs
-
 returns : tie.Need-returns
 unfolding replyOf
 returns c = ap (λ x. startedFrom (replyOf progressValues (startedOf x))) (sym (c .before .started .given .1))
@@ -32,9 +20,9 @@ pub started-numbers-spec : {M : Type 1} → statement M
 started-numbers-spec =
     tie.close
     (tie.spec
-    enum-known-started
-    cast-t5
-    enum-known-started-2
-    run-numbers-requires
+    (λ c. search needs)
+    (λ c. search needs)
+    (λ c. search needs)
+    (λ c κs. search needs)
     returns
     returns-2)

@@ -5,9 +5,6 @@ use Rattle.reporting.proofs.CodeLaws.{read-most}
 use Rattle.reporting.proofs.code.read_code.Statement.{statement}
 use Rattle.reporting.proofs.code.read_code.Tie as tie
 
-read-on-requires : tie.Need-read-on-requires
-read-on-requires c κs = search needs
-
 read-on-requires-2 : tie.Need-read-on-requires-2
 read-on-requires-2 c κs =
     let head = c .before .before .before .read-on in
@@ -19,14 +16,10 @@ read-on-requires-3 c κs =
     let contents = c .before .before .before .read-on2 in
     (read-most _ _ _ _ (read-most _ _ _ _ (omega arith) (head .ensures)) (contents .ensures), omega (arith, head .kept .0, contents .kept .0))
 
-same-length : tie.Need-same-length
-same-length c = search needs
-
 returns : tie.Need-returns
 returns c =
     let head = read-most _ _ _ _ (omega arith) (c .before .before .before .before .before .before .before .before .before .before .read-on .ensures) in
     read-most _ _ _ _ (read-most _ _ _ _ head (c .before .before .before .before .before .before .read-on2 .ensures)) (c .before .before .read-on3 .ensures)
 
 pub read-code-spec : {M : Type 1} → statement M
-read-code-spec =
-    tie.close (tie.spec read-on-requires read-on-requires-2 read-on-requires-3 same-length returns)
+read-code-spec = tie.close (tie.spec (λ c κs. search needs) read-on-requires-2 read-on-requires-3 (λ c. search needs) returns)

@@ -10,40 +10,10 @@ use Rattle.reporting.proofs.CodeLaws.{on-to}
 use Rattle.reporting.proofs.code.read_on.Statement.{statement}
 use Rattle.reporting.proofs.code.read_on.Tie as tie
 
-slice-reshare-prefix-announced : tie.Need-slice-reshare-prefix-announced
-slice-reshare-prefix-announced c = search needs
-
-slice-aggregate-announced : tie.Need-slice-aggregate-announced
-slice-aggregate-announced c = simp length-take (omega arith)
-
-announced-requires : tie.Need-announced-requires
-announced-requires c κs = search needs
-
-same-length : tie.Need-same-length
-same-length c = search needs
-
-returns : tie.Need-returns
-returns c = search needs
-
-sub-read-full : tie.Need-sub-read-full
-sub-read-full c = search needs
-
-part-read-full-start : tie.Need-part-read-full-start
-part-read-full-start c = search needs
-
 part-read-full-end : tie.Need-part-read-full-end
 part-read-full-end c =
     let args = c .before .before .before .before .args in
     omega (arith, c .before .announced .ensures, announced-most (take (args .size) (args .file .now)))
-
-read-full-requires : tie.Need-read-full-requires
-read-full-requires c κs = search needs
-
-add-result : tie.Need-add-result
-add-result c = search needs
-
-same-length-2 : tie.Need-same-length-2
-same-length-2 c = search needs
 
 returns-2 : tie.Need-returns-2
 returns-2 c =
@@ -64,15 +34,15 @@ pub read-on-spec : {M : Type 1} → statement M
 read-on-spec =
     tie.close
     (tie.spec
-    slice-reshare-prefix-announced
-    slice-aggregate-announced
-    announced-requires
-    same-length
-    returns
-    sub-read-full
-    part-read-full-start
+    (λ c. search needs)
+    (λ c. simp length-take (omega arith))
+    (λ c κs. search needs)
+    (λ c. search needs)
+    (λ c. search needs)
+    (λ c. search needs)
+    (λ c. search needs)
     part-read-full-end
-    read-full-requires
-    add-result
-    same-length-2
+    (λ c κs. search needs)
+    (λ c. search needs)
+    (λ c. search needs)
     returns-2)

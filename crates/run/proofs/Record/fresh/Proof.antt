@@ -3,8 +3,5 @@ use mathlib.Core.Path.{refl}
 use Rattle.run.proofs.Record.fresh.Statement.{statement}
 use Rattle.run.proofs.Record.fresh.Tie as tie
 
-returns : tie.Need-returns
-returns c = refl
-
 pub fresh-spec : {M : Type 1} → statement M
-fresh-spec = tie.close (tie.spec returns)
+fresh-spec = tie.close (tie.spec (λ c. refl))

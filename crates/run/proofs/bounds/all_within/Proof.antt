@@ -22,15 +22,6 @@ Inv-loop xs limit i₀ i = (i ≤ length xs) × (eachWithin (natAbs (toZ w32 lim
 abbrev μ-loop : tie.MeasureT-loop
 μ-loop xs limit i₀ i = length xs - i
 
-loop-holds : tie.Need-loop-holds Inv-loop μ-loop
-loop-holds c = (omega arith, refl)
-
-mul-within : tie.Need-mul-within Inv-loop μ-loop
-mul-within c = search needs
-
-shared-slice-copy-out-within : tie.Need-shared-slice-copy-out-within Inv-loop μ-loop
-shared-slice-copy-out-within c = search needs
-
 within-requires : tie.Need-within-requires Inv-loop μ-loop
 within-requires c κs = rw (toZ-ofZ (c .before .before .before .fits .limit)) (c .before .before .before .pre)
 
@@ -47,12 +38,6 @@ returns c =
     let n = natAbs (toZ w32 (ofZ w32 (start .args .limit))) in
     sym (ap (λ z. eachWithin (natAbs z) (start .args .xs .now)) (sym (toZ-ofZ (start .fits .limit))) ∙ c .before .before .before .before .loop .inv .1
     ∙ each-fails (pos 0) (λ x. leb (natAbs x) n) (eachWithin n) refl (λ x xs. refl) _ _ (c .before .before .before .loop-test .taken) (sym (tested (c .before)) ∙ not-true _ (c .if1 .taken)))
-
-add-i : tie.Need-add-i Inv-loop μ-loop
-add-i c = omega arith
-
-loop-less : tie.Need-loop-less Inv-loop μ-loop
-loop-less c = omega arith
 
 loop-again : tie.Need-loop-again Inv-loop μ-loop
 loop-again c =
@@ -72,12 +57,12 @@ all-within-spec =
     (tie.spec
     Inv-loop
     μ-loop
-    loop-holds
-    mul-within
-    shared-slice-copy-out-within
+    (λ c. (omega arith, refl))
+    (λ c. search needs)
+    (λ c. search needs)
     within-requires
     returns
-    add-i
-    loop-less
+    (λ c. omega arith)
+    (λ c. omega arith)
     loop-again
     returns-2)

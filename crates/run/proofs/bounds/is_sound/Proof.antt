@@ -25,14 +25,8 @@ returns c =
 early : (c : tie.Else1) → c .before .args .rounds < roundLimit
 early c = omega arith
 
-all-within-requires : tie.Need-all-within-requires
-all-within-requires c κs = search needs
-
 returns-2 : tie.Need-returns-2
 returns-2 c = sound-copies _ _ _ (early (c .before .before)) _ (sym (c .before .all-within .ensures) ∙ not-true _ (c .if2 .taken))
-
-mul-all-within : tie.Need-mul-all-within
-mul-all-within c = search needs
 
 cast-all-within : tie.Need-cast-all-within
 cast-all-within c = search needs
@@ -54,9 +48,9 @@ is-sound-spec =
     tie.close
     (tie.spec
     returns
-    all-within-requires
+    (λ c κs. search needs)
     returns-2
-    mul-all-within
+    (λ c. search needs)
     cast-all-within
     all-within-requires-2
     returns-3)

@@ -16,21 +16,6 @@ Inv-loop xs₀ e i₀ xs i = (xs ≡ over (zeros i) xs₀) × (i ≤ e) × (leng
 abbrev μ-loop : tie.MeasureT-loop
 μ-loop xs₀ e i₀ xs i = e - i
 
-loop-holds : tie.Need-loop-holds Inv-loop μ-loop
-loop-holds c = (refl, omega arith, refl)
-
-mul-xs : tie.Need-mul-xs Inv-loop μ-loop
-mul-xs c = search needs
-
-slice-set-of-xs : tie.Need-slice-set-of-xs Inv-loop μ-loop
-slice-set-of-xs c = omega arith
-
-add-i : tie.Need-add-i Inv-loop μ-loop
-add-i c = search needs
-
-loop-less : tie.Need-loop-less Inv-loop μ-loop
-loop-less c = omega arith
-
 loop-again : tie.Need-loop-again Inv-loop μ-loop
 loop-again c = (
   ap (λ l. set l (c .before .loop .i) (pos 0)) (c .before .loop .inv .0) ∙ over-more (c .before .loop .i) (pos 0) (c .before .before .args .xs .now) (omega arith),
@@ -52,11 +37,11 @@ clear-first-spec =
     (tie.spec
     Inv-loop
     μ-loop
-    loop-holds
-    mul-xs
-    slice-set-of-xs
-    add-i
-    loop-less
+    (λ c. (refl, omega arith, refl))
+    (λ c. search needs)
+    (λ c. omega arith)
+    (λ c. search needs)
+    (λ c. omega arith)
     loop-again
     same-length
     returns)

@@ -10,18 +10,6 @@ use Rattle.run.specs.Ending.{foundOf, closing}
 use Rattle.run.proofs.ending.closes.Statement.{statement}
 use Rattle.run.proofs.ending.closes.Tie as tie
 
-enum-told : tie.Need-enum-told
-enum-told c = search needs
-
-enum-known-what : tie.Need-enum-known-what
-enum-known-what c = search needs
-
-is-zero-requires : tie.Need-is-zero-requires
-is-zero-requires c κs = search needs
-
-returns : tie.Need-returns
-returns c = search needs
-
 -- the gap fits its type
 gap-fits : (c : tie.After-known-told) → SFits w64 (c .before .what .given .0 .0)
 gap-fits c = fit w64 (c .before .what .given .0 .0) (search needs)
@@ -33,8 +21,8 @@ pub closes-spec : {M : Type 1} → statement M
 closes-spec =
     tie.close
     (tie.spec
-    enum-told
-    enum-known-what
-    is-zero-requires
-    returns
+    (λ c. search needs)
+    (λ c. search needs)
+    (λ c κs. search needs)
+    (λ c. search needs)
     returns-2)

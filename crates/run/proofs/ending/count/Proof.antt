@@ -10,9 +10,6 @@ use Rattle.run.proofs.EndingLaws.{counted-next}
 use Rattle.run.proofs.ending.count.Statement.{statement}
 use Rattle.run.proofs.ending.count.Tie as tie
 
-add-result : tie.Need-add-result
-add-result c = search needs
-
 returns : tie.Need-returns
 returns c =
     let k = c .before .args .rounds in
@@ -24,4 +21,4 @@ returns-2 c =
     sym (ap (λ b. cond b (suc k) k) (le-ltb k roundLimit (c .if1 .left)))
 
 pub count-spec : {M : Type 1} → statement M
-count-spec = tie.close (tie.spec add-result returns returns-2)
+count-spec = tie.close (tie.spec (λ c. search needs) returns returns-2)

@@ -5,12 +5,6 @@ use Rattle.run.specs.Ending.{closing, foundOf, statusBy}
 use Rattle.run.proofs.ending.record_after.Statement.{statement}
 use Rattle.run.proofs.ending.record_after.Tie as tie
 
-count-requires : tie.Need-count-requires
-count-requires c κs = search needs
-
-status-after-requires : tie.Need-status-after-requires
-status-after-requires c κs = search needs
-
 returns : tie.Need-returns
 returns c =
     let rounds = c .before .count .result in
@@ -18,4 +12,4 @@ returns c =
     ∙ ap (λ k. record { rounds = k; status = statusBy (closing (foundOf (c .before .before .args .what))) k }) (c .before .count .ensures)
 
 pub record-after-spec : {M : Type 1} → statement M
-record-after-spec = tie.close (tie.spec count-requires status-after-requires returns)
+record-after-spec = tie.close (tie.spec (λ c κs. search needs) (λ c κs. search needs) returns)

@@ -9,12 +9,6 @@ use Rattle.run.specs.Ending.{statusBy}
 use Rattle.run.proofs.ending.status_after.Statement.{statement}
 use Rattle.run.proofs.ending.status_after.Tie as tie
 
-closes-requires : tie.Need-closes-requires
-closes-requires c κs = search needs
-
-returns : tie.Need-returns
-returns c = search needs
-
 -- not closed: spent or running by the number of rounds
 returns-2 : tie.Need-returns-2
 returns-2 c =
@@ -27,4 +21,4 @@ returns-3 c =
     sym (ap (λ b. statusBy b n) (sym (c .before .before .closes .ensures) ∙ c .before .if1 .left) ∙ ap (λ b. cond b spent running) (lt-leb roundLimit n (c .if2 .left)))
 
 pub status-after-spec : {M : Type 1} → statement M
-status-after-spec = tie.close (tie.spec closes-requires returns returns-2 returns-3)
+status-after-spec = tie.close (tie.spec (λ c κs. search needs) (λ c. search needs) returns-2 returns-3)

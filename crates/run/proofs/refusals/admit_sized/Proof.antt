@@ -11,9 +11,6 @@ use Rattle.run.proofs.AdmitLaws.{turned-down, answers-asked, answers-sh
 use Rattle.run.proofs.refusals.admit_sized.Statement.{statement}
 use Rattle.run.proofs.refusals.admit_sized.Tie as tie
 
-frame-requires : tie.Need-frame-requires
-frame-requires c κs = tt
-
 returns : tie.Need-returns
 unfolding admitsBy
 returns c = turned-down _ _ _ (c .if1 .taken) (c .before .frame .ensures)
@@ -32,9 +29,6 @@ returns-3 c =
     let framed = sym (w .before .before .frame .ensures) ∙ w .before .if1 .left in
     answers-short _ _ _ _ _ _ framed (le-leb _ _ (w .if2 .left)) (sym (c .before .long-enough .ensures) ∙ not-true _ (c .if3 .taken))
 
-ended-refusal-requires : tie.Need-ended-refusal-requires
-ended-refusal-requires c κs = tt
-
 slice-aggregate-damaged-refusal : tie.Need-slice-aggregate-damaged-refusal
 slice-aggregate-damaged-refusal c =
     let room = fits-part _ _ (sym (c .before .before .before .long-enough .ensures) ∙ not-false _ (c .before .before .if3 .left)) in
@@ -44,12 +38,6 @@ slice-aggregate-damaged-refusal-2 : tie.Need-slice-aggregate-damaged-refusal-2
 slice-aggregate-damaged-refusal-2 c =
     let room = fits-part _ _ (sym (c .before .before .before .before .long-enough .ensures) ∙ not-false _ (c .before .before .before .if3 .left)) in
     simp length-take (omega (arith, room offsets))
-
-damaged-refusal-requires : tie.Need-damaged-refusal-requires
-damaged-refusal-requires c κs = tt
-
-first-of-requires : tie.Need-first-of-requires
-first-of-requires c κs = tt
 
 -- the number is the first of the two, 42 before 43
 first-is : (c : tie.After-first-of) → c .first-of .result ≡ orElse (c .before .before .before .before .ended-refusal .result) (c .before .damaged-refusal .result)
@@ -79,15 +67,15 @@ pub admit-sized-spec : {M : Type 1} → statement M
 admit-sized-spec =
     tie.close
     (tie.spec
-    frame-requires
+    (λ c κs. tt)
     returns
     returns-2
     long-enough-requires
     returns-3
-    ended-refusal-requires
+    (λ c κs. tt)
     slice-aggregate-damaged-refusal
     slice-aggregate-damaged-refusal-2
-    damaged-refusal-requires
-    first-of-requires
+    (λ c κs. tt)
+    (λ c κs. tt)
     returns-4
     returns-5)

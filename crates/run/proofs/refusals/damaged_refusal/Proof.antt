@@ -4,9 +4,6 @@ use Rattle.inputs.proofs.RefusalLaws.{test-holds, test-fails}
 use Rattle.run.proofs.refusals.damaged_refusal.Statement.{statement}
 use Rattle.run.proofs.refusals.damaged_refusal.Tie as tie
 
-is-sound-requires : tie.Need-is-sound-requires
-is-sound-requires c κs = tt
-
 returns : tie.Need-returns
 returns c = test-holds _ _ _ (sym (c .before .is-sound .ensures) ∙ c .if1 .taken)
 
@@ -14,4 +11,4 @@ returns-2 : tie.Need-returns-2
 returns-2 c = test-fails _ _ _ (sym (c .before .is-sound .ensures) ∙ c .if1 .left)
 
 pub damaged-refusal-spec : {M : Type 1} → statement M
-damaged-refusal-spec = tie.close (tie.spec is-sound-requires returns returns-2)
+damaged-refusal-spec = tie.close (tie.spec (λ c κs. tt) returns returns-2)

@@ -20,17 +20,11 @@ Inv-loop code m n at₀ j₀ at j =
 abbrev μ-loop : tie.MeasureT-loop
 μ-loop code m n at₀ j₀ at j = m - j
 
-contents-end-requires : tie.Need-contents-end-requires Inv-loop μ-loop
-contents-end-requires c κs = omega arith
-
 loop-holds : tie.Need-loop-holds Inv-loop μ-loop
 loop-holds c =
     let args = c .before .before .args in
     let all = contents-all (args .code .now) (args .m) in
     (omega arith, omega (arith, ap totalCount all), ap₂ (λ a es. membersRight (args .n) (bodies (args .code .now) a es)) (sym (c .contents-end .ensures)) (sym all))
-
-count-at-requires : tie.Need-count-at-requires Inv-loop μ-loop
-count-at-requires c κs = omega arith
 
 ascending-requires : tie.Need-ascending-requires Inv-loop μ-loop
 ascending-requires c κs =
@@ -43,19 +37,10 @@ returns c =
     ∙ members-more _ _ _ _ _ _ (c .before .before .before .loop-test .taken) (c .before .before .count-at .ensures .0)
     ∙ and-fails _ _ (sym (c .before .ascending .ensures) ∙ not-true _ (c .if1 .taken)))
 
-mul-at : tie.Need-mul-at Inv-loop μ-loop
-mul-at c = omega arith
-
 add-at : tie.Need-add-at Inv-loop μ-loop
 add-at c =
     let args = c .before .before .before .before .before .before .before .args in
     omega (arith, total-more (args .code .now) (args .m) (c .before .before .before .before .loop .j) (c .before .before .before .loop-test .taken))
-
-add-j : tie.Need-add-j Inv-loop μ-loop
-add-j c = omega arith
-
-loop-less : tie.Need-loop-less Inv-loop μ-loop
-loop-less c = omega arith
 
 loop-again : tie.Need-loop-again Inv-loop μ-loop
 loop-again c = (
@@ -76,14 +61,14 @@ members-right-spec =
     (tie.spec
     Inv-loop
     μ-loop
-    contents-end-requires
+    (λ c κs. omega arith)
     loop-holds
-    count-at-requires
+    (λ c κs. omega arith)
     ascending-requires
     returns
-    mul-at
+    (λ c. omega arith)
     add-at
-    add-j
-    loop-less
+    (λ c. omega arith)
+    (λ c. omega arith)
     loop-again
     returns-2)

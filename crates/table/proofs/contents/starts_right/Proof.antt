@@ -24,26 +24,11 @@ loop-holds c =
     let all = contents-all (c .before .args .code .now) (c .before .args .m) in
     (omega arith, omega arith, omega (arith, ap totalCount all), sym (ap (startsRight 0) all))
 
-start-at-requires : tie.Need-start-at-requires Inv-loop μ-loop
-start-at-requires c κs = omega arith
-
 returns : tie.Need-returns Inv-loop μ-loop
 returns c =
     sym (and-fails _ _ (c .before .before .before .loop .inv .3
     ∙ starts-more _ _ _ _ _ _ (c .before .before .loop-test .taken) (c .before .start-at .ensures) refl
     ∙ and-fails _ _ (ne-eqb _ _ (c .if1 .taken))))
-
-count-at-requires : tie.Need-count-at-requires Inv-loop μ-loop
-count-at-requires c κs = omega arith
-
-add-at : tie.Need-add-at Inv-loop μ-loop
-add-at c = omega arith
-
-add-j : tie.Need-add-j Inv-loop μ-loop
-add-j c = omega arith
-
-loop-less : tie.Need-loop-less Inv-loop μ-loop
-loop-less c = omega arith
 
 loop-again : tie.Need-loop-again Inv-loop μ-loop
 loop-again c =
@@ -72,11 +57,11 @@ starts-right-spec =
     Inv-loop
     μ-loop
     loop-holds
-    start-at-requires
+    (λ c κs. omega arith)
     returns
-    count-at-requires
-    add-at
-    add-j
-    loop-less
+    (λ c κs. omega arith)
+    (λ c. omega arith)
+    (λ c. omega arith)
+    (λ c. omega arith)
     loop-again
     returns-2)

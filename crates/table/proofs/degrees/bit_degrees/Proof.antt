@@ -14,32 +14,11 @@ Inv-loop code at e degrees₀ k₀ degrees k = (k ≤ e) × Counted degrees (num
 abbrev μ-loop : tie.MeasureT-loop
 μ-loop code at e degrees₀ k₀ degrees k = e - k
 
-loop-holds : tie.Need-loop-holds Inv-loop μ-loop
-loop-holds c = (omega arith, counted-none _ _ _)
-
-member-at-requires : tie.Need-member-at-requires Inv-loop μ-loop
-member-at-requires c κs = omega arith
-
-mul-degrees : tie.Need-mul-degrees Inv-loop μ-loop
-mul-degrees c = search needs
-
-array-read-degrees : tie.Need-array-read-degrees Inv-loop μ-loop
-array-read-degrees c = search needs
-
 add-degrees : tie.Need-add-degrees Inv-loop μ-loop
 add-degrees c =
     let args = c .before .before .before .before .before .args in
     let x = c .before .member-at .result in
     omega (arith, c .before .before .before .loop .inv .1 .1 x (c .if1 .taken), degree-most x (args .code .now) (args .at) (args .e))
-
-array-write-degrees : tie.Need-array-write-degrees Inv-loop μ-loop
-array-write-degrees c = search needs
-
-add-k : tie.Need-add-k Inv-loop μ-loop
-add-k c = omega arith
-
-loop-less : tie.Need-loop-less Inv-loop μ-loop
-loop-less c = omega arith
 
 loop-again : tie.Need-loop-again Inv-loop μ-loop
 loop-again c =
@@ -67,13 +46,13 @@ bit-degrees-spec =
     (tie.spec
     Inv-loop
     μ-loop
-    loop-holds
-    member-at-requires
-    mul-degrees
-    array-read-degrees
+    (λ c. (omega arith, counted-none _ _ _))
+    (λ c κs. omega arith)
+    (λ c. search needs)
+    (λ c. search needs)
     add-degrees
-    array-write-degrees
-    add-k
-    loop-less
+    (λ c. search needs)
+    (λ c. omega arith)
+    (λ c. omega arith)
     loop-again
     returns)

@@ -6,14 +6,8 @@ use Rattle.table.proofs.DegreesLaws.{bits-same}
 use Rattle.table.proofs.degrees.bits_right.Statement.{statement}
 use Rattle.table.proofs.degrees.bits_right.Tie as tie
 
-bit-degrees-requires : tie.Need-bit-degrees-requires
-bit-degrees-requires c κs = (omega arith, omega arith)
-
-degrees-right-requires : tie.Need-degrees-right-requires
-degrees-right-requires c κs = omega arith
-
 returns : tie.Need-returns
 returns c = c .degrees-right .ensures ∙ bits-same _ _ maxBits (c .before .before .bit-degrees .ensures) 0 _ (omega arith)
 
 pub bits-right-spec : {M : Type 1} → statement M
-bits-right-spec = tie.close (tie.spec bit-degrees-requires degrees-right-requires returns)
+bits-right-spec = tie.close (tie.spec (λ c κs. (omega arith, omega arith)) (λ c κs. omega arith) returns)

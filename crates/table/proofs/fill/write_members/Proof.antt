@@ -24,24 +24,6 @@ loop-holds c =
     let args = c .before .before .args in
     (omega arith, refl, ap (λ l. l ++ drop (args .e) (args .members .now)) (numbers-all (args .code .now) (args .at) (args .e)))
 
-member-at-requires : tie.Need-member-at-requires Inv-loop μ-loop
-member-at-requires c κs = omega arith
-
-cast-members : tie.Need-cast-members Inv-loop μ-loop
-cast-members c = omega arith
-
-mul-members : tie.Need-mul-members Inv-loop μ-loop
-mul-members c = search needs
-
-slice-write-members : tie.Need-slice-write-members Inv-loop μ-loop
-slice-write-members c = search needs
-
-add-k : tie.Need-add-k Inv-loop μ-loop
-add-k c = omega arith
-
-loop-less : tie.Need-loop-less Inv-loop μ-loop
-loop-less c = omega arith
-
 loop-again : tie.Need-loop-again Inv-loop μ-loop
 loop-again c =
     let args = c .before .before .before .before .before .args in
@@ -56,9 +38,6 @@ loop-again c =
           (ap (λ x. x ∷ rest) (c .member-at .ensures .0) ∙ sym (numbers-more (args .code .now) (args .at) (args .e) (loop .k) test))
           ∙ loop .inv .2,
     )
-
-same-length : tie.Need-same-length Inv-loop μ-loop
-same-length c = search needs
 
 returns : tie.Need-returns Inv-loop μ-loop
 returns c =
@@ -75,12 +54,12 @@ write-members-spec =
     Inv-loop
     μ-loop
     loop-holds
-    member-at-requires
-    cast-members
-    mul-members
-    slice-write-members
-    add-k
-    loop-less
+    (λ c κs. omega arith)
+    (λ c. omega arith)
+    (λ c. search needs)
+    (λ c. search needs)
+    (λ c. omega arith)
+    (λ c. omega arith)
     loop-again
-    same-length
+    (λ c. search needs)
     returns)

@@ -26,27 +26,6 @@ loop-holds c =
     let args = c .before .before .args in
     (omega arith, refl, omega (arith, ap totalCount (contents-all (args .code .now) (args .m))), ap (λ l. l ++ drop (args .m + 1) (args .starts .now)) (starts-left-all (args .code .now) (args .m)))
 
-cast-starts : tie.Need-cast-starts Inv-loop μ-loop
-cast-starts c = omega arith
-
-mul-starts : tie.Need-mul-starts Inv-loop μ-loop
-mul-starts c = search needs
-
-slice-write-starts : tie.Need-slice-write-starts Inv-loop μ-loop
-slice-write-starts c = search needs
-
-count-at-requires : tie.Need-count-at-requires Inv-loop μ-loop
-count-at-requires c κs = omega arith
-
-add-at : tie.Need-add-at Inv-loop μ-loop
-add-at c = omega arith
-
-add-j : tie.Need-add-j Inv-loop μ-loop
-add-j c = omega arith
-
-loop-less : tie.Need-loop-less Inv-loop μ-loop
-loop-less c = omega arith
-
 loop-again : tie.Need-loop-again Inv-loop μ-loop
 loop-again c =
     let args = c .before .before .before .before .before .args in
@@ -62,18 +41,6 @@ loop-again c =
           (sym (starts-left-more (args .code .now) (args .m) (loop .j) (loop .at) (c .count-at .result) test count))
           ∙ loop .inv .3,
     )
-
-cast-starts-2 : tie.Need-cast-starts-2 Inv-loop μ-loop
-cast-starts-2 c = omega arith
-
-mul-starts-2 : tie.Need-mul-starts-2 Inv-loop μ-loop
-mul-starts-2 c = search needs
-
-slice-write-starts-2 : tie.Need-slice-write-starts-2 Inv-loop μ-loop
-slice-write-starts-2 c = search needs
-
-same-length : tie.Need-same-length Inv-loop μ-loop
-same-length c = search needs
 
 returns : tie.Need-returns Inv-loop μ-loop
 returns c =
@@ -94,16 +61,16 @@ write-starts-spec =
     Inv-loop
     μ-loop
     loop-holds
-    cast-starts
-    mul-starts
-    slice-write-starts
-    count-at-requires
-    add-at
-    add-j
-    loop-less
+    (λ c. omega arith)
+    (λ c. search needs)
+    (λ c. search needs)
+    (λ c κs. omega arith)
+    (λ c. omega arith)
+    (λ c. omega arith)
+    (λ c. omega arith)
     loop-again
-    cast-starts-2
-    mul-starts-2
-    slice-write-starts-2
-    same-length
+    (λ c. omega arith)
+    (λ c. search needs)
+    (λ c. search needs)
+    (λ c. search needs)
     returns)

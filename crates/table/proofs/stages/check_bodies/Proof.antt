@@ -7,17 +7,8 @@ use Rattle.table.proofs.StageLaws.{bits-edges, table-reply}
 use Rattle.table.proofs.stages.check_bodies.Statement.{statement}
 use Rattle.table.proofs.stages.check_bodies.Tie as tie
 
-members-right-requires : tie.Need-members-right-requires
-members-right-requires c κs = (omega arith, omega arith)
-
 returns : tie.Need-returns
 returns c = sym (must-fails _ _ _ _ (sym (c .before .members-right .ensures) ∙ not-true _ (c .if1 .taken)))
-
-contents-end-requires : tie.Need-contents-end-requires
-contents-end-requires c κs = omega arith
-
-bits-right-requires : tie.Need-bits-right-requires
-bits-right-requires c κs = (omega arith, omega arith, omega arith)
 
 returns-2 : tie.Need-returns-2
 returns-2 c =
@@ -38,9 +29,9 @@ pub check-bodies-spec : {M : Type 1} → statement M
 check-bodies-spec =
     tie.close
     (tie.spec
-    members-right-requires
+    (λ c κs. (omega arith, omega arith))
     returns
-    contents-end-requires
-    bits-right-requires
+    (λ c κs. omega arith)
+    (λ c κs. (omega arith, omega arith, omega arith))
     returns-2
     returns-3)

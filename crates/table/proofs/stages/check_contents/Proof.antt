@@ -13,12 +13,6 @@ use Rattle.table.proofs.StageLaws.{starts-few}
 use Rattle.table.proofs.stages.check_contents.Statement.{statement}
 use Rattle.table.proofs.stages.check_contents.Tie as tie
 
-counts-right-requires : tie.Need-counts-right-requires
-counts-right-requires c κs = omega arith
-
-starts-right-requires : tie.Need-starts-right-requires
-starts-right-requires c κs = (omega arith, omega arith)
-
 returns : tie.Need-returns
 returns c = sym (must-fails _ _ _ _ (sym (c .before .before .counts-right .ensures) ∙ not-true _ (c .if1 .taken)))
 
@@ -28,12 +22,6 @@ counts c = sym (c .before .before .counts-right .ensures) ∙ not-false _ (c .if
 
 returns-2 : tie.Need-returns-2
 returns-2 c = sym (must-holds _ _ _ _ (counts (c .before)) ∙ must-fails _ _ _ _ (sym (c .before .before .starts-right .ensures) ∙ not-true _ (c .if2 .taken)))
-
-total-count-requires : tie.Need-total-count-requires
-total-count-requires c κs = (omega arith, omega arith)
-
-contents-end-requires : tie.Need-contents-end-requires
-contents-end-requires c κs = omega arith
 
 few : (c : tie.Else2) → totalCount (contents (c .before .before .before .before .before .args .code .now) 0 (c .before .before .before .before .before .args .m)) ≤ maxEdges
 few c = starts-few _ (sym (c .before .before .starts-right .ensures) ∙ not-false _ (c .if2 .left))
@@ -67,12 +55,12 @@ pub check-contents-spec : {M : Type 1} → statement M
 check-contents-spec =
     tie.close
     (tie.spec
-    counts-right-requires
-    starts-right-requires
+    (λ c κs. omega arith)
+    (λ c κs. (omega arith, omega arith))
     returns
     returns-2
-    total-count-requires
-    contents-end-requires
+    (λ c κs. (omega arith, omega arith))
+    (λ c κs. omega arith)
     mul-if3
     add-if3
     returns-3

@@ -11,15 +11,6 @@ returns c =
     let a = c .before .before .args in
     cut-none (a .bytes .now) (a .at) (a .mask) (le32 (a .mask)) (c .if1 .taken)
 
-put32-requires : tie.Need-put32-requires
-put32-requires c κs = search needs
-
-add-result : tie.Need-add-result
-add-result c = search needs
-
-same-length : tie.Need-same-length
-same-length c = search needs
-
 returns-2 : tie.Need-returns-2
 returns-2 c =
     let a = c .before .before .before .before .before .before .args in
@@ -27,4 +18,4 @@ returns-2 c =
     (c .before .before .put32 .ensures ∙ e .0, e .1)
 
 pub put-body-spec : {M : Type 1} → statement M
-put-body-spec = tie.close (tie.spec returns put32-requires add-result same-length returns-2)
+put-body-spec = tie.close (tie.spec returns (λ c κs. search needs) (λ c. search needs) (λ c. search needs) returns-2)

@@ -14,21 +14,6 @@ returns c =
     let a = c .before .before .args in
     cut-none (a .bytes .now) (a .at) (a .mask) (le16 (a .j) ++ le32 (a .b)) (c .if1 .taken)
 
-put16-requires : tie.Need-put16-requires
-put16-requires c κs = search needs
-
-add-put32 : tie.Need-add-put32
-add-put32 c = search needs
-
-put32-requires : tie.Need-put32-requires
-put32-requires c κs = search needs
-
-add-result : tie.Need-add-result
-add-result c = search needs
-
-same-length : tie.Need-same-length
-same-length c = search needs
-
 returns-2 : tie.Need-returns-2
 returns-2 c =
     let a = c .before .before .before .before .before .before .before .before .before .before .args in
@@ -39,4 +24,11 @@ returns-2 c =
 pub put-content-spec : {M : Type 1} → statement M
 put-content-spec =
     tie.close
-    (tie.spec returns put16-requires add-put32 put32-requires add-result same-length returns-2)
+    (tie.spec
+    returns
+    (λ c κs. search needs)
+    (λ c. search needs)
+    (λ c κs. search needs)
+    (λ c. search needs)
+    (λ c. search needs)
+    returns-2)

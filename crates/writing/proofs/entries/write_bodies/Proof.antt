@@ -20,23 +20,8 @@ Inv-loop masks from bytes₀ at₀ j₀ bytes at j =
 abbrev μ-loop : tie.MeasureT-loop
 μ-loop masks from bytes₀ at₀ j₀ bytes at j = length masks - j
 
-loop-holds : tie.Need-loop-holds Inv-loop μ-loop
-loop-holds c = (omega arith, refl, omega arith, refl)
-
-mul-put-body : tie.Need-mul-put-body Inv-loop μ-loop
-mul-put-body c = search needs
-
-shared-slice-read-put-body : tie.Need-shared-slice-read-put-body Inv-loop μ-loop
-shared-slice-read-put-body c = search needs
-
 put-body-requires : tie.Need-put-body-requires Inv-loop μ-loop
 put-body-requires c κs = omega (arith, c .before .before .before .loop .inv .2)
-
-add-j : tie.Need-add-j Inv-loop μ-loop
-add-j c = search needs
-
-loop-less : tie.Need-loop-less Inv-loop μ-loop
-loop-less c = search needs
 
 loop-again : tie.Need-loop-again Inv-loop μ-loop
 loop-again c =
@@ -53,9 +38,6 @@ loop-again c =
           ∙ ap (sets (loop .bytes) (loop .at)) (sym (bodies-next (args .masks .now) (loop .j) h)) ∙ loop .inv .3,
     )
 
-same-length : tie.Need-same-length Inv-loop μ-loop
-same-length c = search needs
-
 returns : tie.Need-returns Inv-loop μ-loop
 returns c =
     let args = c .before .before .before .before .args in
@@ -68,12 +50,12 @@ write-bodies-spec =
     (tie.spec
     Inv-loop
     μ-loop
-    loop-holds
-    mul-put-body
-    shared-slice-read-put-body
+    (λ c. (omega arith, refl, omega arith, refl))
+    (λ c. search needs)
+    (λ c. search needs)
     put-body-requires
-    add-j
-    loop-less
+    (λ c. search needs)
+    (λ c. search needs)
     loop-again
-    same-length
+    (λ c. search needs)
     returns)

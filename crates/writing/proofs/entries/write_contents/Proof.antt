@@ -22,29 +22,8 @@ Inv-loop multipliers masks from bytes₀ at₀ j₀ bytes at j =
 abbrev μ-loop : tie.MeasureT-loop
 μ-loop multipliers masks from bytes₀ at₀ j₀ bytes at j = length masks - j
 
-loop-holds : tie.Need-loop-holds Inv-loop μ-loop
-loop-holds c = (omega arith, refl, omega arith, refl, refl)
-
-mul-put-content : tie.Need-mul-put-content Inv-loop μ-loop
-mul-put-content c = search needs
-
-shared-slice-read-put-content : tie.Need-shared-slice-read-put-content Inv-loop μ-loop
-shared-slice-read-put-content c = search needs
-
-mul-put-content-2 : tie.Need-mul-put-content-2 Inv-loop μ-loop
-mul-put-content-2 c = search needs
-
-shared-slice-read-put-content-2 : tie.Need-shared-slice-read-put-content-2 Inv-loop μ-loop
-shared-slice-read-put-content-2 c = search needs
-
 put-content-requires : tie.Need-put-content-requires Inv-loop μ-loop
 put-content-requires c κs = omega (arith, c .before .before .before .before .loop .inv .2)
-
-add-j : tie.Need-add-j Inv-loop μ-loop
-add-j c = search needs
-
-loop-less : tie.Need-loop-less Inv-loop μ-loop
-loop-less c = search needs
 
 loop-again : tie.Need-loop-again Inv-loop μ-loop
 loop-again c =
@@ -66,9 +45,6 @@ loop-again c =
           ∙ ap (sets (loop .bytes) (loop .at)) (sym next) ∙ loop .inv .4,
     )
 
-same-length : tie.Need-same-length Inv-loop μ-loop
-same-length c = search needs
-
 returns : tie.Need-returns Inv-loop μ-loop
 returns c =
     let args = c .before .before .before .before .before .args in
@@ -83,14 +59,14 @@ write-contents-spec =
     (tie.spec
     Inv-loop
     μ-loop
-    loop-holds
-    mul-put-content
-    shared-slice-read-put-content
-    mul-put-content-2
-    shared-slice-read-put-content-2
+    (λ c. (omega arith, refl, omega arith, refl, refl))
+    (λ c. search needs)
+    (λ c. search needs)
+    (λ c. search needs)
+    (λ c. search needs)
     put-content-requires
-    add-j
-    loop-less
+    (λ c. search needs)
+    (λ c. search needs)
     loop-again
-    same-length
+    (λ c. search needs)
     returns)

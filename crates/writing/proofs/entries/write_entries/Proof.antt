@@ -8,25 +8,10 @@ use Rattle.writing.proofs.CertificateLaws.{contents-stop, certificate-a
 use Rattle.writing.proofs.entries.write_entries.Statement.{statement}
 use Rattle.writing.proofs.entries.write_entries.Tie as tie
 
-count-cuts-requires : tie.Need-count-cuts-requires
-count-cuts-requires c κs = search needs
-
-put16-requires : tie.Need-put16-requires
-put16-requires c κs = search needs
-
-put16-requires-2 : tie.Need-put16-requires-2
-put16-requires-2 c κs = search needs
-
-write-contents-requires : tie.Need-write-contents-requires
-write-contents-requires c κs = search needs
-
 write-bodies-requires : tie.Need-write-bodies-requires
 write-bodies-requires c κs =
     let args = c .before .before .before .before .before .before .before .before .before .before .before .before .before .before .before .before .before .args in
     omega (arith, contents-stop (args .multipliers .now) (args .masks .now) (c .before .before .before .write-contents .result) (c .before .before .before .write-contents .ensures .1))
-
-same-length : tie.Need-same-length
-same-length c = search needs
 
 returns : tie.Need-returns
 returns c =
@@ -44,10 +29,10 @@ pub write-entries-spec : {M : Type 1} → statement M
 write-entries-spec =
     tie.close
     (tie.spec
-    count-cuts-requires
-    put16-requires
-    put16-requires-2
-    write-contents-requires
+    (λ c κs. search needs)
+    (λ c κs. search needs)
+    (λ c κs. search needs)
+    (λ c κs. search needs)
     write-bodies-requires
-    same-length
+    (λ c. search needs)
     returns)

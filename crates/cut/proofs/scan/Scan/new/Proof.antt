@@ -3,8 +3,5 @@ use mathlib.Core.Path.{refl}
 use Rattle.cut.proofs.scan.Scan.new.Statement.{statement}
 use Rattle.cut.proofs.scan.Scan.new.Tie as tie
 
-returns : tie.Need-returns
-returns c = (refl, refl, refl, refl)
-
 pub new-spec : {M : Type 1} → statement M
-new-spec = tie.close (tie.spec returns)
+new-spec = tie.close (tie.spec (λ c. (refl, refl, refl, refl)))

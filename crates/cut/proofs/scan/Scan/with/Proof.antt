@@ -17,9 +17,6 @@ use Rattle.cut.proofs.ScanLaws.{with-higher, with-other}
 use Rattle.cut.proofs.scan.Scan.with.Statement.{statement}
 use Rattle.cut.proofs.scan.Scan.with.Tie as tie
 
-sign-bit-requires : tie.Need-sign-bit-requires
-sign-bit-requires c κs = search needs
-
 bit-is : (c : tie.After-sign-bit) → c .sign-bit .result ≡ digit (isNeg (c .before .args .x)) * 2 ^ c .before .args .k
 bit-is c = c .sign-bit .ensures ∙ ap (λ z. digit (isNeg z) * 2 ^ c .before .args .k) (toZ-ofZ (c .before .fits .x))
 
@@ -27,9 +24,6 @@ add-mask : tie.Need-add-mask
 add-mask c =
     let start = c .before .before in
     record { fits = bit-above (isNeg (start .args .x)) _ _ (start .args .k) (start .pre .0) (start .pre .1) (bit-is (c .before)) }
-
-above-requires : tie.Need-above-requires
-above-requires c κs = search needs
 
 room-is : (c : tie.After-above) → c .above .result ≡ up (c .before .before .before .args .h)
 room-is c = c .above .ensures ∙ ap up (toZ-ofZ (c .before .before .before .fits .h))
@@ -54,5 +48,4 @@ returns-2 c =
     (toZ-ofZ (start .fits .h)) (c .if1 .left)
 
 pub with-spec : {M : Type 1} → statement M
-with-spec =
-    tie.close (tie.spec sign-bit-requires add-mask above-requires add-room returns returns-2)
+with-spec = tie.close (tie.spec (λ c κs. search needs) add-mask (λ c κs. search needs) add-room returns returns-2)
