@@ -36,8 +36,12 @@ admissionIn file l wanted r ss ms = admission file l wanted (lentOf (toldOf (r .
 told-lengths : (b : Buffers) → lentOf (toldOf b) (b .copies) (b .offsets) ≡ lengthsOf b
 told-lengths b = fun-ext (by-name (search))
 
-roomy-in : (file : List ℕ) (l : List ℤ) (wanted : ℕ) (r : Run) (ss ms : List ℕ) → maxChecks < length ss → maxEdges ≤ length ms → admissionIn file l wanted r ss ms ≡ admissionOf (codeFile file) l wanted r ss ms
-roomy-in file l wanted r ss ms hs hm = admission-room file ss ms hs hm l wanted (lentOf (toldOf (r .buffers)) (r .buffers .copies) (r .buffers .offsets)) (r .progress) (r .buffers .copies) (r .buffers .offsets)
+roomy-in : (file : List ℕ) (l : List ℤ) (wanted : ℕ) (r : Run) (ss ms : List ℕ) → maxChecks < length ss → maxEdges ≤ length ms
+    → admissionIn file l wanted r ss ms ≡ admissionOf (codeFile file) l wanted r ss ms
+roomy-in file l wanted r ss ms hs hm =
+    let z = r .buffers .copies in
+    let y = r .buffers .offsets in
+    admission-room file ss ms hs hm l wanted (lentOf (toldOf (r .buffers)) z y) (r .progress) z y
     ∙ ap (λ n. admissionBy (codeFile file) l wanted n (r .progress) (r .buffers .copies) (r .buffers .offsets) ss ms) (told-lengths (r .buffers))
 
 -- ---- refused
@@ -105,7 +109,9 @@ module _ (file : List ℕ) (t : Table) (isFile : codeFile file ≡ gives t) (l :
   pub parts-call : (x : Answer Status) (q : Run) → q ≡ iterate (tableOf (t .bits) (take (checksOf t + 1) startsIn) (take (edgesOf t) membersIn)) l wanted r → x ≡ gives (q .progress .status)
       → record { answer = x; run = q } ≡ call file l wanted r
   unfolding call callOn
-  parts-call x q e f = ap₂ (λ y p. record { answer = y; run = p }) (f ∙ ap (λ p. gives (p .progress .status)) is ∙ answers (end .progress .status) (end .progress .rounds) (r .progress .rounds + wanted) (all-counted t l wanted r safe)) is
+  parts-call x q e f =
+      let due = answers (end .progress .status) (end .progress .rounds) (r .progress .rounds + wanted) (all-counted t l wanted r safe) in
+      ap₂ (λ y p. record { answer = y; run = p }) (f ∙ ap (λ p. gives (p .progress .status)) is ∙ due) is
       ∙ ap (perform t l wanted r) (sym (a .admitted)) ∙ ap (callBy l wanted r) (sym isFile)
     where
       end : Run

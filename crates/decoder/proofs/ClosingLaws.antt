@@ -30,7 +30,7 @@ use Rattle.cut.proofs.MaskLaws.{odd-some}
 use Rattle.writing.specs.Written.{cutsFrom, contentsFrom, bodiesFrom, certificateFrom}
 use Rattle.decoder.specs.Closing.{withRow, rowsFrom}
 use Rattle.decoder.specs.Candidate.{noZero}
-use Rattle.decoder.proofs.SignLaws.{candidate-is}
+use Rattle.decoder.proofs.CandidateLaws.{candidate-is}
 
 -- ---- an odd set has a mask that is not 0
 not-none : (ts : List Bool) → odd ts ≡ true → eqb (maskOf ts) 0 ≡ false

@@ -70,7 +70,10 @@ roundsWanted x = x .args .1 .1 .1 .0
 abbrev pub roundsRun : RoundsCall → Run
 roundsRun x =
     let b = x .args .1 .1 .1 .1 in
-    record { progress = progressOf (x .args .1 .1 .0); buffers = lent (now (b .0)) (now (b .1 .0)) (now (b .1 .1 .0)) (now (b .1 .1 .1 .0)) (now (b .1 .1 .1 .1 .0)) (now (b .1 .1 .1 .1 .1 .0)) (now (b .1 .1 .1 .1 .1 .1 .0)) }
+    record {
+      progress = progressOf (x .args .1 .1 .0);
+      buffers = lent (now (b .0)) (now (b .1 .0)) (now (b .1 .1 .0)) (now (b .1 .1 .1 .0)) (now (b .1 .1 .1 .1 .0)) (now (b .1 .1 .1 .1 .1 .0)) (now (b .1 .1 .1 .1 .1 .1 .0));
+    }
 
 abbrev pub roundsGave : RoundsCall → Called
 roundsGave x =

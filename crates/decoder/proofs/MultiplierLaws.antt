@@ -23,7 +23,7 @@ use Rattle.rules.proofs.CutRule.{Cuts}
 use Rattle.rules.proofs.Multiplier.{moves-zero, multiplier-least, multiplier-unique}
 use Rattle.cut.specs.Heights.{height, heightsOf, highest}
 use Rattle.decoder.specs.Lifted.{lifted, lifting, tally, sumAt, countAt, sumZ, Rising, LeastAt}
-use Rattle.decoder.proofs.SumLaws.{sum-within}
+use Rattle.decoder.proofs.MultiplierSumLaws.{sum-within}
 use Rattle.decoder.proofs.LiftedLaws.{short-of, met-of, of-short}
 
 -- ---- the first i members

@@ -13,7 +13,8 @@ use Rattle.rules.specs.Limits.{unit, frameLimit, maxBits, maxChecks, offsetPerR
 use Rattle.rules.specs.Table.{Table, edgesOf, degreeOf}
 use Rattle.rules.specs.Cut.{negatives, keep}
 use Rattle.rules.specs.Round.{Round}
-use Rattle.rules.specs.Buffers.{spins, copies, offsets, multipliers, masks, word, certificate, Buffer, Elem, the, lent, lengthsOf, needsBy, needs, Part, partOf, over, overBy, wordLeft, certificateLeft, multipliersOf, masksOf, bytesOf}
+use Rattle.rules.specs.Buffers.{spins, copies, offsets, multipliers, masks, word, certificate, Buffer, Elem, the, lent, lengthsOf, needsBy, needs}
+use Rattle.rules.specs.Buffers.{Part, partOf, over, overBy, wordLeft, certificateLeft, multipliersOf, masksOf, bytesOf}
 use Rattle.rules.specs.Run.{Status, running, certified, spent, Run, moved, stateIn, iterate, Safe}
 use Rattle.rules.specs.Calls.{lend}
 use Rattle.rules.specs.Certificate.{certificateOf}
@@ -200,7 +201,8 @@ module _ {n m e : ℕ} {l : List ℤ} {ss ms : List ℕ} {r : Run} (h : PartsFit
       last-spins = ap (take n) (spins-back ∙ ap (λ x. x .buffers .spins) is) ∙ take-over n (d .spins) (last .buffers .spins) (sized .spins)
 
       last-multipliers : take m multipliersNow ≡ multipliersOf (d .entries)
-      last-multipliers = ap (take m) (multipliers-back ∙ ap (λ x. x .buffers .multipliers) is) ∙ take-over m (multipliersOf (d .entries)) (last .buffers .multipliers) (sized .multipliers ∙ sym (h .checks))
+      last-multipliers = ap (take m) (multipliers-back ∙ ap (λ x. x .buffers .multipliers) is)
+          ∙ take-over m (multipliersOf (d .entries)) (last .buffers .multipliers) (sized .multipliers ∙ sym (h .checks))
 
       last-masks : take m masksNow ≡ masksOf (d .entries)
       last-masks = ap (take m) (masks-back ∙ ap (λ x. x .buffers .masks) is) ∙ take-over m (masksOf (d .entries)) (last .buffers .masks) (sized .masks ∙ sym (h .checks))
@@ -221,7 +223,8 @@ module _ {n m e : ℕ} {l : List ℤ} {ss ms : List ℕ} {r : Run} (h : PartsFit
       unfolding last
       wrote = ap₂ (λ w c. record { word = w; certificate = c })
           (ap₂ (λ w o. over (bytesOf w) o) last-word (sym (kept .before c .word)) ∙ ap (λ o. overBy (wordLeft o) (last .buffers .word)) (sym by) ∙ ap (λ x. x .buffers .word) (sym is))
-          (ap₂ over last-certificate (sym (kept .before c .certificate)) ∙ ap (λ o. overBy (certificateLeft o (d .entries)) (last .buffers .certificate)) (sym by) ∙ ap (λ x. x .buffers .certificate) (sym is))
+          (ap₂ over last-certificate (sym (kept .before c .certificate))
+          ∙ ap (λ o. overBy (certificateLeft o (d .entries)) (last .buffers .certificate)) (sym by) ∙ ap (λ x. x .buffers .certificate) (sym is))
 
     ended-right : ended (x .progress .status) ≡ new
     ended-right = ap (λ y. ended (y .progress .status)) rounds-are ∙ go (end .progress .status) refl

@@ -26,7 +26,7 @@ use Rattle.decoder.specs.Closing.{metBy, rowsFrom}
 use Rattle.run.specs.Ending.{closing}
 use Rattle.decoder.specs.Found.{found}
 use Rattle.decoder.proofs.PlaceLaws.{first-at}
-use Rattle.decoder.proofs.SpinLaws.{pass-same, candidate-same}
+use Rattle.decoder.proofs.RoundSpinsLaws.{pass-same, candidate-same}
 use Rattle.decoder.proofs.ClosingLaws.{rows-from, candidate-negatives}
 
 -- ---- steps 1 to 3

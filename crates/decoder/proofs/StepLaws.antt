@@ -31,8 +31,8 @@ use Rattle.decoder.specs.Stepped.{Stepped, steppedBy, steppedOn, stepped
 use Rattle.decoder.proofs.MaskLaws.{set-alike}
 use Rattle.decoder.proofs.ExactLaws.{over-exact, take-exact}
 use Rattle.decoder.proofs.MultiplierLaws.{heights-length, heights-few, rising, least-is}
-use Rattle.decoder.proofs.ValueLaws.{values-length}
-use Rattle.decoder.proofs.MoveLaws.{newCopies, newOffsets}
+use Rattle.decoder.proofs.StepListLaws.{values-length}
+use Rattle.decoder.proofs.MoveAllLaws.{newCopies, newOffsets}
 
 stepped-eq : {a a' b b' : List ℤ} {c c' d d' : ℕ} → a ≡ a' → b ≡ b' → c ≡ c' → d ≡ d'
     → _≡_ {A = Stepped} (record { copies = a; offsets = b; multiplier = c; mask = d }) (record { copies = a'; offsets = b'; multiplier = c'; mask = d' })
@@ -64,7 +64,7 @@ module _ (v : List ℤ) (m : ℕ) (e : m ≡ cutMask (cut unit (clips unit v))) 
       go : Dec (m ≡ 0) → (record { copies = z; offsets = y; multiplier = b; mask = m }) ≡ steppedBy (stepBy unit v (cut unit (clips unit v)))
       go (yes q) = stepped-eq (ez ∙ clipped (eb ∙ sym (multiplier-none q))) (ey ∙ ap (minus v) (clipped (eb ∙ sym (multiplier-none q)))) (eb ∙ sym (multiplier-none q)) q
           ∙ sym (ap (λ o. steppedBy (stepBy unit v o)) (no-cut q))
-      go (no f) = stepped-eq (ez ∙ ap (λ n. newCopies n m v) (eb ∙ sym (multiplier-some f))) (ey ∙ ap (λ n. newOffsets n m v) (eb ∙ sym (multiplier-some f))) (eb ∙ sym (multiplier-some f)) (e ∙ ap cutMask (some-cut f))
+      go (no f) = let b = eb ∙ sym (multiplier-some f) in stepped-eq (ez ∙ ap (λ n. newCopies n m v) b) (ey ∙ ap (λ n. newOffsets n m v) b) b (e ∙ ap cutMask (some-cut f))
           ∙ sym (ap (λ o. steppedBy (stepBy unit v o)) (some-cut f))
 
 -- ---- the heights hs that the cut search leaves of the values v in the place of z, with the greatest of them
@@ -78,7 +78,9 @@ module _ (v z hs : List ℤ) (k m : ℕ) (top : ℤ) (few : length v ≤ 32) (sa
 
   heights-long : length hs ≡ length z
   unfolding seenOn
-  heights-long = ap (λ s. length (s .heights)) whole ∙ over-length (heightsOf (sideBy (cut unit (clips unit v)) v) v) z (subst (λ n. length (heightsOf (sideBy (cut unit (clips unit v)) v) v) ≤ n) (sym same) (heights-few (sideBy (cut unit (clips unit v)) v) v))
+  heights-long =
+      let side = sideBy (cut unit (clips unit v)) v in
+      ap (λ s. length (s .heights)) whole ∙ over-length (heightsOf side v) z (subst (λ n. length (heightsOf side v) ≤ n) (sym same) (heights-few side v))
 
   -- a cut's
   module _ (f : m ≡ 0 → ⊥) where
@@ -87,7 +89,8 @@ module _ (v z hs : List ℤ) (k m : ℕ) (top : ℤ) (few : length v ≤ 32) (sa
 
     pub heights-are : hs ≡ heightsOf (setOf (length v) m) v
     unfolding seenOn
-    heights-are = ap (λ s. s .heights) whole ∙ ap (λ b. over (heightsOf b v) z) seen-by ∙ over-exact (heightsOf (setOf (length v) m) v) z (heights-length (setOf (length v) m) v (set-alike v m) ∙ sym same)
+    heights-are = ap (λ s. s .heights) whole ∙ ap (λ b. over (heightsOf b v) z) seen-by
+        ∙ over-exact (heightsOf (setOf (length v) m) v) z (heights-length (setOf (length v) m) v (set-alike v m) ∙ sym same)
 
     pub top-is : top ≡ highest (heightsOf (setOf (length v) m) v)
     unfolding seenOn
@@ -97,7 +100,9 @@ module _ (v z hs : List ℤ) (k m : ℕ) (top : ℤ) (few : length v ≤ 32) (sa
     cuts = cut-sound unit (clips unit v) (setOf (length v) m) (some-cut v m mask-is f)
 
     pub heights-rise : AllWithin valueLimit v → Rising hs top
-    heights-rise w = subst (λ t. Rising hs t) (sym top-is) (subst (λ l. Rising l (highest (heightsOf (setOf (length v) m) v))) (sym heights-are) (rising (setOf (length v) m) v few w (set-alike v m) cuts))
+    heights-rise w =
+        let up = rising (setOf (length v) m) v few w (set-alike v m) cuts in
+        subst (λ t. Rising hs t) (sym top-is) (subst (λ l. Rising l (highest (heightsOf (setOf (length v) m) v))) (sym heights-are) up)
 
     pub least-multiplier-is : (b : ℕ) → AllWithin valueLimit v → LeastAt hs b → b ≡ steppedOn v .multiplier
     least-multiplier-is b w l = least-is (setOf (length v) m) v few w (set-alike v m) cuts b (subst (λ x. LeastAt x b) heights-are l) ∙ multiplier-some v m mask-is f

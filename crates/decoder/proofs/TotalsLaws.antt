@@ -26,7 +26,7 @@ use Rattle.rules.proofs.Steps.{minus-within}
 use Rattle.decoder.specs.Spins.{SpinsFit}
 use Rattle.decoder.specs.Totals.{Gathered, EdgesFit, TotalsFit, spinOf, spinAt}
 use Rattle.decoder.proofs.PlaceLaws.{minus-length, minus-at, first-same}
-use Rattle.decoder.proofs.GatherLaws.{degree-take, gather-within}
+use Rattle.decoder.proofs.AddEdgesLaws.{degree-take, gather-within}
 
 -- ---- an edge's weight, and the total with it
 difference-fits : (z y : ℤ) → Within 4096 z → Within offsetLimit y → SFits w32 (z -ℤ y)

@@ -73,9 +73,14 @@ pub(crate) fn perform(
 ) -> Record
     requires { ⌜ PartsFit n m e (now frame) (now starts) (now members)
         (record { progress = progressOf run; buffers = lent (now spins) (now copies) (now offsets) (now multipliers) (now masks) (now word) (now certificate) }) ⌝ }
-    ensures { λ r. ⌜ (record { progress = progressOf r; buffers = lent (now (spins .exit)) (now (copies .exit)) (now (offsets .exit)) (now (multipliers .exit)) (now (masks .exit)) (now (word .exit)) (now (certificate .exit)) })
-        ≡ iterate (tableOf n (take (m + 1) (now (starts .entry))) (take e (now (members .entry)))) (now (frame .entry)) wanted
-        (record { progress = progressOf run; buffers = lent (now (spins .entry)) (now (copies .entry)) (now (offsets .entry)) (now (multipliers .entry)) (now (masks .entry)) (now (word .entry)) (now (certificate .entry)) }) ⌝ }
+    ensures { λ r. ⌜ (record {
+      progress = progressOf r;
+      buffers = lent (now (spins .exit)) (now (copies .exit)) (now (offsets .exit)) (now (multipliers .exit)) (now (masks .exit)) (now (word .exit)) (now (certificate .exit));
+    })
+        ≡ iterate (tableOf n (take (m + 1) (now (starts .entry))) (take e (now (members .entry)))) (now (frame .entry)) wanted (record {
+          progress = progressOf run;
+          buffers = lent (now (spins .entry)) (now (copies .entry)) (now (offsets .entry)) (now (multipliers .entry)) (now (masks .entry)) (now (word .entry)) (now (certificate .entry));
+        }) ⌝ }
 {
     let end = m + 1;
     let degrees = count_degrees(&members[..e]);

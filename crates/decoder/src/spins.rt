@@ -73,7 +73,8 @@ pub(crate) fn find_spins(
     spins: &mut [i32],
 )
     requires { ⌜ SpinsFit (length (now spins)) (now frame) (now members) (now degrees) (now copies) (now offsets) ⌝ }
-    ensures { λ _. ⌜ now (spins .exit) ≡ firstOf (length (now (spins .entry))) (spin unit (now (members .entry)) (now (frame .entry)) (record { copies = now (copies .entry); offsets = now (offsets .entry) })) ⌝ }
+    ensures { λ _. ⌜ now (spins .exit)
+        ≡ firstOf (length (now (spins .entry))) (spin unit (now (members .entry)) (now (frame .entry)) (record { copies = now (copies .entry); offsets = now (offsets .entry) })) ⌝ }
 {
     let mut totals = [0i32; MAX_BITS];
     take_frame(frame, &mut totals);

@@ -15,7 +15,9 @@ members-room : maxEdges ≤ 8192
 members-room = omega arith
 
 perform-requires : tie.Need-perform-requires
-perform-requires c κs = found-fit _ _ _ _ _ _ _ _ _ _ _ _ (c .before .before .before .before .before .before .before .before .before .before .answer2 .given .1) (c .before .before .before .before .before .before .before .before .before .before .before .before .before .before .admit .ensures) starts-room members-room
+perform-requires c κs =
+    let sized = c .before .before .before .before .before .before .before .before .before .before in
+    found-fit _ _ _ _ _ _ _ _ _ _ _ _ (sized .answer2 .given .1) (sized .before .before .before .before .admit .ensures) starts-room members-room
 
 returns : tie.Need-returns
 returns c = found-refused _ _ _ _ _ _ _ _ _ _ (c .before .answer .given .1) (c .before .before .before .before .before .admit .ensures) starts-room members-room

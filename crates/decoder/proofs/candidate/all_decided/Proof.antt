@@ -11,7 +11,7 @@ use Rattle.integers.specs.Machine.{fit}
 use Rattle.rules.specs.Table.{at}
 use Rattle.rules.specs.Round.{isZero}
 use Rattle.decoder.specs.Candidate.{noZero}
-use Rattle.decoder.proofs.SignLaws.{no-zero-more, no-zero-end}
+use Rattle.decoder.proofs.CandidateLaws.{no-zero-more, no-zero-end}
 use Rattle.decoder.proofs.candidate.all_decided.Statement.{statement}
 use Rattle.decoder.proofs.candidate.all_decided.Tie as tie
 

@@ -12,7 +12,7 @@ use Rattle.rules.specs.Parity.{_⊕_, odd}
 use Rattle.rules.specs.Cut.{isNeg, negatives}
 use Rattle.rules.proofs.Duality.{below-at}
 use Rattle.rules.proofs.ParityLaws.{odd-more, odd-end}
-use Rattle.decoder.proofs.SignLaws.{negatives-at}
+use Rattle.decoder.proofs.CandidateLaws.{negatives-at}
 use Rattle.decoder.proofs.candidate.is_odd_of.Statement.{statement}
 use Rattle.decoder.proofs.candidate.is_odd_of.Tie as tie
 

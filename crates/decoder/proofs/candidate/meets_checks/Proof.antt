@@ -3,7 +3,7 @@ use mathlib.Core.Path.{sym, _∙_}
 use borrow.Author.Needs.{needs}
 use borrow.Author.Tests.{not-true, not-false}
 use Rattle.table.specs.Layout.{checksFrom}
-use Rattle.decoder.proofs.SignLaws.{met-none, met-some}
+use Rattle.decoder.proofs.CandidateLaws.{met-none, met-some}
 use Rattle.decoder.proofs.candidate.meets_checks.Statement.{statement}
 use Rattle.decoder.proofs.candidate.meets_checks.Tie as tie
 

@@ -51,7 +51,8 @@ loop-again c =
     let x = getD members (loop .e) 0 in
     let rest = drop (loop .e + 1) members in
     let more : drop (loop .e) members ≡ x ∷ rest = drop-cons members (loop .e) 0 (c .before .loop-test .taken) ∙ ap (λ n. x ∷ drop n members) (sym (add-one (loop .e))) in
-    (omega arith, counted-more (loop .degrees) _ rest members x (loop .inv .1 .0, λ i h. ap (λ ms. getD (loop .degrees) i 0 + degreeOf i ms) (sym more) ∙ loop .inv .1 .1 i h) (inside (c .before)) refl)
+    let counted : Counted (loop .degrees) (x ∷ rest) members = (loop .inv .1 .0, λ i h. ap (λ ms. getD (loop .degrees) i 0 + degreeOf i ms) (sym more) ∙ loop .inv .1 .1 i h) in
+    (omega arith, counted-more (loop .degrees) _ rest members x counted (inside (c .before)) refl)
 
 returns : tie.Need-returns Inv-loop μ-loop
 returns c = λ i h.

@@ -15,7 +15,7 @@ use Rattle.rules.specs.Limits.{maxBits, frameSize}
 use Rattle.rules.specs.Table.{at, bit}
 use Rattle.rules.specs.Parity.{turn, agreement}
 use Rattle.rules.specs.Cut.{isNeg, negatives}
-use Rattle.decoder.proofs.SignLaws.{negatives-at}
+use Rattle.decoder.proofs.CandidateLaws.{negatives-at}
 use Rattle.decoder.proofs.gap.agreed.Statement.{statement}
 use Rattle.decoder.proofs.gap.agreed.Tie as tie
 

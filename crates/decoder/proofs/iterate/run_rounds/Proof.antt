@@ -21,16 +21,23 @@ loop-holds : tie.Need-loop-holds Inv-loop μ-loop
 loop-holds c = going-first _ (c .before .before .before .before .before .pre .1)
 
 do-round-requires : tie.Need-do-round-requires Inv-loop μ-loop
-do-round-requires c κs = (c .before .before .before .before .before .before .before .before .before .before .before .before .pre .0, going-ready (c .before .before .before .before .before .before .loop .inv) (c .before .before .before .before .before .loop-test .taken))
+do-round-requires c κs =
+    let turn = c .before .before .before .before .before in
+    (turn .before .before .before .before .before .before .before .pre .0, going-ready (turn .before .loop .inv) (turn .loop-test .taken))
 
 left-requires : tie.Need-left-requires Inv-loop μ-loop
 left-requires c κs = c .before .before .before .before .before .before .before .before .before .before .before .before .before .loop-test .taken
 
 loop-less : tie.Need-loop-less Inv-loop μ-loop
-loop-less c = left-less (statusOf (c .before .before .before .before .before .before .before .before .do-round .result .status)) _ _ (c .before .before .before .before .before .before .before .before .before .before .before .before .before .before .loop-test .taken) (c .left .ensures)
+loop-less c =
+    let done = c .before .before .before .before .before .before .before .before in
+    left-less (statusOf (done .do-round .result .status)) _ _ (done .before .before .before .before .before .before .loop-test .taken) (c .left .ensures)
 
 loop-again : tie.Need-loop-again Inv-loop μ-loop
-loop-again c = going-next _ _ _ _ _ _ _ _ (c .before .before .before .before .before .before .before .before .before .before .before .before .before .before .before .loop .inv) (c .before .before .before .before .before .before .before .before .before .before .before .before .before .before .loop-test .taken) (c .before .before .before .before .before .before .before .before .do-round .ensures) _ (c .left .ensures)
+loop-again c =
+    let done = c .before .before .before .before .before .before .before .before in
+    let turn = done .before .before .before .before .before .before in
+    going-next _ _ _ _ _ _ _ _ (turn .before .loop .inv) (turn .loop-test .taken) (done .do-round .ensures) _ (c .left .ensures)
 
 same-length : tie.Need-same-length Inv-loop μ-loop
 same-length c = ap (λ n. n spins) (c .before .loop .inv .sizes ∙ sym (c .before .before .before .before .before .before .before .pre .1 .sizes))

@@ -13,7 +13,7 @@ use Rattle.rules.specs.Limits.{stepLimit}
 use Rattle.integers.specs.Machine.{fit, to-unsigned}
 use Rattle.decoder.specs.Lifted.{sumAt, sumZ}
 use Rattle.decoder.proofs.MultiplierLaws.{level-met, together-fits, start-fits, start-most}
-use Rattle.decoder.proofs.QuotientLaws.{natural-is}
+use Rattle.decoder.proofs.SpinOfLaws.{natural-is}
 use Rattle.decoder.proofs.multiplier.first_step.Statement.{statement}
 use Rattle.decoder.proofs.multiplier.first_step.Tie as tie
 
@@ -22,7 +22,7 @@ lack-is : (c : tie.After-sum-of) → pos 8192 -ℤ toZ w32 (ofZ w32 (c .sum-of .
 lack-is c = ap (λ z. pos 8192 -ℤ z) (toZ-ofZ (fit w32 (c .sum-of .result) (c .sum-of .ok)) ∙ c .sum-of .ensures)
 
 lack-fits : (c : tie.After-sum-of)
-    → SFits w32 (pos 8192 -ℤ sumZ (c .before .args .heights .now)) × (pos 0 ≤ℤ (pos 8192 -ℤ sumZ (c .before .args .heights .now))) × (natAbs (pos 8192 -ℤ sumZ (c .before .args .heights .now)) ≤ 268443648)
+    → let lack = pos 8192 -ℤ sumZ (c .before .args .heights .now) in SFits w32 lack × (pos 0 ≤ℤ lack) × (natAbs lack ≤ 268443648)
 lack-fits c = together-fits (c .before .args .heights .now) (c .before .pre .few) (c .before .pre .small) (c .before .pre .short)
 
 sub-together : tie.Need-sub-together

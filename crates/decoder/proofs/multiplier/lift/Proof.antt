@@ -6,7 +6,7 @@ use mir.Facts.{toZ-ofZ}
 use borrow.Author.Needs.{needs}
 use Rattle.integers.specs.Linear.{up}
 use Rattle.integers.specs.Machine.{op-fits}
-use Rattle.decoder.proofs.MoveLaws.{word-pos}
+use Rattle.decoder.proofs.MoveAllLaws.{word-pos}
 use Rattle.decoder.proofs.MultiplierLaws.{lift-fits}
 use Rattle.decoder.proofs.multiplier.lift.Statement.{statement}
 use Rattle.decoder.proofs.multiplier.lift.Tie as tie

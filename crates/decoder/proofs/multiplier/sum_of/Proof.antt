@@ -14,7 +14,7 @@ use Rattle.integers.specs.Machine.{fit}
 use Rattle.rules.specs.Table.{at}
 use Rattle.rules.proofs.Optimal.{within-at}
 use Rattle.decoder.specs.Lifted.{sumZ}
-use Rattle.decoder.proofs.SumLaws.{sum-take}
+use Rattle.decoder.proofs.MultiplierSumLaws.{sum-take}
 use Rattle.decoder.proofs.MultiplierLaws.{sum-next}
 use Rattle.decoder.proofs.multiplier.sum_of.Statement.{statement}
 use Rattle.decoder.proofs.multiplier.sum_of.Tie as tie

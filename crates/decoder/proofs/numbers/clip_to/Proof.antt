@@ -10,7 +10,7 @@ use Rattle.integers.specs.Linear.{lin, arithZ}
 use Rattle.integers.specs.Order.{ltZ-lt}
 use Rattle.integers.specs.Machine.{known}
 use Rattle.cut.proofs.HeightLaws.{not-above}
-use Rattle.decoder.proofs.QuotientLaws.{clipped-low, clipped-high, clipped-mid}
+use Rattle.decoder.proofs.SpinOfLaws.{clipped-low, clipped-high, clipped-mid}
 use Rattle.decoder.proofs.numbers.clip_to.Statement.{statement}
 use Rattle.decoder.proofs.numbers.clip_to.Tie as tie
 

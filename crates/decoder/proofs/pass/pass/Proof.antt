@@ -6,7 +6,7 @@ use lib.ListN.{length, getD}
 use borrow.Author.Needs.{needs}
 use Rattle.rules.specs.Table.{at}
 use Rattle.decoder.specs.Passed.{Passed}
-use Rattle.decoder.proofs.PassingLaws.{Passing, one-more, start-first, passing-first, passing-long, passing-last, one-fits, passing-next}
+use Rattle.decoder.proofs.PassLoopLaws.{Passing, one-more, start-first, passing-first, passing-long, passing-last, one-fits, passing-next}
 use Rattle.decoder.proofs.pass.pass.Statement.{statement}
 use Rattle.decoder.proofs.pass.pass.Tie as tie
 
@@ -30,18 +30,23 @@ cast-e c = omega (arith, c .shared-slice-known3 .given (c .before .before .loop 
 pass-one-requires : tie.Need-pass-one-requires Inv-loop μ-loop
 pass-one-requires c κs =
     let i = c .before .before .before .before .before .before .loop .inv in
-    one-fits (c .before .before .before .before .before .before .before .before .before .before .before .pre) (i .0) (omega (arith, one-more (c .before .before .before .before .before .before .before .before .before .before .before .pre), c .before .before .before .before .before .loop-test .taken)) (i .1)
+    let pre = c .before .before .before .before .before .before .before .before .before .before .before .pre in
+    one-fits pre (i .0) (omega (arith, one-more pre, c .before .before .before .before .before .loop-test .taken)) (i .1)
 
 add-j : tie.Need-add-j Inv-loop μ-loop
-add-j c = omega (arith, one-more (c .before .before .before .before .before .before .before .before .before .before .before .before .before .before .before .before .before .before .pre), c .before .before .before .before .before .before .before .before .before .before .before .before .loop-test .taken, c .before .before .before .before .before .before .before .before .before .before .before .before .before .loop .inv .0 .few)
+add-j c =
+    let turn = c .before .before .before .before .before .before .before .before .before .before .before .before in
+    omega (arith, one-more (turn .before .before .before .before .before .before .pre), turn .loop-test .taken, turn .before .loop .inv .0 .few)
 
 loop-less : tie.Need-loop-less Inv-loop μ-loop
 loop-less c = omega (arith, c .before .before .before .before .before .before .before .before .before .before .before .before .loop-test .taken)
 
 loop-again : tie.Need-loop-again Inv-loop μ-loop
 loop-again c =
-    let i = c .before .before .before .before .before .before .before .before .before .before .before .before .before .loop .inv in
-    (passing-next (c .before .before .before .before .before .before .before .before .before .before .before .before .before .before .before .before .before .before .pre) (i .0) (omega (arith, one-more (c .before .before .before .before .before .before .before .before .before .before .before .before .before .before .before .before .before .before .pre), c .before .before .before .before .before .before .before .before .before .before .before .before .loop-test .taken)) (i .1) (c .before .before .before .before .before .before .pass-one .ensures), refl)
+    let turn = c .before .before .before .before .before .before .before .before .before .before .before .before in
+    let i = turn .before .loop .inv in
+    let pre = turn .before .before .before .before .before .before .pre in
+    (passing-next pre (i .0) (omega (arith, one-more pre, turn .loop-test .taken)) (i .1) (c .before .before .before .before .before .before .pass-one .ensures), refl)
 
 same-length : tie.Need-same-length Inv-loop μ-loop
 same-length c = passing-long (c .before .before .before .before .before .before .pre) (c .before .loop .inv .0) .0
@@ -56,7 +61,9 @@ same-length-4 : tie.Need-same-length-4 Inv-loop μ-loop
 same-length-4 c = passing-long (c .before .before .before .before .before .before .pre) (c .before .loop .inv .0) .3
 
 returns : tie.Need-returns Inv-loop μ-loop
-returns c = passing-last (c .before .before .before .before .before .before .pre) (c .before .loop .inv .0) (omega (arith, one-more (c .before .before .before .before .before .before .pre), c .loop-test .left))
+returns c =
+    let pre = c .before .before .before .before .before .before .pre in
+    passing-last pre (c .before .loop .inv .0) (omega (arith, one-more pre, c .loop-test .left))
 
 pub pass-spec : {M : Type 1} → statement M
 pass-spec =

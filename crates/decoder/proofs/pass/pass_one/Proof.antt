@@ -4,7 +4,7 @@ use borrow.Author.Needs.{needs}
 use Rattle.decoder.specs.Stepped.{Stepped}
 use Rattle.decoder.specs.Passed.{Passed}
 use Rattle.decoder.specs.Parts.{part, splice, placed, onePassed}
-use Rattle.decoder.proofs.PassingLaws.{passed-eq}
+use Rattle.decoder.proofs.PassLoopLaws.{passed-eq}
 use Rattle.decoder.proofs.pass.pass_one.Statement.{statement}
 use Rattle.decoder.proofs.pass.pass_one.Tie as tie
 
@@ -23,7 +23,8 @@ unfolding onePassed part splice
 returns c =
     let a = c .before .before .before .before .before .before .before .before .before .before .before .before .before .before .before .before .before .args in
     let came : Passed = record { copies = a .copies .now; offsets = a .offsets .now; multipliers = a .multipliers .now; masks = a .masks .now } in
-    passed-eq refl refl (c .before .before .before .before .before .before .store .ensures) (c .before .before .store2 .ensures) ∙ ap (λ (t : Stepped). placed (a .j) (a .a) (a .e) t came) (c .before .before .before .before .before .before .before .before .before .before .step .ensures)
+    passed-eq refl refl (c .before .before .before .before .before .before .store .ensures) (c .before .before .store2 .ensures)
+    ∙ ap (λ (t : Stepped). placed (a .j) (a .a) (a .e) t came) (c .before .before .before .before .before .before .before .before .before .before .step .ensures)
 
 pub pass-one-spec : {M : Type 1} → statement M
 pass-one-spec =

@@ -14,7 +14,8 @@ returns c = finish-running _ _ _ _ _ _ (ap statusOf (c .enum-told .given .1))
 returns-2 : tie.Need-returns-2
 returns-2 c =
     let pre = c .before .before .before .before .before .before .before .before .before .before .before .before .before .before .pre in
-    finish-certified _ _ _ _ _ _ _ _ (ap statusOf (c .before .before .before .before .before .before .before .before .enum-told2 .given .1)) (ap (λ d. d .bytes) (c .before .before .before .before .before .before .write-word .ensures ∙ word-whole _ _ (pre .word)))
+    finish-certified _ _ _ _ _ _ _ _ (ap statusOf (c .before .before .before .before .before .before .before .before .enum-told2 .given .1))
+    (ap (λ d. d .bytes) (c .before .before .before .before .before .before .write-word .ensures ∙ word-whole _ _ (pre .word)))
     (ap (λ d. d .bytes) (c .before .before .write-certificate .ensures ∙ certificate-whole _ _ _ (pre .few) (pre .alike) (pre .certificate)))
 
 returns-3 : tie.Need-returns-3

@@ -1,5 +1,5 @@
 -- `do_round` meets its contract. Assumes nothing.
-use Rattle.decoder.proofs.DoLaws.{spins-fit, pass-fits, gap-fits, done-law}
+use Rattle.decoder.proofs.DoRoundLaws.{spins-fit, pass-fits, gap-fits, done-law}
 use Rattle.decoder.proofs.round.do_round.Statement.{statement}
 use Rattle.decoder.proofs.round.do_round.Tie as tie
 

@@ -12,7 +12,7 @@ use Rattle.rules.specs.Table.{at}
 use Rattle.rules.specs.Step.{minus}
 use Rattle.rules.proofs.Duality.{below-at}
 use Rattle.decoder.specs.Totals.{Gathered}
-use Rattle.decoder.proofs.GatherLaws.{gathered-none, gathered-more, gathered-all}
+use Rattle.decoder.proofs.AddEdgesLaws.{gathered-none, gathered-more, gathered-all}
 use Rattle.decoder.proofs.TotalsLaws.{weights-long, weight-at, weight-fits, total-fits}
 use Rattle.decoder.proofs.spins.add_edges.Statement.{statement}
 use Rattle.decoder.proofs.spins.add_edges.Tie as tie
@@ -41,25 +41,27 @@ shared-slice-copy-out-totals c = omega (arith, c .before .before .before .pre .c
 shared-slice-copy-out-totals-2 : tie.Need-shared-slice-copy-out-totals-2 Inv-loop μ-loop
 shared-slice-copy-out-totals-2 c = omega (arith, c .before .before .before .before .pre .offsetsLong)
 
-copy-read : (c : tie.After-totals2 Inv-loop μ-loop) → let z = at (c .before .before .before .before .before .args .copies .now) (c .before .before .before .before .loop .e) in toZ w32 (ofZ w32 z) ≡ z
+copy-read : (c : tie.After-totals2 Inv-loop μ-loop) → let l = c .before .before .before .before in let z = at (l .before .args .copies .now) (l .loop .e) in toZ w32 (ofZ w32 z) ≡ z
 copy-read c = toZ-ofZ (fit w32 _ (c .before .totals .given))
 
-offset-read : (c : tie.After-totals2 Inv-loop μ-loop) → let y = at (c .before .before .before .before .before .args .offsets .now) (c .before .before .before .before .loop .e) in toZ w32 (ofZ w32 y) ≡ y
+offset-read : (c : tie.After-totals2 Inv-loop μ-loop) → let l = c .before .before .before .before in let y = at (l .before .args .offsets .now) (l .loop .e) in toZ w32 (ofZ w32 y) ≡ y
 offset-read c = toZ-ofZ (fit w32 _ (c .totals2 .given))
 
 sub-totals : tie.Need-sub-totals Inv-loop μ-loop
 sub-totals c =
     let start = c .before .before .before .before .before in
     let args = start .args in
-    op-fits w32 _-ℤ_ (copy-read c) (offset-read c) (weight-fits (args .totals .now) (args .members .now) (args .copies .now) (args .offsets .now) (start .pre) (c .before .before .before .before .loop .e))
+    op-fits w32 _-ℤ_ (copy-read c) (offset-read c)
+    (weight-fits (args .totals .now) (args .members .now) (args .copies .now) (args .offsets .now) (start .pre) (c .before .before .before .before .loop .e))
 
 weight-read : (c : tie.After-totals2 Inv-loop μ-loop)
-    → toZ w32 (ofZ w32 (raw (sub-totals c))) ≡ at (minus (c .before .before .before .before .before .args .copies .now) (c .before .before .before .before .before .args .offsets .now)) (c .before .before .before .before .loop .e)
+    → let l = c .before .before .before .before in toZ w32 (ofZ w32 (raw (sub-totals c))) ≡ at (minus (l .before .args .copies .now) (l .before .args .offsets .now)) (l .loop .e)
 weight-read c =
     let start = c .before .before .before .before .before in
     let args = start .args in
     toZ-ofZ (sub-totals c) ∙ ap₂ _-ℤ_ (copy-read c) (offset-read c)
-    ∙ sym (weight-at (args .totals .now) (args .members .now) (args .copies .now) (args .offsets .now) (start .pre) (c .before .before .before .before .loop .e) (c .before .before .before .loop-test .taken))
+    ∙ sym (weight-at (args .totals .now) (args .members .now) (args .copies .now) (args .offsets .now) (start .pre)
+    (c .before .before .before .before .loop .e) (c .before .before .before .loop-test .taken))
 
 mul-totals-3 : tie.Need-mul-totals-3 Inv-loop μ-loop
 mul-totals-3 c = omega (arith, c .before .before .shared-slice-known .given (c .before .before .before .before .loop .e))
@@ -68,7 +70,7 @@ slice-copy-out-totals : tie.Need-slice-copy-out-totals Inv-loop μ-loop
 slice-copy-out-totals c = inside (c .before .before .before)
 
 total-read : (c : tie.After-totals3 Inv-loop μ-loop)
-    → let x = at (c .before .before .before .before .before .loop .totals) (getD (c .before .before .before .before .before .before .args .members .now) (c .before .before .before .before .before .loop .e) 0) in toZ w32 (ofZ w32 x) ≡ x
+    → let l = c .before .before .before .before .before in let x = at (l .loop .totals) (getD (l .before .args .members .now) (l .loop .e) 0) in toZ w32 (ofZ w32 x) ≡ x
 total-read c = toZ-ofZ (fit w32 _ (c .totals3 .given))
 
 add-totals : tie.Need-add-totals Inv-loop μ-loop
@@ -77,7 +79,8 @@ add-totals c =
     let args = start .args in
     let loop = c .before .before .before .before .before .loop in
     op-fits w32 _+ℤ_ (total-read c) (weight-read (c .before))
-    (total-fits (args .totals .now) (args .members .now) (args .copies .now) (args .offsets .now) (start .pre) (loop .totals) (loop .e) (c .before .before .before .before .loop-test .taken) (loop .inv .1))
+    (total-fits (args .totals .now) (args .members .now) (args .copies .now) (args .offsets .now) (start .pre)
+    (loop .totals) (loop .e) (c .before .before .before .before .loop-test .taken) (loop .inv .1))
 
 slice-set-from-totals : tie.Need-slice-set-from-totals Inv-loop μ-loop
 slice-set-from-totals c = inside (c .before .before .before .before)

@@ -23,7 +23,8 @@ abbrev totals : tie.After-add-edges → List ℤ
 totals c = c .add-edges .last .1 .1 .1 .0
 
 gathered : (c : tie.After-add-edges)
-    → let args = c .before .before .before .before .before .before .before .args in Gathered (over (args .frame .now) zeros) (totals c) (args .members .now) (minus (args .copies .now) (args .offsets .now))
+    → let args = c .before .before .before .before .before .before .before .args in
+    Gathered (over (args .frame .now) zeros) (totals c) (args .members .now) (minus (args .copies .now) (args .offsets .now))
 gathered c =
     let args = c .before .before .before .before .before .before .before .args in
     subst (λ t. Gathered t (totals c) (args .members .now) (minus (args .copies .now) (args .offsets .now))) (c .before .before .before .take-frame .ensures) (c .add-edges .ensures)

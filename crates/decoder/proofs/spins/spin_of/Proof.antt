@@ -12,7 +12,7 @@ use Rattle.integers.specs.Clip.{clipZ}
 use Rattle.integers.specs.Machine.{fit}
 use Rattle.rules.specs.Round.{divided}
 use Rattle.decoder.specs.Totals.{spinOf}
-use Rattle.decoder.proofs.QuotientLaws.{at-least, clip-first}
+use Rattle.decoder.proofs.SpinOfLaws.{at-least, clip-first}
 use Rattle.decoder.proofs.spins.spin_of.Statement.{statement}
 use Rattle.decoder.proofs.spins.spin_of.Tie as tie
 

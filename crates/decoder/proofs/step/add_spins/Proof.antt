@@ -15,7 +15,7 @@ use Rattle.rules.specs.Round.{values}
 use Rattle.rules.proofs.Optimal.{within-at}
 use Rattle.rules.proofs.Duality.{below-at}
 use Rattle.decoder.proofs.FillLaws.{fill, fill-none, fill-length, fill-at, fill-more, fill-all}
-use Rattle.decoder.proofs.ValueLaws.{values-length, values-at}
+use Rattle.decoder.proofs.StepListLaws.{values-length, values-at}
 use Rattle.decoder.proofs.step.add_spins.Statement.{statement}
 use Rattle.decoder.proofs.step.add_spins.Tie as tie
 
@@ -49,10 +49,12 @@ slice-copy-out-value : tie.Need-slice-copy-out-value Inv-loop μ-loop
 slice-copy-out-value c = omega (arith, long (c .before .before .before), c .before .before .before .before .before .pre .0)
 
 -- the two numbers, as they were read
-spin-is : (c : tie.After-value-arg Inv-loop μ-loop) → let l = c .before .before .before in let a = l .before .before .args in let x = at (a .spins .now) (getD (a .members .now) (l .loop .i) 0) in toZ w32 (ofZ w32 x) ≡ x
+spin-is : (c : tie.After-value-arg Inv-loop μ-loop)
+    → let l = c .before .before .before in let a = l .before .before .args in let x = at (a .spins .now) (getD (a .members .now) (l .loop .i) 0) in toZ w32 (ofZ w32 x) ≡ x
 spin-is c = toZ-ofZ (fit w32 _ (c .value-arg .given))
 
-offset-is : (c : tie.After-value-arg2 Inv-loop μ-loop) → let l = c .before .before .before .before in toZ w32 (ofZ w32 (at (l .loop .offsets) (l .loop .i))) ≡ at (l .before .before .args .offsets .now) (l .loop .i)
+offset-is : (c : tie.After-value-arg2 Inv-loop μ-loop)
+    → let l = c .before .before .before .before in toZ w32 (ofZ w32 (at (l .loop .offsets) (l .loop .i))) ≡ at (l .before .before .args .offsets .now) (l .loop .i)
 offset-is c = toZ-ofZ (fit w32 _ (c .value-arg2 .given)) ∙ old (c .before .before .before .before)
 
 value-requires : tie.Need-value-requires Inv-loop μ-loop

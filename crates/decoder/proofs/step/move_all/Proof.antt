@@ -7,14 +7,14 @@ use lib.IntN.{_-ℤ_}
 use mir.Syntax.{w32}
 use mir.Val.{SFits, toZ, ofZ}
 use mir.Facts.{toZ-ofZ}
-use Rattle.rules.specs.Limits.{valueLimit}
+use Rattle.rules.specs.Limits.{unit, valueLimit}
 use Rattle.integers.specs.Linear.{Within}
 use Rattle.integers.specs.Clip.{clip-within}
 use Rattle.integers.specs.Machine.{fit}
 use Rattle.rules.specs.Table.{at}
 use Rattle.rules.specs.Step.{move}
 use Rattle.rules.proofs.Optimal.{within-at}
-use Rattle.decoder.proofs.MoveLaws.{offset-fits, Moving, moving-first, moving-long, moving-at, moving-next, moving-stored, moving-last}
+use Rattle.decoder.proofs.MoveAllLaws.{offset-fits, Moving, moving-first, moving-long, moving-at, moving-next, moving-stored, moving-last}
 use Rattle.decoder.proofs.step.move_all.Statement.{statement}
 use Rattle.decoder.proofs.step.move_all.Tie as tie
 
@@ -35,7 +35,8 @@ mul-v c = omega (arith, long (c .before))
 holds-requires : tie.Need-holds-requires Inv-loop μ-loop
 holds-requires c κs = omega (arith, long (c .before .before), c .before .before .before .pre .few)
 
-value : (c : tie.After-v Inv-loop μ-loop) → toZ w32 (ofZ w32 (at (c .before .before .loop .offsets) (c .before .before .loop .i))) ≡ at (c .before .before .before .args .offsets .now) (c .before .before .loop .i)
+value : (c : tie.After-v Inv-loop μ-loop)
+    → let l = c .before .before in toZ w32 (ofZ w32 (at (l .loop .offsets) (l .loop .i))) ≡ at (l .before .args .offsets .now) (l .loop .i)
 value c =
     let start = c .before .before .before in
     let l = c .before .before .loop in
@@ -49,11 +50,14 @@ moved-requires : tie.Need-moved-requires Inv-loop μ-loop
 moved-requires c κs = (subst (Within valueLimit) (sym (value (c .before))) (small (c .before .before .before)), c .before .before .before .before .pre .bounded)
 
 copy : (c : tie.After-moved Inv-loop μ-loop)
-    → toZ w32 (ofZ w32 (c .moved .result)) ≡ move 4096 (c .before .before .before .before .before .args .b) (c .before .holds .result) (at (c .before .before .before .before .before .args .offsets .now) (c .before .before .before .before .loop .i))
-copy c = toZ-ofZ (fit w32 (c .moved .result) (c .moved .ok)) ∙ c .moved .ensures ∙ ap (move 4096 (c .before .before .before .before .before .args .b) (c .before .holds .result)) (value (c .before .before))
+    → let l = c .before .before .before .before in
+    toZ w32 (ofZ w32 (c .moved .result)) ≡ move unit (l .before .args .b) (c .before .holds .result) (at (l .before .args .offsets .now) (l .loop .i))
+copy c =
+    let b = c .before .before .before .before .before .args .b in
+    toZ-ofZ (fit w32 (c .moved .result) (c .moved .ok)) ∙ c .moved .ensures ∙ ap (move unit b (c .before .holds .result)) (value (c .before .before))
 
 sub-y : tie.Need-sub-y Inv-loop μ-loop
-sub-y c = subst (SFits w32) (sym (ap₂ _-ℤ_ (value (c .before .before)) (copy c))) (offset-fits _ _ (small (c .before .before .before .before)) (clip-within 4096 _))
+sub-y c = subst (SFits w32) (sym (ap₂ _-ℤ_ (value (c .before .before)) (copy c))) (offset-fits _ _ (small (c .before .before .before .before)) (clip-within unit _))
 
 store-signed-requires : tie.Need-store-signed-requires Inv-loop μ-loop
 store-signed-requires c κs = omega (arith, long (c .before .before .before .before .before), c .before .before .before .before .loop-test)
@@ -62,20 +66,26 @@ store-signed-requires-2 : tie.Need-store-signed-requires-2 Inv-loop μ-loop
 store-signed-requires-2 c κs = omega (arith, long (c .before .before .before .before .before .before .before .before), c .before .before .before .before .before .before .before .loop-test)
 
 add-i : tie.Need-add-i Inv-loop μ-loop
-add-i c = omega (arith, long (c .before .before .before .before .before .before .before .before .before .before), c .before .before .before .before .before .before .before .before .before .loop-test)
+add-i c =
+    let turn = c .before .before .before .before .before .before .before .before .before in
+    omega (arith, long (turn .before), turn .loop-test)
 
 loop-less : tie.Need-loop-less Inv-loop μ-loop
-loop-less c = omega (arith, long (c .before .before .before .before .before .before .before .before .before .before), c .before .before .before .before .before .before .before .before .before .loop-test)
+loop-less c =
+    let turn = c .before .before .before .before .before .before .before .before .before in
+    omega (arith, long (turn .before), turn .loop-test)
 
 loop-again : tie.Need-loop-again Inv-loop μ-loop
 loop-again c =
-    let start = c .before .before .before .before .before .before .before .before .before .before .before in
-    let l = c .before .before .before .before .before .before .before .before .before .before .loop in
+    let turn = c .before .before .before .before .before .before .before .before .before in
+    let start = turn .before .before in
+    let l = turn .before .loop in
     let moved = c .before .before .before .before .before .before in
-    let inside : l .i < length (start .args .offsets .now) = omega (arith, long (c .before .before .before .before .before .before .before .before .before .before), c .before .before .before .before .before .before .before .before .before .loop-test) in
+    let inside : l .i < length (start .args .offsets .now) = omega (arith, long (turn .before), turn .loop-test) in
+    let offset = toZ-ofZ (sub-y moved) ∙ ap (λ v. v -ℤ toZ w32 (ofZ w32 (moved .moved .result))) (value (moved .before .before)) in
     moving-stored _ _ _ _ _ (c .before .before .before .before .store-signed .ensures) (c .before .store-signed2 .ensures)
     (moving-next (start .args .b) (start .args .mask) (start .args .copies .now) (start .args .offsets .now) (start .pre) (l .i) (l .copies) (l .offsets) (l .inv)
-    (moved .before .holds .result) _ _ inside (moved .before .holds .ensures) (copy moved) (toZ-ofZ (sub-y moved) ∙ ap (λ v. v -ℤ toZ w32 (ofZ w32 (moved .moved .result))) (value (moved .before .before))))
+    (moved .before .holds .result) _ _ inside (moved .before .holds .ensures) (copy moved) offset)
 
 same-length : tie.Need-same-length Inv-loop μ-loop
 same-length c = omega (arith, long (c .before), c .before .before .pre .copiesLong)

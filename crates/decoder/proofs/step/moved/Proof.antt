@@ -7,7 +7,7 @@ use borrow.Author.Needs.{needs}
 use Rattle.integers.specs.Machine.{fit, op-fits}
 use Rattle.integers.specs.Clip.{clipZ}
 use Rattle.rules.specs.Step.{move}
-use Rattle.decoder.proofs.MoveLaws.{word-pos, up-fits, down-fits}
+use Rattle.decoder.proofs.MoveAllLaws.{word-pos, up-fits, down-fits}
 use Rattle.decoder.proofs.step.moved.Statement.{statement}
 use Rattle.decoder.proofs.step.moved.Tie as tie
 

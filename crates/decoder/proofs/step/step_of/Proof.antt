@@ -16,7 +16,8 @@ multiplier-for-requires c κs f =
     let start = added .before .before .before in
     let a = start .args in
     subst (Rising _) (sym (toZ-ofZ (fit w32 (saw .see .result .top) search)))
-    (multiplier-asks (a .spins .now) (a .members .now) (a .copies .now) (a .offsets .now) _ (start .pre) (added .add-spins .ensures) _ _ (saw .see .result .mask) (saw .see .result .top) (saw .see .ensures) f)
+    (multiplier-asks (a .spins .now) (a .members .now) (a .copies .now) (a .offsets .now) _ (start .pre) (added .add-spins .ensures) _ _
+    (saw .see .result .mask) (saw .see .result .top) (saw .see .ensures) f)
 
 move-all-requires : tie.Need-move-all-requires
 move-all-requires c κs =

@@ -20,7 +20,7 @@ use Rattle.decoder.specs.Passed.{Passed, passed, PassFits}
 use Rattle.decoder.specs.Parts.{part, splice, placed, onePassed, OneFits}
 use Rattle.decoder.proofs.FillLaws.{fill, fill-none, fill-length, fill-rest, fill-more, fill-part, fill-all}
 use Rattle.decoder.proofs.PlaceLaws.{take-within}
-use Rattle.decoder.proofs.ValueLaws.{values-take}
+use Rattle.decoder.proofs.StepListLaws.{values-take}
 use Rattle.table.proofs.LayoutLaws.{before-all, before-most, members-long, start-is, starts-long, start-next, part-is, part-degree, part-below}
 use Rattle.decoder.proofs.PassLaws.{stepAt, copies-at, offsets-at, multiplier-at, mask-at}
 

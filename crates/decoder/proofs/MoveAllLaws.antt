@@ -19,7 +19,7 @@ use Rattle.decoder.specs.Stepped.{MoveFits}
 use Rattle.decoder.proofs.FillLaws.{fill, fill-none, fill-length, fill-at, fill-more, fill-all}
 use Rattle.decoder.proofs.PlaceLaws.{minus-length, minus-at}
 use Rattle.decoder.proofs.MaskLaws.{set-at, set-alike}
-use Rattle.decoder.proofs.ValueLaws.{moves-length, moves-at}
+use Rattle.decoder.proofs.StepListLaws.{moves-length, moves-at}
 
 pub word-pos : (b : ℕ) → b ≤ stepLimit → toZ w32 b ≡ pos b
 word-pos b h = toZ-pos w32 (omega arith)
