@@ -45,11 +45,9 @@ returns c =
 loop-again : tie.Need-loop-again Inv-loop μ-loop
 loop-again c =
     let n = limit (c .before) in
-    let holds = sym (tested (c .before)) ∙ not-false _ (c .if1 .left) in (
-      omega arith,
-      c .before .before .before .before .loop .inv .1
-          ∙ each-holds (pos 0) (λ x. leb (natAbs x) n) (eachWithin n) refl (λ x xs. refl) _ _ (c .before .before .before .loop-test .taken) holds,
-    )
+    let holds = sym (tested (c .before)) ∙ not-false _ (c .if1 .left) in
+    let rest = each-holds (pos 0) (λ x. leb (natAbs x) n) (eachWithin n) refl (λ x xs. refl) _ _ (c .before .before .before .loop-test .taken) holds in
+    (omega arith, c .before .before .before .before .loop .inv .1 ∙ rest)
 
 returns-2 : tie.Need-returns-2 Inv-loop μ-loop
 returns-2 c =
