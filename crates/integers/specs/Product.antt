@@ -26,10 +26,12 @@ pub +ℤ-*ℤ : (a b c : ℤ) → (a +ℤ b) *ℤ c ≡ a *ℤ c +ℤ b *ℤ c
 +ℤ-*ℤ a b c = eq-in (omega (arith, mul-lin (a +ℤ b) c, mul-lin a c, mul-lin b c, sum-lin (a *ℤ c) (b *ℤ c), times (up c) (sum-lin a b), times (dn c) (sum-lin a b)))
 
 pub negℤ-*ℤ : (a b : ℤ) → negℤ a *ℤ b ≡ negℤ (a *ℤ b)
-negℤ-*ℤ a b = eq-in (omega (arith, mul-lin (negℤ a) b, mul-lin a b, up-neg (a *ℤ b), dn-neg (a *ℤ b), times (up b) (up-neg a), times (up b) (dn-neg a), times (dn b) (up-neg a), times (dn b) (dn-neg a)))
+negℤ-*ℤ a b =
+    eq-in (omega (arith, mul-lin (negℤ a) b, mul-lin a b, up-neg (a *ℤ b), dn-neg (a *ℤ b), times (up b) (up-neg a), times (up b) (dn-neg a), times (dn b) (up-neg a), times (dn b) (dn-neg a)))
 
 pub *ℤ-negℤ : (a b : ℤ) → a *ℤ negℤ b ≡ negℤ (a *ℤ b)
-*ℤ-negℤ a b = eq-in (omega (arith, mul-lin a (negℤ b), mul-lin a b, up-neg (a *ℤ b), dn-neg (a *ℤ b), times (up a) (up-neg b), times (up a) (dn-neg b), times (dn a) (up-neg b), times (dn a) (dn-neg b)))
+*ℤ-negℤ a b =
+    eq-in (omega (arith, mul-lin a (negℤ b), mul-lin a b, up-neg (a *ℤ b), dn-neg (a *ℤ b), times (up a) (up-neg b), times (up a) (dn-neg b), times (dn a) (up-neg b), times (dn a) (dn-neg b)))
 
 pub *ℤ-assoc : (a b c : ℤ) → (a *ℤ b) *ℤ c ≡ a *ℤ (b *ℤ c)
 *ℤ-assoc a b c = eq-in (omega (arith, mul-lin (a *ℤ b) c, mul-lin a (b *ℤ c), times (up c) (mul-lin a b), times (dn c) (mul-lin a b), times (up a) (mul-lin b c), times (dn a) (mul-lin b c)))

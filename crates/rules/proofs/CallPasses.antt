@@ -75,7 +75,8 @@ module _ (t : Table) (l : List ℤ) (q : Run) (e : Ends t l q) where
       ∙ checks-written (coming t l (e .last) .entries) (round-entries t l (stateIn t (e .last .buffers))) h
 
   ended-certificate : checksOf t ≤ maxChecks → take (certificateLength (entriesOf (q .buffers .certificate))) (q .buffers .certificate) ≡ certificateOf es
-  ended-certificate h = ap₂ (λ n c. take (certificateLength n) c) (count h) left-bytes ∙ take-over (certificateLength (cutsIn es)) (certificateOf es) (e .last .buffers .certificate) (certificate-length es)
+  ended-certificate h = ap₂ (λ n c. take (certificateLength n) c) (count h) left-bytes
+      ∙ take-over (certificateLength (cutsIn es)) (certificateOf es) (e .last .buffers .certificate) (certificate-length es)
 
   pub ended-passes : (file : List ℕ) → codeFile file ≡ gives t → length l ≡ t .bits → eachWithin frameLimit l ≡ true
       → judge file l (take (t .bits) (q .buffers .word)) (take (certificateLength (entriesOf (q .buffers .certificate))) (q .buffers .certificate)) ≡ gives passes

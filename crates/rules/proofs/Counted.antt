@@ -35,7 +35,9 @@ all-counted t l (suc k) r h e = go (r .progress .status) refl (λ s. all-counted
 
     go : (s : Status) → r .progress .status ≡ s → (Safe t (next t l r) → iterate t l (suc k) r .progress .rounds ≡ next t l r .progress .rounds + k)
         → iterate t l (suc k) r .progress .rounds ≡ r .progress .rounds + suc k
-    go running p ih = count-next (iterate t l k (next t l r) .progress .rounds) (next t l r .progress .rounds) (r .progress .rounds) k (ih (iterate-safe t l 1 r h)) (ap (λ z. z .progress .rounds) (safe-moves t l r h p))
+    go running p ih =
+        let after = next t l r in
+        count-next (iterate t l k after .progress .rounds) (after .progress .rounds) (r .progress .rounds) k (ih (iterate-safe t l 1 r h)) (ap (λ z. z .progress .rounds) (safe-moves t l r h p))
     go certified p ih = absurd (still certified (λ q. running≢certified (sym q)) p)
     go spent p ih = absurd (still spent spent≢running p)
 
@@ -51,7 +53,9 @@ call-wants t l x r h = go (admitsFor t l x r)
   where
     go : (a : Answer (Unit {0})) → wantedBy (perform t l (x .wanted) r a .answer) (x .wanted) ≡ takes a (x .wanted)
     go (refused k) = refl
-    go (gives u) = answer-takes (iterate t l (x .wanted) r .progress .status) (iterate t l (x .wanted) r .progress .rounds) (r .progress .rounds + x .wanted) (x .wanted) (all-counted t l (x .wanted) r h)
+    go (gives u) =
+        let after = iterate t l (x .wanted) r .progress in
+        answer-takes (after .status) (after .rounds) (r .progress .rounds + x .wanted) (x .wanted) (all-counted t l (x .wanted) r h)
 
 call-safe : (t : Table) (l : List ℤ) (x : Call) (r : Run) → Safe t r → Safe t (callFor t l x r .run)
 unfolding callOn
@@ -99,7 +103,9 @@ call-counts t l x r n h = go (admitsFor t l x r) (admits-not44 t l (x .wanted) (
 
     go : (a : Answer (Unit {0})) → Not44 a → countedBy (perform t l (x .wanted) r a .answer) (x .wanted) n ≡ wantedBy (perform t l (x .wanted) r a .answer) (x .wanted)
     go (refused k) e = ap (λ b. cond b n 0) e
-    go (gives u) e = answered (iterate t l (x .wanted) r .progress .status) (iterate t l (x .wanted) r .progress .rounds) (r .progress .rounds + x .wanted) (x .wanted) (all-counted t l (x .wanted) r h)
+    go (gives u) e =
+        let after = iterate t l (x .wanted) r .progress in
+        answered (after .status) (after .rounds) (r .progress .rounds + x .wanted) (x .wanted) (all-counted t l (x .wanted) r h)
 
 counted-wanted : (t : Table) (l : List ℤ) (xs : List Call) (r : Run) (n : ℕ) → Safe t r → countedIn n xs (callsOn t l xs r) ≡ wantedIn xs (callsOn t l xs r)
 counted-wanted t l [] r n h = refl

@@ -41,7 +41,9 @@ gain u [] (s ∷ ss) h e = absurd h
 gain u (v ∷ vs) [] h e = absurd h
 gain u (true ∷ vs) (pos n ∷ ss) h e = gain-other u n (smallest u ss) (left u (negatives ss) ss) (left u vs ss) (lowest u vs ss h)
 gain u (false ∷ vs) (pos n ∷ ss) h e = gain-same (pos u +ℤ negℤ (pos n)) (left u (negatives ss) ss) (left u vs ss) n (smallest u ss) (gain u vs ss h e)
-gain u (true ∷ vs) (negsuc n ∷ ss) h e = gain-same (pos u +ℤ negsuc n) (left u (negatives ss) ss) (left u vs ss) (suc n) (smallest u ss) (gain u vs ss h (not-inj (odd vs) (not (odd (negatives ss))) e))
+gain u (true ∷ vs) (negsuc n ∷ ss) h e =
+    let others = gain u vs ss h (not-inj (odd vs) (not (odd (negatives ss))) e) in
+    gain-same (pos u +ℤ negsuc n) (left u (negatives ss) ss) (left u vs ss) (suc n) (smallest u ss) others
 gain u (false ∷ vs) (negsuc n ∷ ss) h e = gain-other u (suc n) (smallest u ss) (left u (negatives ss) ss) (left u vs ss) (lowest u vs ss h)
 
 -- the sideChanged pays just that

@@ -39,8 +39,10 @@ sum-nonneg u (x ∷ ss) [] τ w h k = absurd h
 sum-nonneg u (x ∷ ss) (s ∷ σ) [] w h k = absurd k
 sum-nonneg u (x ∷ ss) (true ∷ σ) (true ∷ τ) w h k = pair-same u true x (left u σ ss) (left u τ ss) (pos 0) (w .0) (sum-nonneg u ss σ τ (w .1) h k)
 sum-nonneg u (x ∷ ss) (false ∷ σ) (false ∷ τ) w h k = pair-same u false x (left u σ ss) (left u τ ss) (pos 0) (w .0) (sum-nonneg u ss σ τ (w .1) h k)
-sum-nonneg u (x ∷ ss) (true ∷ σ) (false ∷ τ) w h k = up-from (pos 0) (left u (true ∷ σ) (x ∷ ss) +ℤ left u (false ∷ τ) (x ∷ ss)) u (pair-tf u x (left u σ ss) (left u τ ss) (pos 0) (sum-nonneg u ss σ τ (w .1) h k))
-sum-nonneg u (x ∷ ss) (false ∷ σ) (true ∷ τ) w h k = up-from (pos 0) (left u (false ∷ σ) (x ∷ ss) +ℤ left u (true ∷ τ) (x ∷ ss)) u (pair-ft u x (left u σ ss) (left u τ ss) (pos 0) (sum-nonneg u ss σ τ (w .1) h k))
+sum-nonneg u (x ∷ ss) (true ∷ σ) (false ∷ τ) w h k = up-from (pos 0) (left u (true ∷ σ) (x ∷ ss) +ℤ left u (false ∷ τ) (x ∷ ss)) u
+    (pair-tf u x (left u σ ss) (left u τ ss) (pos 0) (sum-nonneg u ss σ τ (w .1) h k))
+sum-nonneg u (x ∷ ss) (false ∷ σ) (true ∷ τ) w h k = up-from (pos 0) (left u (false ∷ σ) (x ∷ ss) +ℤ left u (true ∷ τ) (x ∷ ss)) u
+    (pair-ft u x (left u σ ss) (left u τ ss) (pos 0) (sum-nonneg u ss σ τ (w .1) h k))
 
 not-sym : (a b : Bool) → not a ≡ b → a ≡ not b
 not-sym true b e = ap not e
@@ -95,7 +97,9 @@ at-most-one u ss σ τ w p q = go (sum-like u ss σ τ w (p .long) (q .long) (p 
 
 -- ---- the rule
 violated-cuts : (u : ℕ) (vs : List Bool) (ss : List ℤ) → Alike vs ss → violated u vs ss ≡ true → Cuts u vs ss
-violated-cuts u vs ss h e = record { isOdd = and-both (odd vs) (ltZ (left u vs ss) (pos (2 * u))) e .0; long = h; under = ltZ-lt (left u vs ss) (pos (2 * u)) (and-both (odd vs) (ltZ (left u vs ss) (pos (2 * u))) e .1) }
+violated-cuts u vs ss h e =
+    let both = and-both (odd vs) (ltZ (left u vs ss) (pos (2 * u))) e in
+    record { isOdd = both .0; long = h; under = ltZ-lt (left u vs ss) (pos (2 * u)) (both .1) }
 
 pub cut-sound : (u : ℕ) (ss : List ℤ) (vs : List Bool) → cut u ss ≡ some vs → Cuts u vs ss
 unfolding cut
@@ -107,7 +111,8 @@ cut-sound u ss vs e = go (violated u (method u ss) ss) refl e
 
 pub cut-finds : (u : ℕ) (ss : List ℤ) (vs : List Bool) → AllWithin u ss → Cuts u vs ss → cut u ss ≡ some vs
 unfolding cut
-cut-finds u ss vs w c = ap₂ (λ a b. keep (a && b) (method u ss)) (m .isOdd) (lt-ltZ (left u (method u ss) ss) (pos (2 * u)) lt) ∙ ap some (at-most-one u ss (method u ss) vs w (record { isOdd = m .isOdd; long = method-alike u ss; under = lt }) c)
+cut-finds u ss vs w c = ap₂ (λ a b. keep (a && b) (method u ss)) (m .isOdd) (lt-ltZ (left u (method u ss) ss) (pos (2 * u)) lt)
+    ∙ ap some (at-most-one u ss (method u ss) vs w (record { isOdd = m .isOdd; long = method-alike u ss; under = lt }) c)
   where
     m : Best u vs ss
     m = method-best u vs ss w (c .long) (c .isOdd)

@@ -55,9 +55,13 @@ pick-times false p q w e = *ℤ-zero p
 gather-value : (n : ℕ) (P : ℕ → ℤ) (ms : List ℕ) (ws : List ℤ) → Below n ms → sumTo n (λ i. P i *ℤ gather i ms ws) ≡ value P ms ws
 gather-value n P ms [] h = ap (sumTo n) (fun-ext (λ i. *ℤ-zero (P i))) ∙ sumTo-zero n
 gather-value n P [] (w ∷ ws) h = ap (sumTo n) (fun-ext (λ i. *ℤ-zero (P i))) ∙ sumTo-zero n
-gather-value n P (m ∷ ms) (w ∷ ws) h = ap (sumTo n) (fun-ext (λ i. *ℤ-+ℤ (P i) (pick (eqb m i) w) (gather i ms ws) ∙ ap (λ t. t +ℤ P i *ℤ gather i ms ws) (pick-times (eqb m i) (P i) (P m) w (λ e. ap P (sym (eqb-true m i e))))))
+gather-value n P (m ∷ ms) (w ∷ ws) h = ap (sumTo n) (fun-ext apart)
     ∙ sumTo-add n (λ i. pick (eqb m i) (P m *ℤ w)) (λ i. P i *ℤ gather i ms ws)
     ∙ ap₂ _+ℤ_ (pick-one n m (P m *ℤ w) (h .0)) (gather-value n P ms ws (h .1))
+  where
+    apart : (i : ℕ) → P i *ℤ (pick (eqb m i) w +ℤ gather i ms ws) ≡ pick (eqb m i) (P m *ℤ w) +ℤ P i *ℤ gather i ms ws
+    apart i = *ℤ-+ℤ (P i) (pick (eqb m i) w) (gather i ms ws)
+        ∙ ap (λ t. t +ℤ P i *ℤ gather i ms ws) (pick-times (eqb m i) (P i) (P m) w (λ e. ap P (sym (eqb-true m i e))))
 
 -- a row's value is its multiplier times Σ σ p, which the inequality bounds
 abbrev sides : List Bool → List ℤ → ℤ
@@ -113,7 +117,8 @@ rows-end d s = simp ring (omega arithZ)
 pub rows-pay : (n d : ℕ) (P : ℕ → ℤ) (rs : List Row) → AllKept n d P rs → negℤ (pos d *ℤ price rs) ⩽ sumTo n (λ i. P i *ℤ pull i rs)
 rows-pay n d P [] h = rows-end (pos d) (sumTo n (λ i. P i *ℤ pos 0)) (ap (sumTo n) (fun-ext (λ i. *ℤ-zero (P i))) ∙ sumTo-zero n)
 rows-pay n d P (r ∷ rs) h = subst (λ v. negℤ (pos d *ℤ price (r ∷ rs)) ⩽ v) (sym apart)
-    (rows-step (pos d) (pos (r .multiplier)) (pos (length (r .members)) -ℤ pos 2) (value P (r .members) (weights (r .multiplier) (r .set))) (sumTo n (λ i. P i *ℤ pull i rs)) (price rs) (row-pays n d P r (h .0)) (rows-pay n d P rs (h .1)))
+    (rows-step (pos d) (pos (r .multiplier)) (pos (length (r .members)) -ℤ pos 2) (value P (r .members) (weights (r .multiplier) (r .set)))
+    (sumTo n (λ i. P i *ℤ pull i rs)) (price rs) (row-pays n d P r (h .0)) (rows-pay n d P rs (h .1)))
   where
     apart : sumTo n (λ i. P i *ℤ pull i (r ∷ rs)) ≡ value P (r .members) (weights (r .multiplier) (r .set)) +ℤ sumTo n (λ i. P i *ℤ pull i rs)
     apart = ap (sumTo n) (fun-ext (λ i. *ℤ-+ℤ (P i) (gather i (r .members) (weights (r .multiplier) (r .set))) (pull i rs)))
@@ -136,7 +141,8 @@ weak-step d s x y a p = simp ring (omega arithZ)
 pub weak-duality : (n d k : ℕ) (l : List ℤ) (P : ℕ → ℤ) (rs : List Row) → ((i : ℕ) → Within d (P i)) → AllKept n d P rs
     → pos k *ℤ sumTo n (λ i. at l i *ℤ P i) ⩽ pos d *ℤ bound n k l rs
 unfolding bound
-weak-duality n d k l P rs w h = weak-step (pos d) (sumTo n (λ i. P i *ℤ reduced k l rs i)) (pos k *ℤ sumTo n (λ i. at l i *ℤ P i)) (sumTo n (λ i. P i *ℤ pull i rs)) (sumTo n (λ i. abs (reduced k l rs i))) (price rs)
+weak-duality n d k l P rs w h = weak-step (pos d) (sumTo n (λ i. P i *ℤ reduced k l rs i)) (pos k *ℤ sumTo n (λ i. at l i *ℤ P i))
+    (sumTo n (λ i. P i *ℤ pull i rs)) (sumTo n (λ i. abs (reduced k l rs i))) (price rs)
     (both-sides n k l P rs) (rows-pay n d P rs h) (sumTo-abs d n P (reduced k l rs) w)
 
 -- a gap of 0: nothing agrees better

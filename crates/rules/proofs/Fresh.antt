@@ -66,12 +66,15 @@ zero-room t b h k = ap₂ (λ x y. x && (y && true)) (le-leb (edgesOf t) (length
 pub started-on : (file : List ℕ) (t : Table) (b : Buffers) → codeFile file ≡ gives t → fitsStart t (lengthsOf b) ≡ true
     → start file b ≡ record { answer = gives fresh; buffers = write (zeroing t) b }
 unfolding start
-started-on file t b isFile h = ap (startBy b) (then-of (codeFile file) t (λ x. must (fitsStart x (lengthsOf b)) bufferShort (gives x)) isFile ∙ must-true (fitsStart t (lengthsOf b)) bufferShort (gives t) h)
+started-on file t b isFile h = ap (startBy b) (then-of (codeFile file) t (λ x. must (fitsStart x (lengthsOf b)) bufferShort (gives x)) isFile
+    ∙ must-true (fitsStart t (lengthsOf b)) bufferShort (gives t) h)
 
 -- one that is not refused had it
 started-fits : (file : List ℕ) (t : Table) (b : Buffers) → codeFile file ≡ gives t → start file b .answer ≡ gives fresh → fitsStart t (lengthsOf b) ≡ true
 unfolding start must
-started-fits file t b isFile e = go (fitsStart t (lengthsOf b)) (ap (λ a. startBy b a .answer) (sym (then-of (codeFile file) t (λ x. must (fitsStart x (lengthsOf b)) bufferShort (gives x)) isFile)) ∙ e)
+started-fits file t b isFile e =
+    let asked = then-of (codeFile file) t (λ x. must (fitsStart x (lengthsOf b)) bufferShort (gives x)) isFile in
+    go (fitsStart t (lengthsOf b)) (ap (λ a. startBy b a .answer) (sym asked) ∙ e)
   where
     go : (z : Bool) → startBy b (must z bufferShort (gives t)) .answer ≡ gives fresh → z ≡ true
     go true q = refl
@@ -113,7 +116,8 @@ module _ (file : List ℕ) (t : Table) (b : Buffers) (f : FreshStart file t b) w
 
   -- its buffers are as long as they were
   pub started-lengths : lengthsOf (startedRun file b .buffers) ≡ lengthsOf b
-  started-lengths = ap (λ s. lengthsOf (s .buffers)) at-start ∙ past-lengths (lengthsOf b) (write (zeroing t) b) b (write-past (lengthsOf b) (zeroing t) b (zeroing-small t (lengthsOf b) on-whole) (part-refl (lengthsOf b)))
+  started-lengths = ap (λ s. lengthsOf (s .buffers)) at-start
+      ∙ past-lengths (lengthsOf b) (write (zeroing t) b) b (write-past (lengthsOf b) (zeroing t) b (zeroing-small t (lengthsOf b) on-whole) (part-refl (lengthsOf b)))
 
 -- ---- so it is safe
 pub zeros-within : (m e : ℕ) → AllWithin m (zeros e)

@@ -188,7 +188,8 @@ judged file l w bs v e = go (then-gives (codeFile file) _ v e)
 pub judge-best : (file : List ℕ) (l : List ℤ) (w bs : List ℕ) (t : Table) → codeFile file ≡ gives t → judge file l w bs ≡ gives passes → Best t l (bitsOf w)
 unfolding verdict
 judge-best file l w bs t f e = subst (λ x. Best x l (bitsOf w)) (gives-inj (j .table) t (sym (j .isFile) ∙ f))
-    (gap-optimal (j .table) (scaleOf bs) l (rowsAt (j .table) (itemsOf bs)) (j .implied) (bitsOf w) (j .scale) (record { size = j .word; even = none-broken 0 (bitsOf w) (j .table .checks) (p .0) }) (p .1))
+    (gap-optimal (j .table) (scaleOf bs) l (rowsAt (j .table) (itemsOf bs)) (j .implied) (bitsOf w) (j .scale)
+    (record { size = j .word; even = none-broken 0 (bitsOf w) (j .table .checks) (p .0) }) (p .1))
   where
     j : Judged file l w bs passes
     j = judged file l w bs passes e

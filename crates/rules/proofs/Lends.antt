@@ -13,7 +13,8 @@ use Rattle.rules.specs.CodeFile.{codeFile}
 use Rattle.rules.specs.Input.{eachWithin, onFrame}
 use Rattle.rules.specs.Round.{round}
 use Rattle.rules.specs.Buffers.{Lengths, lengthsOf, needs, fits, Part}
-use Rattle.rules.specs.Run.{Status, running, certified, spent, Run, moved, tooLarge, nextBy, stateIn, next, iterate, isRunning, sound, admits, Called, refusedAt, perform, ranOn, callOn, callBy, call}
+use Rattle.rules.specs.Run.{Status, running, certified, spent, Run, moved, tooLarge, nextBy, stateIn, next, iterate}
+use Rattle.rules.specs.Run.{isRunning, sound, admits, Called, refusedAt, perform, ranOn, callOn, callBy, call}
 use Rattle.rules.specs.Calls.{Call, lend, giveBack, lentCall, callList}
 use Rattle.rules.proofs.AnswerLaws.{refused≢gives, must-false}
 use Rattle.rules.proofs.BufferLaws.{part-trans, fits-part, lengths-part, over-same, past-lengths, over-parts}

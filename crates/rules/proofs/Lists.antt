@@ -218,7 +218,8 @@ module _ (t : Table) (l : List ℤ) (r : Run) (fresh : r .progress .rounds ≡ 0
               there : q' ≡ iterate t l m r
               there = to ∙ late (k + v) p
           by-size (no f) = later (subst (λ z. Certifies (t .bits) (checksOf t) w m bs (callsOn t l xs z)) (sym to) (further (lt-of-not-le f)
-              (onward k v (wantedIn xs (callsOn t l xs (iterate t l (k + v) r))) (subst (λ z. m ≤ k + (v + wantedIn xs (callsOn t l xs z))) to (subst (λ z. m ≤ k + (wantedBy z v + wantedIn xs (callsOn t l xs q'))) still g)))))
+              (onward k v (wantedIn xs (callsOn t l xs (iterate t l (k + v) r))) (subst (λ z. m ≤ k + (v + wantedIn xs (callsOn t l xs z))) to
+              (subst (λ z. m ≤ k + (wantedBy z v + wantedIn xs (callsOn t l xs q'))) still g)))))
             where
               still : answerAt (q' .progress .status) (q' .progress .rounds) (q .progress .rounds + v) ≡ gives running
               still = ap₂ (λ s n. answerAt s n (q .progress .rounds + v)) (ap (λ z. z .progress .status) to ∙ early-running (k + v) (lt-of-not-le f))

@@ -34,10 +34,14 @@ sum-le u a b x y = simp lin (omega arithZ)
 pub reach-mono : (u a b : ℕ) (ts : List Bool) (vs : List ℤ) → a ≤ b → left u ts (moves u a ts vs) ⩽ left u ts (moves u b ts vs)
 reach-mono u a b [] vs h = record { le = tt }
 reach-mono u a b (t ∷ ts) [] h = record { le = tt }
-reach-mono u a b (t ∷ ts) (v ∷ vs) h = sum-le u (side t (move u a t v)) (side t (move u b t v)) (left u ts (moves u a ts vs)) (left u ts (moves u b ts vs)) (side-mono u a b t v h) (reach-mono u a b ts vs h)
+reach-mono u a b (t ∷ ts) (v ∷ vs) h = sum-le u (side t (move u a t v)) (side t (move u b t v)) (left u ts (moves u a ts vs)) (left u ts (moves u b ts vs))
+    (side-mono u a b t v h) (reach-mono u a b ts vs h)
 
 pub short-mono : (u : ℕ) (ts : List Bool) (vs : List ℤ) (a b : ℕ) → a ≤ b → short u ts vs b ≡ true → short u ts vs a ≡ true
-short-mono u ts vs a b h e = lt-ltZ (left u ts (moves u a ts vs)) (pos (2 * u)) (le-lt-trans (left u ts (moves u a ts vs)) (left u ts (moves u b ts vs)) (pos (2 * u)) (reach-mono u a b ts vs h) (ltZ-lt (left u ts (moves u b ts vs)) (pos (2 * u)) e))
+short-mono u ts vs a b h e =
+    let near = left u ts (moves u a ts vs) in
+    let far = left u ts (moves u b ts vs) in
+    lt-ltZ near (pos (2 * u)) (le-lt-trans near far (pos (2 * u)) (reach-mono u a b ts vs h) (ltZ-lt far (pos (2 * u)) e))
 
 -- ---- far out every member is at u
 top-in : (u m b : ℕ) (v : ℤ) → Within m v → u + m ≤ b → pos u ⩽ v +ℤ pos b
@@ -87,7 +91,11 @@ pub record Least (u m : ℕ) (ts : List Bool) (vs : List ℤ) : Type 0 where
 pub multiplier-least : (u m : ℕ) (ts : List Bool) (vs : List ℤ) → odd ts ≡ true → Alike ts vs → AllWithin m vs → u + m ≤ 2 ^ 24
     → left u ts (clips u vs) <ℤ pos (2 * u) → Least u m ts vs
 unfolding multiplier
-multiplier-least u m ts vs o k w h l = record { meets = t .fails; none-less = λ b lt. short-mono u ts vs b (lastWhere (short u ts vs) 24 0) (omega arith) (t .holds); bounded = go (decLe (suc (lastWhere (short u ts vs) 24 0)) (u + m)) }
+multiplier-least u m ts vs o k w h l = record {
+  meets = t .fails;
+  none-less = λ b lt. short-mono u ts vs b (lastWhere (short u ts vs) 24 0) (omega arith) (t .holds);
+  bounded = go (decLe (suc (lastWhere (short u ts vs) 24 0)) (u + m));
+}
   where
     t : Turns (short u ts vs) (lastWhere (short u ts vs) 24 0)
     t = last-turns (short u ts vs) 24 0 (lt-ltZ (left u ts (moves u 0 ts vs)) (pos (2 * u)) (subst (λ z. left u ts z <ℤ pos (2 * u)) (sym (moves-zero u ts vs k)) l))

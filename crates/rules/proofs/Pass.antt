@@ -136,4 +136,7 @@ module _ (u m : ℕ) (f : ℕ → ℤ) (w : (i : ℕ) → Within u (f i)) where
 
   pub multipliers-within : (cs : List (List ℕ)) (ys : List ℤ) → AllWithin m ys → u + (u + m) ≤ 2 ^ 24 → AtMost (u + (u + m)) (entriesIn (pass u f cs ys))
   multipliers-within [] ys h k = tt
-  multipliers-within (ms ∷ cs) ys h k = (step-shape u (values f ms ys) .priced (u + m) (values-within u m f ms ys w h) k, multipliers-within cs (drop (length ms) ys) (drop-within m (length ms) ys h) k)
+  multipliers-within (ms ∷ cs) ys h k = (
+    step-shape u (values f ms ys) .priced (u + m) (values-within u m f ms ys w h) k,
+    multipliers-within cs (drop (length ms) ys) (drop-within m (length ms) ys h) k,
+  )

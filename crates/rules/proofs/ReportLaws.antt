@@ -49,8 +49,10 @@ module _ (file : List ℕ) (t : Table) (isFile : codeFile file ≡ gives t) wher
 
     -- a start on the parts that are needed is the part of a start on the whole
     started-part : startedRun file (partOf (needs t) b) ≡ lend (needs t) (startedRun file b)
-    started-part = ap (λ x. record { progress = fresh; buffers = x })
-        (ap (λ s. s .buffers) (started-on file t (partOf (needs t) b) isFile (enough (lengthsOf (partOf (needs t) b)) (subst (Part (needs t)) (sym (lengths-part (needs t) b long)) (part-refl (needs t)))))
+    started-part =
+        let room = enough (lengthsOf (partOf (needs t) b)) (subst (Part (needs t)) (sym (lengths-part (needs t) b long)) (part-refl (needs t))) in
+        ap (λ x. record { progress = fresh; buffers = x })
+        (ap (λ s. s .buffers) (started-on file t (partOf (needs t) b) isFile room)
         ∙ write-part (needs t) (zeroing t) b (zeroing-small t (needs t) (enough (needs t) (part-refl (needs t)))) ∙ ap (λ s. partOf (needs t) (s .buffers)) (sym at-start))
 
   -- ---- a call keeps the lengths of buffers that are long enough, and does to the whole what it does to the parts that are needed

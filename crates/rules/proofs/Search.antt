@@ -17,15 +17,19 @@ add-last a = omega arith
 add-pow : (a k : ℕ) → a + 2 ^ k + 2 ^ k ≡ a + 2 ^ suc k
 add-pow a k = omega (arith, pow-suc 2 k)
 
+-- k halvings from a on find a turn
+abbrev Finds : (ℕ → Bool) → ℕ → ℕ → Type 0
+Finds test k a = test a ≡ true → test (a + 2 ^ k) ≡ false → Turns test (lastWhere test k a)
+
 pub last-turns : (test : ℕ → Bool) (k a : ℕ) → test a ≡ true → test (a + 2 ^ k) ≡ false → Turns test (lastWhere test k a)
 unfolding lastWhere
 last-turns test zero a h l = record { holds = h; fails = ap test (sym (add-last a)) ∙ l }
-last-turns test (suc k) a h l = go (test (a + 2 ^ k)) refl (last-turns test k a h) (last-turns test k (a + 2 ^ k))
+last-turns test (suc k) a h l = go (test (a + 2 ^ k)) refl (last-turns test k a) (last-turns test k (a + 2 ^ k))
   where
-    go : (b : Bool) → test (a + 2 ^ k) ≡ b → (test (a + 2 ^ k) ≡ false → Turns test (lastWhere test k a)) → (test (a + 2 ^ k) ≡ true → test (a + 2 ^ k + 2 ^ k) ≡ false → Turns test (lastWhere test k (a + 2 ^ k)))
+    go : (b : Bool) → test (a + 2 ^ k) ≡ b → Finds test k a → Finds test k (a + 2 ^ k)
         → Turns test (lastWhere test k (cond b (a + 2 ^ k) a))
     go true e f g = g e (ap test (add-pow a k) ∙ l)
-    go false e f g = f e
+    go false e f g = f h e
 
 -- and it never passes 2 ^ k
 pub last-below : (test : ℕ → Bool) (k a : ℕ) → lastWhere test k a < a + 2 ^ k

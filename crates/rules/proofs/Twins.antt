@@ -16,7 +16,8 @@ use Rattle.rules.specs.Input.{eachWithin, onFrame}
 use Rattle.rules.specs.Step.{Entry, inactive, active}
 use Rattle.rules.specs.Round.{State, Round, round}
 use Rattle.rules.specs.Buffers.{Lengths, needs, fits, overBy, wordLeft, multiplierOf, multipliersOf, bytesOf}
-use Rattle.rules.specs.Run.{Status, running, certified, spent, Progress, Run, statusAt, moved, tooLarge, nextBy, stateIn, next, iterate, isRunning, sound, admits, answerAt, Called, perform, callOn}
+use Rattle.rules.specs.Run.{Status, running, certified, spent, Progress, Run, statusAt, moved, tooLarge, nextBy, stateIn, next, iterate}
+use Rattle.rules.specs.Run.{isRunning, sound, admits, answerAt, Called, perform, callOn}
 use Rattle.rules.proofs.CutRule.{plusO}
 use Rattle.rules.proofs.Steps.{turnEntry}
 use Rattle.rules.proofs.RoundTurns.{signs, turnState, turnEntries}
@@ -56,7 +57,11 @@ status-turn : (c : List Bool) (k : ℕ) (o : Option (List Bool)) → statusAt k 
 status-turn c k none = refl
 status-turn c k (some w) = refl
 
-words-turn : (n k : ℕ) (c : List Bool) (o : Option (List Bool)) (x y : List ℕ) → ((w : List Bool) → o ≡ some w → length (bytesOf w) ≡ n) → ((w : List Bool) → plusO c o ≡ some w → length (bytesOf w) ≡ n)
+-- a word that is found has n bytes
+abbrev Fills : ℕ → Option (List Bool) → Type 0
+Fills n o = (w : List Bool) → o ≡ some w → length (bytesOf w) ≡ n
+
+words-turn : (n k : ℕ) (c : List Bool) (o : Option (List Bool)) (x y : List ℕ) → Fills n o → Fills n (plusO c o)
     → statusAt k o ≡ certified → Worded n c (overBy (wordLeft o) x) (overBy (wordLeft (plusO c o)) y)
 words-turn n k c none x y h g e = absurd (uncertified k e)
 words-turn n k c (some w) x y h g e = record { word = w; here = take-over n (bytesOf w) x (h w refl); there = take-over n (bytesOf (plus c w)) y (g (plus c w) refl) }

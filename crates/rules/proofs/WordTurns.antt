@@ -81,8 +81,13 @@ weights-turn b (c ∷ cs) (t ∷ ts) h = ap₂ _∷_ (turn-side c t (pos b)) (we
 
 pub pull-turn : (c : List Bool) (i : ℕ) (rs : List Row) → Good rs → pull i (turnRows c rs) ≡ turn (bit c i) (pull i rs)
 pull-turn c i [] h = turn-zero (bit c i)
-pull-turn c i (r ∷ rs) h = ap₂ _+ℤ_ (ap (gather i (r .members)) (weights-turn (r .multiplier) (bitsAt c (r .members)) (r .set) (alike-trans (bitsAt c (r .members)) (r .members) (r .set) (bitsAt-alike c (r .members)) (alike-sym (r .set) (r .members) (h .1)))) ∙ gather-turn c i (r .members) (weights (r .multiplier) (r .set))) (pull-turn c i rs (h .2))
-    ∙ turn-sum (bit c i) (gather i (r .members) (weights (r .multiplier) (r .set))) (pull i rs)
+pull-turn c i (r ∷ rs) h =
+    let ms = r .members in
+    let ws = weights (r .multiplier) (r .set) in
+    let alike = alike-trans (bitsAt c ms) ms (r .set) (bitsAt-alike c ms) (alike-sym (r .set) ms (h .1)) in
+    let turned = weights-turn (r .multiplier) (bitsAt c ms) (r .set) alike in
+    ap₂ _+ℤ_ (ap (gather i ms) turned ∙ gather-turn c i ms ws) (pull-turn c i rs (h .2))
+    ∙ turn-sum (bit c i) (gather i ms ws) (pull i rs)
 
 pub price-turn : (c : List Bool) (rs : List Row) → price (turnRows c rs) ≡ price rs
 price-turn c [] = refl
@@ -133,9 +138,12 @@ certify-turns t c l rs none e h = refl
 certify-turns t c l rs (some w) e h = ap₂ (λ a b. keep (a && isZero b) (plus c w)) (meets-turns c w (t .checks) e) (gap-turns (t .bits) 1 c l rs w h)
     ∙ keep-plus c w (meets w (t .checks) && isZero (gap (t .bits) 1 l rs w))
 
+abbrev roundOf : List ℤ → List ℤ → List ℤ → List Entry → Option (List Bool) → Round
+roundOf p a y e v = record { spins = p; state = record { copies = a; offsets = y }; entries = e; word = v }
+
 round-eq : {p q a b y z : List ℤ} {e f : List Entry} {v w : Option (List Bool)} → p ≡ q → a ≡ b → y ≡ z → e ≡ f → v ≡ w
-    → _≡_ {A = Round} (record { spins = p; state = record { copies = a; offsets = y }; entries = e; word = v }) (record { spins = q; state = record { copies = b; offsets = z }; entries = f; word = w })
-round-eq p q r s t = λ i. record { spins = p i; state = record { copies = q i; offsets = r i }; entries = s i; word = t i }
+    → roundOf p a y e v ≡ roundOf q b z f w
+round-eq p q r s t = λ i. roundOf (p i) (q i) (r i) (s i) (t i)
 
 pub round-turns : (t : Table) (c : List Bool) (l : List ℤ) (s : State) → Codeword t c → round t (turns c l) (turnState c (t .checks) s) ≡ turnRound c (t .checks) (round t l s)
 unfolding round

@@ -103,7 +103,8 @@ pub items-written : (es : List Entry) → length es < u16Limit → Narrow es →
 unfolding certificateOf
 items-written es h s = ap₂ (λ q c. itemsAt bs q 0 c) count count
     ∙ items-in bs (cutsIn es) 0 (cutsIn es)
-    ∙ ap (itemsIn (cutsIn es) (contentBytes 0 es ++ bodyBytes es)) (ap (λ n. drop n bs) (heads (cutsIn es) (length (contentBytes 0 es)) (contents-long 0 es)) ∙ drop-append-seam (contentBytes 0 es) (bodyBytes es) ∙ sym (append-nil (bodyBytes es)))
+    ∙ ap (itemsIn (cutsIn es) (contentBytes 0 es ++ bodyBytes es))
+    (ap (λ n. drop n bs) (heads (cutsIn es) (length (contentBytes 0 es)) (contents-long 0 es)) ∙ drop-append-seam (contentBytes 0 es) (bodyBytes es) ∙ sym (append-nil (bodyBytes es)))
     ∙ items-listed 0 es (bodyBytes es) [] (room (length es) h) s
   where
     bs : List ℕ

@@ -168,7 +168,7 @@ items-back t es s p b = items-written es (wide (length es) (checksOf t) (proper-
 certificate-right : {A : Type 0} (t : Table) (es : List Entry) (a : Answer A) → Sound t → AllProper (t .checks) es → tooLarge es ≡ false → onCertificate t (certificateOf es) a ≡ a
 unfolding onCertificate inRange
 certificate-right t es a s p b =
-    must-true ((leb 4 (length (certificateOf es)) && leb (entriesOf (certificateOf es)) maxEntries) && eqb (length (certificateOf es)) (certificateLength (entriesOf (certificateOf es)))) certificateWrong _
+    must-true _ certificateWrong _
     (ap₂ _&&_ (ap₂ _&&_ (le-leb 4 (length (certificateOf es)) (four (cutsIn es) (length (certificateOf es)) (certificate-length es)))
     (le-leb (entriesOf (certificateOf es)) maxEntries (few (entriesOf (certificateOf es)) (cutsIn es) (length es) (checksOf t) count (cuts-few es) many (s .checks .1))))
     (eq-eqb (length (certificateOf es)) (certificateLength (entriesOf (certificateOf es))) (certificate-length es ∙ ap certificateLength (sym count))))

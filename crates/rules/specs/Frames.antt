@@ -128,5 +128,7 @@ cases =
     ∷ []
 
 pub frames : asked cases ≡ said cases
-unfolding cases threeBits oneBit frameA frameB frameC answerTo must then replyOf u16At u32At agreement maskRight ones lib.Count.onesIn inRange contents countsRight startsRight totalCount numbersAt bodies ascends membersRight bitsRight fileOf codeFile codeFileReply onFrame onWord cut lastWhere multiplier step reduced bound gap total divided spin round certificateOf itemsAt follows onItem onItems onCertificate verdict judge judgeReply fits fitsStart next iterate sound admits callOn call start clipZ
+unfolding cases threeBits oneBit frameA frameB frameC answerTo must then replyOf u16At u32At agreement maskRight ones lib.Count.onesIn inRange contents countsRight startsRight
+    totalCount numbersAt bodies ascends membersRight bitsRight fileOf codeFile codeFileReply onFrame onWord cut lastWhere multiplier step reduced bound gap total divided spin round
+    certificateOf itemsAt follows onItem onItems onCertificate verdict judge judgeReply fits fitsStart next iterate sound admits callOn call start clipZ
 frames = refl

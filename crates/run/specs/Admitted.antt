@@ -91,3 +91,7 @@ admissionBy (gives t) l wanted lent p z y ss ms = record {
 -- any code file, frame, wanted number, record and lent buffers: 1 to 7, then 41 for starts and members, then the rest
 unfoldable pub admission : List ℕ → List ℤ → ℕ → Lengths → Progress → List ℤ → List ℤ → List ℕ → List ℕ → Admission
 admission file l wanted lent p z y ss ms = admissionBy (then (codeFile file) (withRoom ss ms)) l wanted lent p z y ss ms
+
+-- the same of a call that tells what it lends
+abbrev pub admissionLent : List ℕ → List ℤ → ℕ → Lent → Progress → List ℤ → List ℤ → List ℕ → List ℕ → Admission
+admissionLent file l wanted lent p z y ss ms = admission file l wanted (lentOf lent z y) p z y ss ms

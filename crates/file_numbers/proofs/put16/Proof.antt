@@ -12,7 +12,8 @@ returns-2 c =
     let high = c .before .before in
     let low = high .before .before .before .before .before in
     let start = low .before .before .before .before .before in
-    two-put (start .args .bytes .now) _ _ (start .args .at) _ (high .before .low-byte2 .result) _ _ (low .put .ensures) (low .before .low-byte .ensures) (high .put2 .ensures) (high .before .low-byte2 .ensures)
+    two-put (start .args .bytes .now) _ _ (start .args .at) _ (high .before .low-byte2 .result) _ _ (low .put .ensures) (low .before .low-byte .ensures)
+    (high .put2 .ensures) (high .before .low-byte2 .ensures)
 
 pub put16-spec : {M : Type 1} → statement M
 put16-spec =

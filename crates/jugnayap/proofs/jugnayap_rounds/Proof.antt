@@ -4,8 +4,18 @@ use Rattle.jugnayap.proofs.RunLaws.{call-left}
 use Rattle.jugnayap.proofs.jugnayap_rounds.Statement.{statement}
 use Rattle.jugnayap.proofs.jugnayap_rounds.Tie as tie
 
+-- the rounds and the record, seen from the answer, and the call's beginning, seen from the record
+abbrev ran : tie.After-called-numbers → tie.After-rounds
+ran c = c .before .before .before .before .before .before .before .before .before .before .before .before
+
+abbrev handed : tie.After-called-numbers → tie.After-record-of
+handed c = ran c .before .before .before .before .before .before .before .before
+
+abbrev begun : tie.After-record-of → tie.Start
+begun c = c .before .before .before .before .before .before
+
 returns : tie.Need-returns
-returns c = call-left (c .before .before .before .before .before .before .before .before .before .before .before .before .before .before .before .before .before .before .before .before .before .before .before .before .before .before .args .run) _ _ _ _ _ _ _ (c .called-numbers .ensures) (c .before .before .before .before .before .before .before .before .before .before .before .before .rounds .ensures) (c .before .before .before .before .before .before .before .before .before .before .before .before .before .before .before .before .before .before .before .before .record-of .ensures)
+returns c = call-left (begun (handed c) .args .run) _ _ _ _ _ _ _ (c .called-numbers .ensures) (ran c .rounds .ensures) (handed c .record-of .ensures)
 
 pub jugnayap-rounds-spec : {M : Type 1} → statement M
 jugnayap-rounds-spec =

@@ -13,7 +13,8 @@ returns c = entry-check _ _ _ _ _ _ (c .before .check-at .ensures .0) refl (c .i
 returns-2 : tie.Need-returns-2
 returns-2 c =
     let listed = c .before .before .before in
-    entry-multiplier _ _ _ _ _ _ (listed .before .check-at .ensures .0) (c .before .before .multiplier-at .ensures) (listed .if1 .left) (sym (c .before .in-range .ensures) ∙ not-true _ (c .if2 .taken))
+    let outside = sym (c .before .in-range .ensures) ∙ not-true _ (c .if2 .taken) in
+    entry-multiplier _ _ _ _ _ _ (listed .before .check-at .ensures .0) (c .before .before .multiplier-at .ensures) (listed .if1 .left) outside
 
 degree-requires : tie.Need-degree-requires
 degree-requires c κs =

@@ -1,9 +1,9 @@
 -- `run::bounds::all_within` meets its contract: what is left from i on decides. Assumes nothing.
 use mathlib.Core.Path.{_≡_, refl, sym, _∙_, ap}
-use Prim.Native.Nat.{_-_, _≤_}
+use Prim.Native.Nat.{ℕ, _-_, _≤_}
 use native.Mathlib.Omega.{arith}
 use lib.Dec.{leb}
-use lib.IntN.{pos, natAbs}
+use lib.IntN.{ℤ, pos, natAbs}
 use lib.ListN.{length, getD, drop}
 use mir.Syntax.{w32}
 use mir.Val.{toZ, ofZ}
@@ -25,12 +25,15 @@ abbrev μ-loop : tie.MeasureT-loop
 within-requires : tie.Need-within-requires Inv-loop μ-loop
 within-requires c κs = rw (toZ-ofZ (c .before .before .before .fits .limit)) (c .before .before .before .pre)
 
--- the element that was tested
-tested : (c : tie.After-within Inv-loop μ-loop)
-    → c .within .result ≡ leb (natAbs (getD (c .before .before .before .before .args .xs .now) (c .before .before .before .loop .i) (pos 0))) (natAbs (toZ w32 (ofZ w32 (c .before .before .before .before .args .limit))))
-tested c =
-    let x = getD (c .before .before .before .before .args .xs .now) (c .before .before .before .loop .i) (pos 0) in
-    c .within .ensures ∙ ap (λ z. leb (natAbs z) (natAbs (toZ w32 (ofZ w32 (c .before .before .before .before .args .limit))))) (toZ-ofZ (fit w32 x (c .before .within-arg .given)))
+-- the element that was tested, and the limit
+abbrev element : tie.After-within Inv-loop μ-loop → ℤ
+element c = getD (c .before .before .before .before .args .xs .now) (c .before .before .before .loop .i) (pos 0)
+
+abbrev limit : tie.After-within Inv-loop μ-loop → ℕ
+limit c = natAbs (toZ w32 (ofZ w32 (c .before .before .before .before .args .limit)))
+
+tested : (c : tie.After-within Inv-loop μ-loop) → c .within .result ≡ leb (natAbs (element c)) (limit c)
+tested c = c .within .ensures ∙ ap (λ z. leb (natAbs z) (limit c)) (toZ-ofZ (fit w32 (element c) (c .before .within-arg .given)))
 
 returns : tie.Need-returns Inv-loop μ-loop
 returns c =
@@ -41,8 +44,10 @@ returns c =
 
 loop-again : tie.Need-loop-again Inv-loop μ-loop
 loop-again c =
-    let n = natAbs (toZ w32 (ofZ w32 (c .before .before .before .before .before .args .limit))) in
-    (omega arith, c .before .before .before .before .loop .inv .1 ∙ each-holds (pos 0) (λ x. leb (natAbs x) n) (eachWithin n) refl (λ x xs. refl) _ _ (c .before .before .before .loop-test .taken) (sym (tested (c .before)) ∙ not-false _ (c .if1 .left)))
+    let n = limit (c .before) in
+    let holds = sym (tested (c .before)) ∙ not-false _ (c .if1 .left) in
+    let rest = each-holds (pos 0) (λ x. leb (natAbs x) n) (eachWithin n) refl (λ x xs. refl) _ _ (c .before .before .before .loop-test .taken) holds in
+    (omega arith, c .before .before .before .before .loop .inv .1 ∙ rest)
 
 returns-2 : tie.Need-returns-2 Inv-loop μ-loop
 returns-2 c =
