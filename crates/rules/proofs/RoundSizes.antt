@@ -85,12 +85,15 @@ round-sized t l s = record {
 upTo : {a b c : ℕ} → a ≡ b → b ≤ c → a ≤ c
 upTo e h = le-trans (le-of-eq e) h
 
+none-small : {A : Type 0} (n : ℕ) (new : List A) → none ≡ some new → length new ≤ n
+none-small n new e = absurd (none≢some e)
+
 word-small : (n : ℕ) (o : Option (List Bool)) → ((w : List Bool) → o ≡ some w → length (bytesOf w) ≡ n) → (new : List ℕ) → wordLeft o ≡ some new → length new ≤ n
-word-small n none h new e = absurd (none≢some e)
+word-small n none h new e = none-small n new e
 word-small n (some w) h new e = upTo (ap length (sym (some-inj (bytesOf w) new e)) ∙ h w refl) (le-refl n)
 
 certificate-small : (n : ℕ) (o : Option (List Bool)) (es : List Entry) → length (certificateOf es) ≤ n → (new : List ℕ) → certificateLeft o es ≡ some new → length new ≤ n
-certificate-small n none es h new e = absurd (none≢some e)
+certificate-small n none es h new e = none-small n new e
 certificate-small n (some w) es h new e = upTo (ap length (sym (some-inj (certificateOf es) new e))) h
 
 all-small : {A : Type 0} (n : ℕ) (l : List A) → length l ≡ n → (new : List A) → some l ≡ some new → length new ≤ n
@@ -98,7 +101,7 @@ all-small n l h new e = upTo (ap length (sym (some-inj l new e)) ∙ h) (le-refl
 
 -- what a round writes fits
 pub leaves-small : (t : Table) (d : Round) → Sized t d → Small (needs t) (leaves d)
-leaves-small t d s = by-name (search (all-small, word-small, certificate-small))
+leaves-small t d s = by-name (search (all-small, word-small, certificate-small, none-small))
 
 pub written-past : (t : Table) (d : Round) (b : Buffers) → Sized t d → Part (needs t) (lengthsOf b) → AllPast (needs t) (written d b) b
 written-past t d b s h = write-past (needs t) (leaves d) b (leaves-small t d s) h
