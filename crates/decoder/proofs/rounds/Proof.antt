@@ -3,6 +3,9 @@ use Prim.Native.Nat.{_≤_, _<_}
 use native.Mathlib.Omega.{arith}
 use borrow.Author.Needs.{needs}
 use Rattle.rules.specs.Limits.{maxChecks, maxEdges}
+use Rattle.rules.specs.Buffers.{lent}
+use Rattle.rules.specs.Run.{Run}
+use Rattle.run.specs.Reply.{progressOf}
 use Rattle.decoder.proofs.CallLaws.{found-refused, found-fit, found-call}
 use Rattle.decoder.proofs.rounds.Statement.{statement}
 use Rattle.decoder.proofs.rounds.Tie as tie
@@ -22,11 +25,18 @@ perform-requires c κs =
 returns : tie.Need-returns
 returns c = found-refused _ _ _ _ _ _ _ _ _ _ (c .before .answer .given .1) (c .before .before .before .before .before .admit .ensures) starts-room members-room
 
+-- the run is given: found by unification it takes too many steps to compare
 returns-2 : tie.Need-returns-2
 returns-2 c =
     let done = c .before .before .before .before .before .before .before .before .before .before .before .before in
     let sized = done .before .before .before .before .before .before .before .before .before .before .before in
-    found-call _ _ _ _ _ _ _ _ _ _ _ _ (sized .answer2 .given .1) (sized .before .before .before .before .admit .ensures) starts-room members-room _ _ (done .perform .ensures) (c .outcome-of .ensures)
+    let args = sized .before .before .before .before .before .before .before .before .before .before .before .before .before .before .args in
+    let run : Run = record {
+      progress = progressOf (args .run);
+      buffers = lent (args .spins .now) (args .copies .now) (args .offsets .now) (args .multipliers .now) (args .masks .now) (args .word .now) (args .certificate .now);
+    } in
+    found-call (args .code .now) (args .frame .now) (args .wanted) run _ _ _ _ _ _ _ _ (sized .answer2 .given .1) (sized .before .before .before .before .admit .ensures) starts-room members-room
+    _ _ (done .perform .ensures) (c .outcome-of .ensures)
 
 pub rounds-spec : {M : Type 1} → statement M
 rounds-spec =
