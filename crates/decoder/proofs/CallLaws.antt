@@ -11,7 +11,7 @@ use Rattle.rules.specs.Refusal.{Answer, refused, gives, multiplierLarge}
 use Rattle.rules.specs.Table.{Table, edges, edgesOf, checksOf}
 use Rattle.rules.specs.CodeFile.{codeFile}
 use Rattle.rules.specs.Buffers.{Buffers, by-name, lengthsOf, needs, over}
-use Rattle.rules.specs.Run.{Status, running, certified, spent, Progress, Run, stateIn, iterate, isRunning, answerAt, refusedAt, perform, callOn, callBy, call, Safe}
+use Rattle.rules.specs.Run.{Status, running, certified, spent, Run, stateIn, iterate, isRunning, answerAt, refusedAt, perform, callOn, callBy, call, Safe}
 use Rattle.rules.proofs.AnswerLaws.{refused≢gives, gives-inj}
 use Rattle.rules.proofs.Tables.{file-sound}
 use Rattle.rules.proofs.BufferLaws.{fits-part}

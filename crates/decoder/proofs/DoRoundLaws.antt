@@ -10,11 +10,11 @@ use lib.IntN.{ℤ}
 use Rattle.integers.specs.Linear.{Within}
 use Rattle.integers.specs.Sum.{AllWithin}
 use Rattle.rules.specs.Limits.{unit, roundLimit, offsetPerRound, offsetLimit, stepLimit}
-use Rattle.rules.specs.Table.{Table, at, edges, edgesOf, checksOf, degreeOf}
+use Rattle.rules.specs.Table.{Table, at, edges, edgesOf, degreeOf}
 use Rattle.rules.specs.Cut.{negatives, keep}
 use Rattle.rules.specs.Step.{Entry}
 use Rattle.rules.specs.Round.{State, spin, firstOf, Round, round}
-use Rattle.rules.specs.Buffers.{spins, copies, offsets, multipliers, masks, Lengths, lengthsOf, needs, multipliersOf, masksOf, roundLent}
+use Rattle.rules.specs.Buffers.{spins, copies, offsets, multipliers, masks, multipliersOf, masksOf, roundLent}
 use Rattle.rules.specs.Run.{Progress, Run, statusAt, moved, stateIn, iterate}
 use Rattle.rules.proofs.Pass.{AtMost}
 use Rattle.rules.proofs.RoundSizes.{first-length, Sized, round-sized}

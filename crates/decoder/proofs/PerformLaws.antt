@@ -25,7 +25,7 @@ use Rattle.rules.proofs.RoundSizes.{Sized, round-sized, state-part}
 use Rattle.rules.proofs.Runs.{coming, Kept, iterate-kept, held-start, iterate-held, running≢certified, spent≢certified}
 use Rattle.rules.proofs.Lends.{iterate-lend}
 use Rattle.writing.specs.Written.{certificateFrom}
-use Rattle.table.specs.Layout.{checksFrom, tableOf, Holds}
+use Rattle.table.specs.Layout.{tableOf, Holds}
 use Rattle.run.specs.Ending.{closing}
 use Rattle.decoder.specs.Rounds.{Given, looped, filled, roundsFrom, Steady, Ready}
 use Rattle.decoder.specs.Finished.{Ending, finished, FinishFits, PartsFit}

@@ -10,7 +10,6 @@ use lib.Dec.{leb}
 use borrow.Author.Tests.{leb-true, le-leb}
 use lib.ListN.{length, take, drop, length-drop, length-append, take-append-drop, drop-of-length-le}
 use lib.Seq.{length-take-le, take-all, take-at, drop-drop}
-use lib.IntN.{ℤ}
 use Rattle.rules.specs.Buffers.{Buffer, by-name, Elem, Buffers, the, each, every, Lengths, lengthsOf, Part, fits, partOf, over, overAll, Writes, overBy, write}
 use Rattle.rules.proofs.Basics.{and-first, and-rest}
 

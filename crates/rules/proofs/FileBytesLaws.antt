@@ -1,18 +1,18 @@
 -- The code file of a table within document 01's limits is accepted, and is that table. Assumes nothing.
 use mathlib.Core.Path.{_≡_, refl, sym, _∙_, ap, ap₂, subst}
-use mathlib.Core.Bool.{Bool, true, _&&_}
-use mathlib.Core.List.{List, [], _∷_, _++_, append-nil}
+use mathlib.Core.Bool.{true, _&&_}
+use mathlib.Core.List.{List, [], _∷_, _++_}
 use Prim.Native.Nat.{ℕ, zero, suc, _+_, _*_, _≤_, _<_}
 use native.Mathlib.Omega.{arith}
 use native.Mathlib.Nat.{add-zero, zero-add}
-use lib.Dec.{leb, ltb, eqb}
+use lib.Dec.{leb, eqb}
 use lib.ListN.{length, drop, length-append}
 use lib.Seq.{drop-drop}
 use borrow.Author.Tests.{lt-ltb, le-leb, eq-eqb}
 use Rattle.rules.specs.Limits.{maxBits, maxChecks, minDegree, maxDegree, maxEdges, maxBitDegree, contentsEnd, fileLength}
 use Rattle.rules.specs.Refusal.{gives, headerShort, sizeRange, countRange, startWrong, lengthWrong, memberWrong, bitDegree}
 use Rattle.rules.specs.Bytes.{u16Limit, u16At}
-use Rattle.rules.specs.Table.{Table, edges, edgesOf, checksOf, degreeOf}
+use Rattle.rules.specs.Table.{Table, edges, edgesOf, degreeOf}
 use Rattle.rules.specs.CodeFile.{Content, inRange, contentAt, contents, countsRight, startsRight, totalCount, numbersAt, bodies, ascends, membersRight, bitsRight, tableAt, fileOf, codeFile}
 use Rattle.rules.specs.FileBytes.{bytes16, contentNumbers, counts, fileBytes}
 use Rattle.rules.specs.Sound.{Below, AllBelow, Ascending, AllAscending, Degrees, Sound}

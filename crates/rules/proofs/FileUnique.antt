@@ -1,6 +1,6 @@
 -- An accepted code file is the one that its table has: no two files of bytes are one table. Assumes nothing.
 use mathlib.Core.Path.{_≡_, refl, sym, _∙_, ap, ap₂, subst}
-use mathlib.Core.Bool.{_&&_, true}
+use mathlib.Core.Bool.{true}
 use mathlib.Core.List.{List, [], _∷_, _++_}
 use Prim.Native.Nat.{ℕ, zero, suc, _+_, _*_, _/_, _%_, _<_}
 use native.Mathlib.Omega.{arith}
@@ -11,8 +11,8 @@ use borrow.Author.Tests.{eqb-true}
 use Rattle.rules.specs.Limits.{maxEdges, contentsEnd, fileLength}
 use Rattle.rules.specs.Refusal.{gives}
 use Rattle.rules.specs.Bytes.{u16Of, u16At, le16}
-use Rattle.rules.specs.Table.{Table, edges}
-use Rattle.rules.specs.CodeFile.{contents, startsRight, totalCount, numbersAt, bodies, tableAt, codeFile}
+use Rattle.rules.specs.Table.{Table}
+use Rattle.rules.specs.CodeFile.{contents, startsRight, totalCount, numbersAt, bodies, codeFile}
 use Rattle.rules.specs.FileBytes.{bytes16, contentNumbers, counts, fileBytes}
 use Rattle.rules.specs.Sound.{Below}
 use Rattle.rules.proofs.Basics.{and-both}

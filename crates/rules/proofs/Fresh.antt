@@ -13,7 +13,7 @@ use lib.IntN.{ℤ, pos}
 use Rattle.integers.specs.Order.{within-zero}
 use Rattle.integers.specs.Sum.{AllWithin}
 use Rattle.rules.specs.Limits.{unit, offsetPerRound}
-use Rattle.rules.specs.Refusal.{gives, must, then, bufferShort}
+use Rattle.rules.specs.Refusal.{gives, must, bufferShort}
 use Rattle.rules.specs.Table.{Table, edgesOf}
 use Rattle.rules.specs.Parity.{turns}
 use Rattle.rules.specs.CodeFile.{codeFile}

@@ -7,7 +7,7 @@ use native.Mathlib.Omega.{arith}
 use native.Mathlib.Nat.{le-of-suc-le-suc, lt-of-not-le}
 use native.Mathlib.Decide.{decLe}
 use lib.IntN.{ℤ, pos, negℤ, _+ℤ_}
-use lib.Signed.{_<ℤ_, ltZ}
+use lib.Signed.{_<ℤ_}
 use Rattle.integers.specs.Linear.{lin, arithZ, _⩽_, Within, lt-ltZ, le-ltZ}
 use Rattle.integers.specs.Order.{neg-mono, le-lt-trans, ltZ-lt}
 use Rattle.integers.specs.Clip.{clipZ, clip-mono, clip-top, clip-bottom}

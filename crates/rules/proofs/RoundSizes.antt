@@ -6,7 +6,7 @@ use mathlib.Core.Option.{Option, some, none}
 use Prim.Native.Nat.{ℕ, zero, suc, _+_, _*_, _≤_}
 use native.Mathlib.Omega.{arith}
 use native.Mathlib.Nat.{le-of-eq, le-refl, le-trans}
-use lib.ListN.{length, take}
+use lib.ListN.{length}
 use lib.Seq.{take-take}
 use lib.IntN.{ℤ}
 use Rattle.rules.specs.Limits.{unit, certificateLength}
@@ -16,7 +16,7 @@ use Rattle.rules.specs.Step.{Entry}
 use Rattle.rules.specs.Bound.{Row, rowsOf, gap}
 use Rattle.rules.specs.Round.{State, entriesIn, bitOf, join, candidate, isZero, certify, firstOf, Round, round}
 use Rattle.rules.specs.Certificate.{cutsIn, certificateOf}
-use Rattle.rules.specs.Buffers.{Buffer, by-name, copies, offsets, Elem, Buffers, Lengths, lengthsOf, Part, needs, partOf, multipliersOf, masksOf, bytesOf, wordLeft, certificateLeft, leaves}
+use Rattle.rules.specs.Buffers.{by-name, copies, offsets, Buffers, Lengths, lengthsOf, Part, needs, partOf, multipliersOf, masksOf, bytesOf, wordLeft, certificateLeft, leaves}
 use Rattle.rules.specs.Run.{written, stateIn}
 use Rattle.rules.proofs.Basics.{none≢some, some-inj}
 use Rattle.rules.proofs.Pass.{spinsIn, stepsIn, steps-laid, entries-length, copies-length, offsets-length}

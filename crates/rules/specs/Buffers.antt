@@ -206,7 +206,7 @@ abbrev pub certificateLeft : Option (List Bool) → List Entry → Option (List 
 certificateLeft none es = none
 certificateLeft (some w) es = some (certificateOf es)
 
--- those that only the end of a run writes
+-- those that a round is not lent: word and certificate, which only the end of a run writes
 abbrev pub atEnd : Buffer → Bool
 atEnd spins = false
 atEnd copies = false

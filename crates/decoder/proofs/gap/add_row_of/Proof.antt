@@ -11,7 +11,6 @@ use borrow.Author.Needs.{needs}
 use Rattle.integers.specs.Machine.{fit}
 use Rattle.integers.specs.Signed64.{sized}
 use Rattle.rules.specs.Table.{at}
-use Rattle.rules.specs.Sound.{Below}
 use Rattle.rules.specs.Parity.{side}
 use Rattle.rules.specs.Scatter.{MembersPut}
 use Rattle.rules.proofs.Duality.{below-at}
