@@ -1,0 +1,192 @@
+//! The proved library's calls on plain slices. Each takes any bytes, numbers and lengths, and answers or
+//! refuses by number; a refused call changes nothing. The types of the crate's root own their buffers and
+//! are easier to use.
+
+use crate::ffi;
+use crate::Refusal;
+
+/// The sizes of a code: n, m and E.
+#[derive(Clone, Copy, Debug, PartialEq, Eq)]
+pub struct Sizes {
+    pub bits: u32,
+    pub checks: u32,
+    pub edges: u32,
+}
+
+/// What the judge says of a word and a certificate that it does not refuse.
+#[derive(Clone, Copy, Debug, PartialEq, Eq)]
+pub enum Verdict {
+    /// The word breaks this check, the first of those.
+    Broken(u32),
+    /// No codeword, and no point of the relaxation, agrees better with the frame than the word.
+    Certified,
+    /// The bound is this much above the word's agreement, in units of the certificate's scale.
+    Gap(i64),
+}
+
+/// A run's record. The status stays a number, since a half-done run may hold any.
+#[repr(C)]
+#[derive(Clone, Copy, Debug, PartialEq, Eq)]
+pub struct Record {
+    pub rounds: u32,
+    pub status: u32,
+}
+
+impl Record {
+    pub const RUNNING: u32 = 0;
+    pub const CERTIFIED: u32 = 1;
+    pub const SPENT: u32 = 2;
+    pub const FRESH: Record = Record { rounds: 0, status: Self::RUNNING };
+}
+
+/// A call for rounds: the refusal, if any, and the record that the call leaves.
+#[derive(Clone, Copy, Debug, PartialEq, Eq)]
+pub struct Called {
+    pub refusal: Option<Refusal>,
+    pub record: Record,
+}
+
+impl Called {
+    pub fn done(record: Record) -> Called {
+        Called { refusal: None, record }
+    }
+
+    pub fn refused(refusal: Refusal, record: Record) -> Called {
+        Called { refusal: Some(refusal), record }
+    }
+}
+
+/// Hands a macro the buffers lent to a call for rounds: the name, the elements, and which of the code's
+/// numbers (bits, checks, edges, or the length of a certificate with an entry for each check) says how many
+/// of them a call needs.
+#[doc(hidden)]
+#[macro_export]
+macro_rules! each_buffer {
+    ($then:ident) => {
+        $then! {
+            spins: i32, bits;
+            copies: i32, edges;
+            offsets: i32, edges;
+            multipliers: u32, checks;
+            masks: u32, checks;
+            word: u8, bits;
+            certificate: u8, certificate;
+        }
+    };
+}
+pub(crate) use each_buffer;
+
+macro_rules! lent {
+    ($($name:ident: $element:ty, $need:ident;)*) => {
+        /// The buffers lent to a call for rounds.
+        pub struct Buffers<'a> {
+            $(pub $name: &'a mut [$element],)*
+        }
+    };
+}
+each_buffer!(lent);
+
+/// The answer of a call: `value` at number 0. A refusal has zeros beside its number (`rest_zero`); anything
+/// else is no library of this interface.
+fn answer<T>(number: u32, rest_zero: bool, value: T) -> Result<T, Refusal> {
+    if number == 0 {
+        return Ok(value);
+    }
+    assert!(rest_zero, "refusal {number} with an answer beside it");
+    Err(Refusal(number))
+}
+
+fn verdict(raw: &ffi::Verdict) -> Verdict {
+    match (raw.kind, raw.value) {
+        (0, check) => Verdict::Broken(u32::try_from(check).expect("a check number")),
+        (1, 0) => Verdict::Certified,
+        (2, gap) => Verdict::Gap(gap),
+        (kind, value) => panic!("verdict of kind {kind}, value {value}"),
+    }
+}
+
+// SAFETY, for every call below: pointer and length come from one slice that outlives the call, and no
+// two lent slices overlap, as the borrow checker sees to.
+
+/// Checks a code file. Refusals: 1 to 7.
+pub fn check_table(code: &[u8]) -> Result<Sizes, Refusal> {
+    let raw = unsafe { ffi::jugnayap_check_table(code.as_ptr(), code.len()) };
+    let sizes = Sizes { bits: raw.bits, checks: raw.checks, edges: raw.edges };
+    answer(raw.number, sizes == Sizes { bits: 0, checks: 0, edges: 0 }, sizes)
+}
+
+/// The violated odd set of a check's members at these spins, as a mask of its members, or none.
+/// Refusals: 1 to 7, 16, 17.
+pub fn search_cut(code: &[u8], spins: &[i32], check: usize) -> Result<Option<u32>, Refusal> {
+    let raw =
+        unsafe { ffi::jugnayap_search_cut(code.as_ptr(), code.len(), spins.as_ptr(), spins.len(), check) };
+    answer(raw.number, raw.mask == 0, (raw.mask != 0).then_some(raw.mask))
+}
+
+/// Judges a word and a certificate. Refusals: 1 to 7, 8, 9, 15, 10, 11, then entry by entry 12, 13, 14.
+pub fn judge(code: &[u8], frame: &[i16], word: &[u8], certificate: &[u8]) -> Result<Verdict, Refusal> {
+    let raw = unsafe {
+        ffi::jugnayap_judge(
+            code.as_ptr(),
+            code.len(),
+            frame.as_ptr(),
+            frame.len(),
+            word.as_ptr(),
+            word.len(),
+            certificate.as_ptr(),
+            certificate.len(),
+        )
+    };
+    answer(raw.number, raw.kind == 0 && raw.value == 0, verdict(&raw))
+}
+
+/// The agreement of a word with a frame: the sum of the frame's numbers, added where the bit is 0 and
+/// subtracted where it is 1. Refusals: 1 to 7, 8, 9, 15.
+pub fn agreement(code: &[u8], frame: &[i16], word: &[u8]) -> Result<i64, Refusal> {
+    let raw = unsafe {
+        ffi::jugnayap_agreement(
+            code.as_ptr(),
+            code.len(),
+            frame.as_ptr(),
+            frame.len(),
+            word.as_ptr(),
+            word.len(),
+        )
+    };
+    answer(raw.number, raw.agreement == 0, raw.agreement)
+}
+
+/// Starts a run: zeroes the first E copies and offsets. Refusals: 1 to 7, 41.
+pub fn start(code: &[u8], copies: &mut [i32], offsets: &mut [i32]) -> Result<Record, Refusal> {
+    let raw = unsafe {
+        ffi::jugnayap_start(
+            code.as_ptr(),
+            code.len(),
+            copies.as_mut_ptr(),
+            copies.len(),
+            offsets.as_mut_ptr(),
+            offsets.len(),
+        )
+    };
+    answer(raw.number, raw.run == Record { rounds: 0, status: 0 }, raw.run)
+}
+
+/// Does the rounds wanted, or fewer if the run ends. Refusals: 1 to 7, 8, 9, 17, 41, 42, 43.
+pub fn rounds(code: &[u8], frame: &[i16], record: Record, wanted: u32, lent: Buffers) -> Called {
+    macro_rules! call {
+        ($($name:ident: $element:ty, $need:ident;)*) => {
+            ffi::jugnayap_rounds(
+                code.as_ptr(),
+                code.len(),
+                frame.as_ptr(),
+                frame.len(),
+                record,
+                wanted,
+                $(lent.$name.as_mut_ptr(), lent.$name.len(),)*
+            )
+        };
+    }
+    let raw = unsafe { each_buffer!(call) };
+    let refusal = (raw.number != 0).then_some(Refusal(raw.number));
+    Called { refusal, record: raw.run }
+}
