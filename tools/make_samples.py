@@ -18,6 +18,7 @@ import alist
 import codefile
 import frames
 import plain
+import sample_codes
 import sort_frames
 from limits import FRAME_LIMIT
 from report_text import Certified, Report
@@ -40,19 +41,13 @@ Sample = namedtuple("Sample", "name table seed gain noise spoilt short")
 Sent = namedtuple("Sent", "word frame")
 
 
-# --- codes -----------------------------------------------------------------------------------
-
-def array_table(size, layers):
-    """The array code: check size x j + a has the members size x i + (a + i x j) mod size."""
-    return size * size, [sorted(size * i + (a + i * j) % size for i in range(size))
-                         for j in range(layers) for a in range(size)]
-
-
 SAMPLES = [
     Sample("hamming", make_tables.hamming(), 7, 1000, [(40, 800)], {}, 0),
-    Sample("array", array_table(13, 3), 13, 1000, [(36, 550)], {20: FRAME_LIMIT + 1}, 337),
+    Sample("array", sample_codes.array(13, 3), 13, 1000, [(36, 550)], {20: FRAME_LIMIT + 1}, 337),
     Sample("regular", make_tables.regular_table(Prng(504), 504, 3, 6), 36, 2000,
            [(20, 700), (1, 950), (3, 600)], {22: -32768}, 1),
+    Sample("ccsds", sample_codes.ccsds(), 128, 3000, [(12, 750)], {}, 0),
+    Sample("wifi", sample_codes.wifi(), 648, 3000, [(9, 700), (3, 650)], {}, 0),
 ]
 
 

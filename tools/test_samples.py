@@ -12,12 +12,16 @@ import alist
 import codefile
 import frames
 import sort_frames
+from codewords import Codewords, meets_all
 from limits import FRAME_LIMIT
 from report_text import Certified, RefusedFrame, Report
 from testing import SAMPLES, TOOLS
 
 FOLDERS = sorted(path for path in SAMPLES.iterdir() if path.is_dir())
 ARRAY_SIZE, ARRAY_LAYERS = 13, 3
+
+# Ones of a codeword of least weight of the CCSDS code.
+CCSDS_LEAST = [7, 10, 24, 48, 65, 66, 72, 78, 83, 98, 100, 112, 117, 118]
 
 # A report program that knows the samples by their code files. The word it is given is put in
 # the place of another in what it answers.
@@ -76,13 +80,20 @@ def expected_refusals(n, data):
 class Codes(unittest.TestCase):
     def test_all_are_there(self):
         self.assertEqual([folder.name for folder in FOLDERS],
-                         ["array", "hamming", "regular"])
+                         ["array", "ccsds", "hamming", "regular", "wifi"])
 
     def test_alist_and_code_file_are_the_same_table(self):
         for folder in FOLDERS:
             text = (folder / "code.alist").read_bytes()
             self.assertEqual(alist.read(io.BytesIO(text)), table_of(folder))
             self.assertEqual(alist.write(table_of(folder)), text)
+
+    def shape(self, name):
+        """n, m, rank, degrees of checks and degrees of bits."""
+        n, checks = table_of(SAMPLES / name)
+        in_checks = Counter(bit for members in checks for bit in members)
+        return (n, len(checks), Codewords((n, checks)).rank(),
+                Counter(len(members) for members in checks), Counter(in_checks.values()))
 
     def test_array(self):
         n, checks = table_of(SAMPLES / "array")
@@ -94,10 +105,26 @@ class Codes(unittest.TestCase):
     def test_hamming_and_regular(self):
         self.assertEqual(table_of(SAMPLES / "hamming"),
                          (7, [[0, 2, 4, 6], [1, 2, 5, 6], [3, 4, 5, 6]]))
-        n, checks = table_of(SAMPLES / "regular")
-        in_checks = Counter(bit for members in checks for bit in members)
-        self.assertEqual((n, {len(members) for members in checks}, set(in_checks.values())),
-                         (504, {6}, {3}))
+        n, m, _, of_checks, of_bits = self.shape("regular")
+        self.assertEqual((n, m, of_checks, of_bits), (504, 252, {6: 252}, {3: 504}))
+
+    def test_ccsds(self):
+        self.assertEqual(self.shape("ccsds"), (128, 64, 64, {8: 64}, {3: 64, 5: 64}))
+        # The code's least distance is 14; turning all blocks alike gives another codeword.
+        for turn in range(16):
+            ones = [bit // 16 * 16 + (bit + turn) % 16 for bit in CCSDS_LEAST]
+            word = sum(1 << bit for bit in ones)
+            self.assertEqual(word.bit_count(), 14)
+            self.assertTrue(meets_all(table_of(SAMPLES / "ccsds"), word))
+
+    def test_wifi(self):
+        self.assertEqual(self.shape("wifi"), (648, 324, 324, {7: 216, 8: 108},
+                                              {2: 297, 3: 270, 12: 81}))
+        # The first and the last row of the first block row, and the dual diagonal's end.
+        _, checks = table_of(SAMPLES / "wifi")
+        self.assertEqual(checks[0], [0, 108, 135, 216, 297, 325, 351])
+        self.assertEqual(checks[26], [26, 134, 161, 242, 323, 324, 377])
+        self.assertEqual(checks[323][-2:], [324, 647])
 
 
 class Files(unittest.TestCase):
