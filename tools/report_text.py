@@ -1,7 +1,7 @@
 """The frame report's text, read line by line, however long it is (docs/FORMATS.md)."""
 
 import re
-from dataclasses import dataclass
+from typing import NamedTuple
 
 import plain
 from limits import (BITS_LIMIT, CHECKS_LIMIT, CODE_FILE_REFUSALS, EDGES_LIMIT, FRAME_LIMIT,
@@ -17,8 +17,7 @@ FRAME_LINE = re.compile(
 ANY_ENDING = re.compile(f"frame {NUMBER} (.*)")
 
 
-@dataclass(frozen=True)
-class Certified:
+class Certified(NamedTuple):
     """A frame whose word comes with a certificate of so many cuts."""
 
     rounds: int
@@ -26,19 +25,18 @@ class Certified:
     cuts: int
 
 
-@dataclass(frozen=True)
-class Spent:
+class Spent(NamedTuple):
     """A frame whose rounds brought no certificate."""
 
 
-@dataclass(frozen=True)
-class RefusedFrame:
+class RefusedFrame(NamedTuple):
     """A frame that was not decoded, with the refusal's number."""
 
     number: int
 
 
 SPENT = Spent()
+LAST = RefusedFrame(SHORT_FRAME)            # no frame follows a short one
 
 
 class Report:
@@ -58,11 +56,11 @@ class Report:
 
     def endings(self):
         """What became of each frame, in order; each line is refused as it is met."""
-        short = False
+        ending = None
         for frame, (line_number, line) in enumerate(self.lines):
-            refuse_unless(not short, line_number, "text after a short frame, which is the last")
+            refuse_unless(ending != LAST, line_number,
+                          "text after a short frame, which is the last")
             ending = read_ending(self.code, frame, line_number, line)
-            short = ending == RefusedFrame(SHORT_FRAME)
             yield ending
 
 
