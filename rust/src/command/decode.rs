@@ -114,12 +114,12 @@ fn run(arguments: &Arguments) -> Result<Status, Failure> {
     }
     Decoding {
         decoder: Decoder::of(&code, plan.scale == Scale::Auto),
+        progress: Progress::begin(plan.quiet || frames.are_typed()),
         frames,
         sent,
         visible: results.on_terminal(),
         results,
         tally: Tally::default(),
-        progress: Progress::begin(plan.quiet),
         selection: plan.selection,
     }
     .run(&plan)

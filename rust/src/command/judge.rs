@@ -33,7 +33,7 @@ fn run(arguments: &Arguments) -> Result<Status, Failure> {
     let words = Words::open(words, code.bits(), selection.from)?;
     let certificates = Certificates::open(certificates, selection.from)?;
     let output = Output::create(standard)?;
-    let progress = Progress::begin(arguments.has("--quiet"));
+    let progress = Progress::begin(arguments.has("--quiet") || frames.are_typed());
     let tally = Tally::default();
     Judging { code, frames, words, certificates, output, tally, progress, selection }.run()
 }

@@ -156,6 +156,10 @@ impl Frames {
         self.listing.source().name()
     }
 
+    pub fn are_typed(&self) -> bool {
+        self.listing.source().is_typed()
+    }
+
     pub fn part_done(&self) -> Option<f64> {
         self.listing.source().part_done()
     }

@@ -21,6 +21,7 @@ pub struct Source {
     /// How much more than what is asked for is read.
     ahead: usize,
     ended: bool,
+    typed: bool,
     /// The bytes of a regular file, which can be skipped and of which a part done is known.
     length: Option<u64>,
     taken: u64,
@@ -41,9 +42,19 @@ impl Source {
             }
             _ => None,
         };
-        let (start, end, ahead) = (0, 0, AT_ONCE);
-        let buffer = Vec::new();
-        Ok(Source { name, file, buffer, start, end, ahead, ended: false, length, taken: 0, skipped: 0 })
+        Ok(Source {
+            name,
+            typed: standard && file.is_terminal(),
+            file,
+            buffer: Vec::new(),
+            start: 0,
+            end: 0,
+            ahead: AT_ONCE,
+            ended: false,
+            length,
+            taken: 0,
+            skipped: 0,
+        })
     }
 
     /// Whether more is read than is asked for. It is, unless what follows may be another reader's.
@@ -53,6 +64,11 @@ impl Source {
 
     pub fn name(&self) -> &str {
         &self.name
+    }
+
+    /// Whether a person types it.
+    pub fn is_typed(&self) -> bool {
+        self.typed
     }
 
     /// Reads until so many bytes are there, or the input ends; and shows all that are there.
