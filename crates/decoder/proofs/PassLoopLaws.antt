@@ -7,7 +7,7 @@ use lib.ListN.{length, getD, take, drop, length-drop}
 use lib.Seq.{length-take-le}
 use lib.IntN.{ℤ}
 use Rattle.integers.specs.Sum.{AllWithin}
-use Rattle.rules.specs.Limits.{unit, offsetLimit}
+use Rattle.rules.specs.Limits.{unit, offsetLimit, maxDegree}
 use Rattle.rules.specs.Table.{at}
 use Rattle.rules.specs.Sound.{Below}
 use Rattle.rules.specs.Step.{Step, step}
@@ -152,7 +152,7 @@ module _ {n : ℕ} {ss ms : List ℕ} {s z y : List ℤ} {bs ks : List ℕ} (fit
         multiplierThere = omega (arith, multipliers-long);
         maskThere = omega (arith, masks-long);
         step = record {
-          few = subst (λ l. length l ≤ 32) (sym members-are) (part-degree n ss ms (fits .holds) j h .1);
+          few = subst (λ l. length l ≤ maxDegree) (sym members-are) (part-degree n ss ms (fits .holds) j h .1);
           below = subst (λ l. Below (length s) l) (sym members-are) (subst (λ k. Below k (getD cs j [])) (sym (fits .size)) (part-below n ss ms (fits .holds) j h));
           copiesLong = part-length (from j) (from (j + 1)) (q .copies) (omega (arith, end-in, copies-long)) ∙ sym (part-length (from j) (from (j + 1)) ms end-in);
           offsetsLong = part-length (from j) (from (j + 1)) (q .offsets) (omega (arith, end-in, offsets-long)) ∙ sym (part-length (from j) (from (j + 1)) ms end-in);

@@ -8,7 +8,7 @@ use native.Mathlib.Omega.{arith}
 use lib.ListN.{length, take, drop, drop-of-length-le}
 use lib.IntN.{ℤ}
 use Rattle.integers.specs.Sum.{AllWithin}
-use Rattle.rules.specs.Limits.{unit, offsetLimit, stepLimit, valueLimit}
+use Rattle.rules.specs.Limits.{unit, offsetLimit, stepLimit, valueLimit, maxDegree}
 use Rattle.rules.specs.Table.{at}
 use Rattle.rules.specs.Mask.{setOf}
 use Rattle.rules.specs.Cut.{cut}
@@ -68,7 +68,7 @@ module _ (v : List ℤ) (m : ℕ) (e : m ≡ cutMask (cut unit (clips unit v))) 
           ∙ sym (ap (λ o. steppedBy (stepBy unit v o)) (some-cut f))
 
 -- ---- the heights hs that the cut search leaves of the values v in the place of z, with the greatest of them
-module _ (v z hs : List ℤ) (k m : ℕ) (top : ℤ) (few : length v ≤ 32) (same : length z ≡ length v) (e : (record { number = k; mask = m; top = top; heights = hs }) ≡ seen v z) where
+module _ (v z hs : List ℤ) (k m : ℕ) (top : ℤ) (few : length v ≤ maxDegree) (same : length z ≡ length v) (e : (record { number = k; mask = m; top = top; heights = hs }) ≡ seen v z) where
   whole : (record { number = k; mask = m; top = top; heights = hs }) ≡ seenOn v z
   whole = e ∙ sym (seen-whole v z few (omega arith))
 
@@ -122,11 +122,11 @@ module _ (s : List ℤ) (ms : List ℕ) (z y l : List ℤ) (fits : StepFits s ms
   long : length l ≡ length ms
   long = ap length e ∙ values-length (at s) ms y
 
-  few : length l ≤ 32
-  few = subst (λ n. n ≤ 32) (sym long) (fits .few)
+  few : length l ≤ maxDegree
+  few = subst (λ n. n ≤ maxDegree) (sym long) (fits .few)
 
   small : AllWithin valueLimit l
-  small = subst (AllWithin valueLimit) (sym e) (values-within 4096 offsetLimit (at s) ms y (within-at 4096 s (fits .spins)) (fits .offsets))
+  small = subst (AllWithin valueLimit) (sym e) (values-within unit offsetLimit (at s) ms y (within-at unit s (fits .spins)) (fits .offsets))
 
   same : length z ≡ length l
   same = fits .copiesLong ∙ sym long

@@ -36,7 +36,7 @@ passed f cs ys = passedBy (pass unit f cs ys)
 pub record PassFits (n : ℕ) (ss ms : List ℕ) (s z y : List ℤ) (bs ks : List ℕ) : Type 0 where
   pub holds : Holds n ss ms
   pub size : length s ≡ n
-  pub spins : AllWithin 4096 s
+  pub spins : AllWithin unit s
   pub copiesLong : length z ≡ length ms
   pub offsetsLong : length y ≡ length ms
   pub offsets : AllWithin offsetLimit y

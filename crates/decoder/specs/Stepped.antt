@@ -5,7 +5,7 @@ use Prim.Native.Nat.{ℕ, _≤_}
 use lib.ListN.{length}
 use lib.IntN.{ℤ}
 use Rattle.integers.specs.Sum.{AllWithin}
-use Rattle.rules.specs.Limits.{unit, offsetLimit, stepLimit, valueLimit}
+use Rattle.rules.specs.Limits.{unit, offsetLimit, stepLimit, valueLimit, maxDegree}
 use Rattle.rules.specs.Sound.{Below}
 use Rattle.rules.specs.Step.{Step, step}
 use Rattle.rules.specs.Round.{values}
@@ -30,16 +30,16 @@ stepped f ms ys = steppedOn (values f ms ys)
 
 -- the spins s; the members, copies and offsets of a check
 pub record StepFits (s : List ℤ) (ms : List ℕ) (z y : List ℤ) : Type 0 where
-  pub few : length ms ≤ 32
+  pub few : length ms ≤ maxDegree
   pub below : Below (length s) ms
   pub copiesLong : length z ≡ length ms
   pub offsetsLong : length y ≡ length ms
-  pub spins : AllWithin 4096 s
+  pub spins : AllWithin unit s
   pub offsets : AllWithin offsetLimit y
 
 -- the multiplier b; the copies, and the values v in the offsets' place
 pub record MoveFits (b : ℕ) (z v : List ℤ) : Type 0 where
   pub bounded : b ≤ stepLimit
-  pub few : length v ≤ 32
+  pub few : length v ≤ maxDegree
   pub small : AllWithin valueLimit v
   pub copiesLong : length z ≡ length v

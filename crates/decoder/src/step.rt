@@ -35,7 +35,7 @@ fn value(spin: i32, offset: i32) -> i32
 
 // The values of a check's members, in the offsets' place.
 fn add_spins(spins: &[i32], members: &[u16], offsets: &mut [i32])
-    requires { ⌜ (length (now offsets) ≡ length (now members)) × Below (length (now spins)) (now members) × AllWithin 4096 (now spins) × AllWithin offsetLimit (now offsets) ⌝ }
+    requires { ⌜ (length (now offsets) ≡ length (now members)) × Below (length (now spins)) (now members) × AllWithin unit (now spins) × AllWithin offsetLimit (now offsets) ⌝ }
     ensures { λ _. ⌜ now (offsets .exit) ≡ values (at (now (spins .entry))) (now (members .entry)) (now (offsets .entry)) ⌝ }
 {
     let mut i = 0;

@@ -8,6 +8,7 @@ use mir.Syntax.{w32}
 use mir.Val.{toZ}
 use mir.Facts.{toZ-ofZ, toZ-pos}
 use borrow.Author.Needs.{needs}
+use Rattle.rules.specs.Limits.{unit}
 use Rattle.integers.specs.Clip.{clipZ}
 use Rattle.integers.specs.Machine.{fit}
 use Rattle.rules.specs.Round.{divided}
@@ -16,14 +17,14 @@ use Rattle.decoder.proofs.SpinOfLaws.{at-least, clip-first}
 use Rattle.decoder.proofs.spins.spin_of.Statement.{statement}
 use Rattle.decoder.proofs.spins.spin_of.Tie as tie
 
-most-is : (c : tie.Start) → toZ w32 (4096 * c .args .degree) ≡ pos (4096 * c .args .degree)
+most-is : (c : tie.Start) → toZ w32 (unit * c .args .degree) ≡ pos (unit * c .args .degree)
 most-is c = toZ-pos w32 (omega (arith, c .fits .degree))
 
 degree-is : (c : tie.Start) → toZ w32 (c .args .degree) ≡ pos (c .args .degree)
 degree-is c = toZ-pos w32 (omega (arith, c .fits .degree))
 
 clip-to-requires : tie.Need-clip-to-requires
-clip-to-requires c κs = subst (λ z. pos 0 ≤ℤ z) (sym (most-is c)) (at-least 0 (4096 * c .args .degree) (omega arith))
+clip-to-requires c κs = subst (λ z. pos 0 ≤ℤ z) (sym (most-is c)) (at-least 0 (unit * c .args .degree) (omega arith))
 
 divided-requires : tie.Need-divided-requires
 divided-requires c κs = subst (λ z. pos 1 ≤ℤ z) (sym (degree-is (c .before))) (at-least 1 (c .before .args .degree) (c .before .pre))
@@ -38,7 +39,7 @@ returns c =
     ∙ ap₂ (λ t d. divided t (natAbs d))
     (toZ-ofZ (fit w32 (clipped .result) (clipped .ok)) ∙ clipped .ensures ∙ ap₂ (λ x l. clipZ (natAbs l) x) (toZ-ofZ (start .fits .total)) (most-is start))
     (degree-is start)
-    ∙ clip-first 4096 (start .args .degree) (start .args .total) (start .pre)
+    ∙ clip-first unit (start .args .degree) (start .args .total) (start .pre)
 
 pub spin-of-spec : {M : Type 1} → statement M
 spin-of-spec =
