@@ -24,7 +24,8 @@ use Rattle.rules.proofs.Optimal.{within-at}
 use Rattle.rules.proofs.Pass.{append-within, drop-within}
 use Rattle.rules.proofs.Steps.{minus-within}
 use Rattle.decoder.specs.Spins.{SpinsFit}
-use Rattle.decoder.specs.Totals.{Gathered, EdgesFit, TotalsFit, spinOf, spinAt}
+use Rattle.decoder.specs.Totals.{Gathered, EdgesFit, TotalsFit, spinAt}
+use Rattle.spin.specs.Spin.{spinOf}
 use Rattle.decoder.proofs.PlaceLaws.{minus-length, minus-at, first-same}
 use Rattle.decoder.proofs.AddEdgesLaws.{degree-take, gather-within}
 
@@ -83,7 +84,6 @@ module _ (n : ℕ) (l : List ℤ) (ms ds : List ℕ) (z y : List ℤ) (fit : Spi
     totals-fit = record {
       totals = omega (arith, g .long, start-long, fit .few);
       degrees = fit .room;
-      standing = λ i h. omega (arith, fit .degrees i h, fit .standing i h .0);
     }
 
     total-is : (i : ℕ) → i < n → at t i ≡ total ms l (record { copies = z; offsets = y }) i

@@ -4,7 +4,6 @@ pub mod Lifted
 pub mod Stepped
 pub mod Parts
 pub mod Passed
-pub mod Candidate
 pub mod Closing
 pub mod Found
 pub mod Rounds

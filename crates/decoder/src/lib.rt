@@ -6,7 +6,6 @@ mod gap;
 mod iterate;
 mod mask;
 mod multiplier;
-mod numbers;
 mod pass;
 mod perform;
 mod round;

@@ -13,7 +13,7 @@ use Rattle.rules.specs.Limits.{stepLimit}
 use Rattle.integers.specs.Machine.{fit, to-unsigned}
 use Rattle.decoder.specs.Lifted.{sumAt, sumZ, lackLimit, reach}
 use Rattle.decoder.proofs.MultiplierLaws.{level-met, together-fits, start-fits, start-most}
-use Rattle.decoder.proofs.SpinOfLaws.{natural-is}
+use Rattle.spin.proofs.SpinOfLaws.{natural-is}
 use Rattle.decoder.proofs.multiplier.first_step.Statement.{statement}
 use Rattle.decoder.proofs.multiplier.first_step.Tie as tie
 
