@@ -80,7 +80,7 @@ divide-totals-spec =
     shared-slice-copy-out-spin-of
     (λ c. omega arith)
     shared-slice-read-spin-of
-    (λ c κs. search needs)
+    (λ c κs. tt)
     (λ c. omega arith)
     slice-set-from-spins
     (λ c. omega arith)
