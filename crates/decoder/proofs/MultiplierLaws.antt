@@ -244,10 +244,10 @@ together-fits hs h w k = (fits (sumZ hs) within, not-less (sumZ hs) (tally (lift
     not-less z n = simp lin (omega arithZ)
 
 -- ---- machine words
-pub sum-next : (n : ℕ) (z h : ℤ) → n < 32 → Within (stepLimit * n) z → Within stepLimit h → SFits w32 (z +ℤ h) × Within (stepLimit * (n + 1)) (z +ℤ h)
+pub sum-next : (n : ℕ) (z h : ℤ) → n < maxDegree → Within (stepLimit * n) z → Within stepLimit h → SFits w32 (z +ℤ h) × Within (stepLimit * (n + 1)) (z +ℤ h)
 sum-next n z h k w x = (fits n z h k w x, within n z h w x)
   where
-    fits : (n : ℕ) (z h : ℤ) → n < 32 → Within (stepLimit * n) z → Within stepLimit h → SFits w32 (z +ℤ h)
+    fits : (n : ℕ) (z h : ℤ) → n < maxDegree → Within (stepLimit * n) z → Within stepLimit h → SFits w32 (z +ℤ h)
     fits n z h = simp lin (omega arithZ)
 
     within : (n : ℕ) (z h : ℤ) → Within (stepLimit * n) z → Within stepLimit h → Within (stepLimit * (n + 1)) (z +ℤ h)

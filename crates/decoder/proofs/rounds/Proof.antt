@@ -14,7 +14,7 @@ use Rattle.decoder.proofs.rounds.Tie as tie
 starts-room : maxChecks < 2049
 starts-room = omega arith
 
-members-room : maxEdges ≤ maxEdges
+members-room : maxEdges ≤ 8192
 members-room = omega arith
 
 perform-requires : tie.Need-perform-requires
