@@ -10,3 +10,4 @@ pub mod Found
 pub mod Rounds
 pub mod Finished
 pub mod Reply
+pub mod Lent
