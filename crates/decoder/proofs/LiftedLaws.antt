@@ -18,7 +18,7 @@ use Rattle.rules.specs.Step.{move, moves, short}
 use Rattle.cut.specs.Heights.{height, heightsOf}
 use Rattle.decoder.specs.Lifted.{lifted, lifting, tally, sumAt, countAt, LeastAt, reach}
 
--- ---- a member's share of the left side is what is lifted, at most 8192
+-- ---- a member's share of the left side is what is lifted, at most 2U
 share-low : (x : ℤ) → x <ℤ negℤ (pos unit) → pos unit +ℤ negℤ (pos unit) ≡ pos (min (up (pos unit +ℤ x)) reach)
 share-low x h = ap pos (zero-up (pos unit +ℤ x) (simp lin (omega arithZ)))
   where
@@ -63,7 +63,7 @@ left-is b [] vs = refl
 left-is b (t ∷ ts) [] = refl
 left-is b (t ∷ ts) (v ∷ vs) = ap₂ _+ℤ_ (share-is b t v) (left-is b ts vs)
 
--- ---- capped or not, the sum reaches 8192 alike
+-- ---- capped or not, the sum reaches 2U alike
 cap-le : (b : ℕ) (hs : List ℤ) → tally (λ h. min (lifted b h) reach) hs ≤ tally (lifted b) hs
 cap-le b [] = omega arith
 cap-le b (h ∷ hs) = step (lifted b h) (tally (λ h. min (lifted b h) reach) hs) (tally (lifted b) hs) (cap-le b hs)

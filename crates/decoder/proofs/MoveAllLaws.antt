@@ -14,8 +14,8 @@ use Rattle.rules.specs.Limits.{offsetLimit, stepLimit, valueLimit, unit}
 use Rattle.integers.specs.Linear.{lin, arithZ, Within}
 use Rattle.rules.specs.Table.{at}
 use Rattle.rules.specs.Mask.{setOf}
-use Rattle.rules.specs.Step.{move, moves, minus}
-use Rattle.decoder.specs.Stepped.{MoveFits}
+use Rattle.rules.specs.Step.{move}
+use Rattle.decoder.specs.Stepped.{newCopies, newOffsets, MoveFits}
 use Rattle.decoder.proofs.FillLaws.{fill, fill-none, fill-length, fill-at, fill-more, fill-all}
 use Rattle.decoder.proofs.PlaceLaws.{minus-length, minus-at}
 use Rattle.decoder.proofs.MaskLaws.{set-at, set-alike}
@@ -36,14 +36,7 @@ value-fits x y = simp lin (omega arithZ)
 pub offset-fits : (v z : ℤ) → Within valueLimit v → Within unit z → SFits w32 (v -ℤ z)
 offset-fits v z = simp lin (omega arithZ)
 
--- ---- the copies and offsets that a multiplier b and a mask m leave of the values v
-abbrev pub newCopies : ℕ → ℕ → List ℤ → List ℤ
-newCopies b m v = moves unit b (setOf (length v) m) v
-
-abbrev pub newOffsets : ℕ → ℕ → List ℤ → List ℤ
-newOffsets b m v = minus v (newCopies b m v)
-
--- how the loop stands: i places are done
+-- ---- how the loop stands: i places are done
 pub record Moving (b m : ℕ) (z₀ v : List ℤ) (i : ℕ) (z y : List ℤ) : Type 0 where
   pub few : i ≤ length v
   pub copies : z ≡ fill i (newCopies b m v) z₀

@@ -22,7 +22,7 @@ use Rattle.rules.specs.Step.{clips, moves, short, multiplier}
 use Rattle.rules.proofs.CutRule.{Cuts}
 use Rattle.rules.proofs.Multiplier.{moves-zero, multiplier-least, multiplier-unique}
 use Rattle.cut.specs.Heights.{height, heightsOf, highest}
-use Rattle.decoder.specs.Lifted.{lifted, lifting, tally, sumAt, countAt, sumZ, Rising, LeastAt, lackLimit, reach}
+use Rattle.decoder.specs.Lifted.{lifted, lifting, tally, sumAt, countAt, sumZ, Rising, LeastAt, lack, lackLimit, reach}
 use Rattle.decoder.proofs.MultiplierSumLaws.{sum-within}
 use Rattle.decoder.proofs.LiftedLaws.{short-of, met-of, of-short}
 
@@ -207,7 +207,7 @@ enough s t k n e h l = omega (arith, le-out (plain s t k n e h l))
 rounded-up : (t d : ℕ) → 0 < d → t ≤ d * ((t + (d - 1)) / d)
 rounded-up t d h = subst (λ n. t ≤ n) (mul-comm ((t + (d - 1)) / d) d) (omega (arith, lt-div-mul-add {a = t + (d - 1)} {b = d} h))
 
-pub level-met : (hs : List ℤ) (t : ℕ) → 0 < length hs → pos t ≡ pos reach -ℤ sumZ hs → reach ≤ sumAt hs ((t + (length hs - 1)) / length hs)
+pub level-met : (hs : List ℤ) (t : ℕ) → 0 < length hs → pos t ≡ lack hs → reach ≤ sumAt hs ((t + (length hs - 1)) / length hs)
 unfolding sumAt
 level-met hs t h e = enough (sumZ hs) t (length hs * ((t + (length hs - 1)) / length hs)) (tally (lifted ((t + (length hs - 1)) / length hs)) hs)
     e (rounded-up t (length hs) h) (all-lifted ((t + (length hs - 1)) / length hs) hs)
@@ -221,9 +221,9 @@ sum-under (h ∷ hs) = both h (sumZ hs) (lifted 0 h) (tally (lifted 0) hs) (up-l
     both h s m n = simp lin (omega arithZ)
 
 pub together-fits : (hs : List ℤ) → length hs ≤ maxDegree → AllWithin stepLimit hs → sumAt hs 0 < reach
-    → SFits w32 (pos reach -ℤ sumZ hs) × (pos 0 ≤ℤ (pos reach -ℤ sumZ hs)) × (natAbs (pos reach -ℤ sumZ hs) ≤ lackLimit)
+    → SFits w32 (lack hs) × (pos 0 ≤ℤ lack hs) × (natAbs (lack hs) ≤ lackLimit)
 unfolding sumAt
-together-fits hs h w k = (fits (sumZ hs) within, not-less (sumZ hs) (tally (lifted 0) hs) (sum-under hs) k, size (pos reach -ℤ sumZ hs) (lacking (sumZ hs) within))
+together-fits hs h w k = (fits (sumZ hs) within, not-less (sumZ hs) (tally (lifted 0) hs) (sum-under hs) k, size (lack hs) (lacking (sumZ hs) within))
   where
     wide : (n : ℕ) (z : ℤ) → n ≤ maxDegree → Within (stepLimit * n) z → Within priceLimit z
     wide n z = simp lin (omega arithZ)
@@ -244,10 +244,10 @@ together-fits hs h w k = (fits (sumZ hs) within, not-less (sumZ hs) (tally (lift
     not-less z n = simp lin (omega arithZ)
 
 -- ---- machine words
-pub sum-next : (n : ℕ) (z h : ℤ) → n < 32 → Within (stepLimit * n) z → Within stepLimit h → SFits w32 (z +ℤ h) × Within (stepLimit * (n + 1)) (z +ℤ h)
+pub sum-next : (n : ℕ) (z h : ℤ) → n < maxDegree → Within (stepLimit * n) z → Within stepLimit h → SFits w32 (z +ℤ h) × Within (stepLimit * (n + 1)) (z +ℤ h)
 sum-next n z h k w x = (fits n z h k w x, within n z h w x)
   where
-    fits : (n : ℕ) (z h : ℤ) → n < 32 → Within (stepLimit * n) z → Within stepLimit h → SFits w32 (z +ℤ h)
+    fits : (n : ℕ) (z h : ℤ) → n < maxDegree → Within (stepLimit * n) z → Within stepLimit h → SFits w32 (z +ℤ h)
     fits n z h = simp lin (omega arithZ)
 
     within : (n : ℕ) (z h : ℤ) → Within (stepLimit * n) z → Within stepLimit h → Within (stepLimit * (n + 1)) (z +ℤ h)

@@ -10,7 +10,7 @@ use mir.Val.{SFits}
 use Rattle.integers.specs.Linear.{lin, arithZ, Within}
 use Rattle.integers.specs.Clip.{clipZ}
 use Rattle.integers.specs.Sum.{AllWithin}
-use Rattle.rules.specs.Limits.{unit, maxBits, offsetLimit, valueLimit, frameLimit, maxDegree}
+use Rattle.rules.specs.Limits.{unit, maxBits, offsetLimit, valueLimit, frameLimit, maxBitDegree}
 use Rattle.rules.specs.Table.{degreeOf, at}
 use Rattle.rules.specs.Sound.{Below}
 use Rattle.rules.specs.Step.{minus}
@@ -33,7 +33,7 @@ use Rattle.decoder.proofs.AddEdgesLaws.{degree-take, gather-within}
 difference-fits : (z y : ℤ) → Within unit z → Within offsetLimit y → SFits w32 (z -ℤ y)
 difference-fits z y = simp lin (omega arithZ)
 
-sum-fits : (t a g w : ℤ) (d k : ℕ) → t ≡ a +ℤ g → Within frameLimit a → Within (valueLimit * d) g → d ≤ k → k ≤ maxDegree → Within valueLimit w → SFits w32 (t +ℤ w)
+sum-fits : (t a g w : ℤ) (d k : ℕ) → t ≡ a +ℤ g → Within frameLimit a → Within (valueLimit * d) g → d ≤ k → k ≤ maxBitDegree → Within valueLimit w → SFits w32 (t +ℤ w)
 sum-fits t a g w d k = simp lin (omega arithZ)
 
 module _ (old : List ℤ) (ms : List ℕ) (z y : List ℤ) (fit : EdgesFit old ms z y) where

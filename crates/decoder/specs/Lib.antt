@@ -9,3 +9,4 @@ pub mod Found
 pub mod Rounds
 pub mod Finished
 pub mod Reply
+pub mod Lent

@@ -42,6 +42,10 @@ abbrev pub sumZ : List ℤ → ℤ
 sumZ [] = pos 0
 sumZ (h ∷ hs) = h +ℤ sumZ hs
 
+-- what they lack of 2U together
+abbrev pub lack : List ℤ → ℤ
+lack hs = pos reach -ℤ sumZ hs
+
 -- the heights of a cut, and the greatest of them: lifted to 2U alone, that one meets the inequality
 pub record Rising (hs : List ℤ) (top : ℤ) : Type 0 where
   pub some : 0 < length hs

@@ -4,14 +4,14 @@ use mathlib.Core.List.{List}
 use Prim.Native.Nat.{ℕ, _≤_, _<_}
 use lib.ListN.{length, getD}
 use lib.IntN.{ℤ}
-use Rattle.rules.specs.Limits.{offsetLimit, frameLimit, maxBitDegree, maxEdges, unit}
+use Rattle.rules.specs.Limits.{unit, maxBits, maxBitDegree, maxEdges, frameLimit, offsetLimit}
 use Rattle.integers.specs.Sum.{AllWithin}
 use Rattle.rules.specs.Table.{degreeOf}
 use Rattle.rules.specs.Sound.{Below}
 
 -- n bits with frame l, edges at the members ms with copies z and offsets y before round 1,024 at the latest, and the bits' degrees ds
 pub record SpinsFit (n : ℕ) (l : List ℤ) (ms ds : List ℕ) (z y : List ℤ) : Type 0 where
-  pub few : n ≤ 2048
+  pub few : n ≤ maxBits
   pub size : length l ≡ n
   pub frame : AllWithin frameLimit l
   pub edges : length ms ≤ maxEdges

@@ -11,24 +11,23 @@ use mir.Facts.{toZ-ofZ}
 use borrow.Author.Needs.{needs}
 use Rattle.rules.specs.Limits.{stepLimit}
 use Rattle.integers.specs.Machine.{fit, to-unsigned}
-use Rattle.decoder.specs.Lifted.{sumAt, sumZ, lackLimit, reach}
+use Rattle.decoder.specs.Lifted.{sumAt, lack, lackLimit, reach}
 use Rattle.decoder.proofs.MultiplierLaws.{level-met, together-fits, start-fits, start-most}
 use Rattle.spin.proofs.SpinOfLaws.{natural-is}
 use Rattle.decoder.proofs.multiplier.first_step.Statement.{statement}
 use Rattle.decoder.proofs.multiplier.first_step.Tie as tie
 
 -- what all heights lack together
-lack-is : (c : tie.After-sum-of) → pos reach -ℤ toZ w32 (ofZ w32 (c .sum-of .result)) ≡ pos reach -ℤ sumZ (c .before .args .heights .now)
+lack-is : (c : tie.After-sum-of) → pos reach -ℤ toZ w32 (ofZ w32 (c .sum-of .result)) ≡ lack (c .before .args .heights .now)
 lack-is c = ap (λ z. pos reach -ℤ z) (toZ-ofZ (fit w32 (c .sum-of .result) (c .sum-of .ok)) ∙ c .sum-of .ensures)
 
-lack-fits : (c : tie.After-sum-of)
-    → let lack = pos reach -ℤ sumZ (c .before .args .heights .now) in SFits w32 lack × (pos 0 ≤ℤ lack) × (natAbs lack ≤ lackLimit)
+lack-fits : (c : tie.After-sum-of) → let z = lack (c .before .args .heights .now) in SFits w32 z × (pos 0 ≤ℤ z) × (natAbs z ≤ lackLimit)
 lack-fits c = together-fits (c .before .args .heights .now) (c .before .pre .few) (c .before .pre .small) (c .before .pre .short)
 
 sub-together : tie.Need-sub-together
 sub-together c = subst (SFits w32) (sym (lack-is c)) (lack-fits c .0)
 
-together-is : (c : tie.After-sum-of) → toZ w32 (ofZ w32 (pos reach -ℤ toZ w32 (ofZ w32 (c .sum-of .result)))) ≡ pos reach -ℤ sumZ (c .before .args .heights .now)
+together-is : (c : tie.After-sum-of) → toZ w32 (ofZ w32 (pos reach -ℤ toZ w32 (ofZ w32 (c .sum-of .result)))) ≡ lack (c .before .args .heights .now)
 together-is c = toZ-ofZ (sub-together c) ∙ lack-is c
 
 cast-together : tie.Need-cast-together
@@ -58,10 +57,10 @@ add-level c =
 returns : tie.Need-returns
 returns c =
     let a = c .before .before .args in
-    let lack = pos reach -ℤ sumZ (a .heights .now) in (
+    let z = lack (a .heights .now) in (
       omega (arith, alone-most (c .before)),
       subst (λ n. reach ≤ sumAt (a .heights .now) ((n + (length (a .heights .now) - 1)) / length (a .heights .now))) (ap natAbs (sym (together-is (c .before))))
-          (level-met (a .heights .now) (natAbs lack) (c .before .before .pre .some) (sym (natural-is lack (lack-fits (c .before) .1)))),
+          (level-met (a .heights .now) (natAbs z) (c .before .before .pre .some) (sym (natural-is z (lack-fits (c .before) .1)))),
     )
 
 returns-2 : tie.Need-returns-2

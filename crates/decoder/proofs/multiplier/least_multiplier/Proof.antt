@@ -26,7 +26,7 @@ returns c =
     least-found (c .before .before .before .before .args .heights .now) (l .b) (c .before .fall .result) (l .inv .1) (l .inv .0) (c .before .fall .ensures) (omega arith)
 
 turn : (c : tie.Else1 Inv-loop μ-loop)
-    → (c .before .fall .result < c .before .before .loop .b) × (reach ≤ sumAt (c .before .before .before .before .args .heights .now) (c .before .before .loop .b - c .before .fall .result))
+    → let l = c .before .before in let d = c .before .fall .result in (d < l .loop .b) × (reach ≤ sumAt (l .before .before .args .heights .now) (l .loop .b - d))
 turn c =
     let l = c .before .before .loop in
     next-step (c .before .before .before .before .args .heights .now) (l .b) (c .before .fall .result) (l .inv .1) (c .before .before .before .before .pre .short) (c .before .fall .ensures)
