@@ -3,6 +3,7 @@ use Prim.Native.Nat.{_≤_, _<_}
 use native.Mathlib.Omega.{arith}
 use borrow.Author.Needs.{needs}
 use Rattle.rules.specs.Limits.{maxChecks, maxEdges}
+use Rattle.rules.specs.Run.{Run}
 use Rattle.decoder.specs.Lent.{runIn}
 use Rattle.decoder.proofs.CallLaws.{found-refused, found-fit, found-call}
 use Rattle.decoder.proofs.rounds.Statement.{statement}
@@ -15,22 +16,30 @@ starts-room = omega arith
 members-room : maxEdges ≤ 8192
 members-room = omega arith
 
+-- the run that the call was lent: found by unification it takes too many steps to compare
+abbrev runAt : tie.Start → Run
+runAt s =
+    let a = s .args in
+    runIn (a .run) (a .spins .now) (a .copies .now) (a .offsets .now) (a .multipliers .now) (a .masks .now) (a .word .now) (a .certificate .now)
+
 perform-requires : tie.Need-perform-requires
 perform-requires c κs =
     let sized = c .before .before .before .before .before .before .before .before .before .before in
-    found-fit _ _ _ _ _ _ starts-room members-room _ _ _ (sized .before .before .before .before .admit .ensures) _ _ _ (sized .answer2 .given .1)
+    let start = sized .before .before .before .before .before .before .before .before .before .before .before .before .before .before in
+    found-fit _ _ _ (runAt start) _ _ starts-room members-room _ _ _ (sized .before .before .before .before .admit .ensures) _ _ _ (sized .answer2 .given .1)
 
 returns : tie.Need-returns
-returns c = found-refused _ _ _ _ _ _ starts-room members-room _ _ _ (c .before .before .before .before .before .admit .ensures) _ (c .before .answer .given .1)
+returns c =
+    let start = c .before .before .before .before .before .before .before .before .before .before .before .before .before .before .before in
+    found-refused _ _ _ (runAt start) _ _ starts-room members-room _ _ _ (c .before .before .before .before .before .admit .ensures) _ (c .before .answer .given .1)
 
--- the run is given: found by unification it takes too many steps to compare
 returns-2 : tie.Need-returns-2
 returns-2 c =
     let done = c .before .before .before .before .before .before .before .before .before .before .before .before in
     let sized = done .before .before .before .before .before .before .before .before .before .before .before in
-    let args = sized .before .before .before .before .before .before .before .before .before .before .before .before .before .before .args in
-    let run = runIn (args .run) (args .spins .now) (args .copies .now) (args .offsets .now) (args .multipliers .now) (args .masks .now) (args .word .now) (args .certificate .now) in
-    found-call (args .code .now) (args .frame .now) (args .wanted) run _ _ starts-room members-room _ _ _ (sized .before .before .before .before .admit .ensures) _ _ _ (sized .answer2 .given .1)
+    let start = sized .before .before .before .before .before .before .before .before .before .before .before .before .before .before in
+    let args = start .args in
+    found-call (args .code .now) (args .frame .now) (args .wanted) (runAt start) _ _ starts-room members-room _ _ _ (sized .before .before .before .before .admit .ensures) _ _ _ (sized .answer2 .given .1)
     _ _ (done .perform .ensures) (c .outcome-of .ensures)
 
 pub rounds-spec : {M : Type 1} → statement M
