@@ -155,7 +155,7 @@ module _ (file : List ℕ) (l : List ℤ) where
 
       go : (a : Answer Table) → codeFile file ≡ a → lineFrom l (d .answer) (ranOf d) ≡ frameLine file l
       go (refused k) e = ap (λ a. lineFrom l a (ranOf d)) (on-refused k e) ∙ sym (refused-line file l k e)
-      go (gives t) e = by-answer t e (d .answer) refl ∙ blank-line file t l greatest e (enough t (file-sound file t e))
+      go (gives t) e = by-answer t e (d .answer) refl ∙ blank-line file t e l greatest (enough t (file-sound file t e))
 
 -- ---- of what the code's run comes to: what it answered, the word and the certificate
 module _ (file : List ℕ) (l : List ℤ) (d : code.Called) (w c : List ℕ) (e : ranAs d w c ≡ freshRan file l (lentWith blankWord blankCertificate)) where

@@ -4,7 +4,7 @@ use mathlib.Core.List.{List, [], _∷_, _++_}
 use mathlib.Core.Option.{Option, some, none}
 use Prim.Native.Nat.{ℕ, zero, suc, _+_, _*_}
 use lib.Dec.{leb, ltb, eqb}
-use lib.ListN.{length, getD}
+use lib.ListN.{length, getD, take}
 use Rattle.rules.specs.Limits.{maxEntries, maxScale, maxMultiplier, certificateLength}
 use Rattle.rules.specs.Refusal.{Answer, must, certificateWrong, scaleRange, entryRange, maskWrong, entryOrder}
 use Rattle.rules.specs.Bytes.{u16At, u32At, le16, le32}
@@ -71,6 +71,10 @@ onItems t p (i ∷ is) a = onItem t p i (onItems t (some i) is a)
 
 abbrev pub entriesOf : List ℕ → ℕ
 entriesOf bs = u16At bs 0
+
+-- the certificate at the front of a buffer: its first 4 + 10q bytes
+abbrev pub certificateIn : List ℕ → List ℕ
+certificateIn bs = take (certificateLength (entriesOf bs)) bs
 
 abbrev pub scaleOf : List ℕ → ℕ
 scaleOf bs = u16At bs 2
