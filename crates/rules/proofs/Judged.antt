@@ -8,14 +8,14 @@ use mathlib.Core.Option.{Option, some, none}
 use Prim.Native.Nat.{ℕ, zero, suc, _≤_, _<_}
 use native.Mathlib.Omega.{arith}
 use native.Mathlib.Nat.{le-of-suc-le-suc, not-suc-le-zero}
-use lib.Dec.{leb, ltb, eqb}
+use lib.Dec.{ltb, eqb}
 use borrow.Author.Tests.{ltb-true, eqb-true}
 use lib.ListN.{length, getD}
 use lib.IntN.{ℤ, pos, negsuc, _-ℤ_, _*ℤ_}
 use lib.Signed.{_<ℤ_}
 use Rattle.integers.specs.Linear.{lin, arithZ, _⩽_}
 use Rattle.integers.specs.Order.{sub-zero}
-use Rattle.rules.specs.Limits.{maxEntries, maxScale, maxMultiplier, frameLimit, certificateLength}
+use Rattle.rules.specs.Limits.{maxScale, maxMultiplier, frameLimit}
 use Rattle.rules.specs.Refusal.{Answer, gives, frameLength, frameRange, wordWrong, certificateWrong, scaleRange, entryRange, maskWrong, entryOrder}
 use Rattle.rules.specs.Table.{Table, checksOf, bitsAt}
 use Rattle.rules.specs.Parity.{odd, Alike, KeepsOne, Keeps, firstBroken, meets, agreement}
@@ -25,7 +25,7 @@ use Rattle.rules.specs.Sound.{Below, AllBelow}
 use Rattle.rules.specs.Input.{eachWithin, onFrame, eachBit, onWord, bitsOf}
 use Rattle.rules.specs.Bound.{Row, bound, gap}
 use Rattle.rules.specs.Round.{isZero}
-use Rattle.rules.specs.Certificate.{Item, membersAt, follows, onItem, onItems, entriesOf, scaleOf, itemsOf, onCertificate, rowAt, rowsAt}
+use Rattle.rules.specs.Certificate.{Item, membersAt, follows, onItem, onItems, scaleOf, itemsOf, lengthRight, onCertificate, rowAt, rowsAt}
 use Rattle.rules.specs.Demand3.{Best}
 use Rattle.rules.specs.Judge.{Verdict, breaks, passes, misses, weigh, verdict, MeetsBound, judge}
 use Rattle.rules.proofs.Basics.{and-both, none≢some}
@@ -168,7 +168,7 @@ judged file l w bs v e = go (then-gives (codeFile file) _ v e)
         let p1 = must-gives (eqb (length l) (t .bits)) frameLength _ v h in
         let p2 = must-gives (eachWithin frameLimit l) frameRange _ v (p1 .1) in
         let p3 = must-gives (eqb (length w) (t .bits) && eachBit w) wordWrong _ v (p2 .1) in
-        let p4 = must-gives ((leb 4 (length bs) && leb (entriesOf bs) maxEntries) && eqb (length bs) (certificateLength (entriesOf bs))) certificateWrong _ v (p3 .1) in
+        let p4 = must-gives (lengthRight bs) certificateWrong _ v (p3 .1) in
         let p5 = must-gives (inRange 1 maxScale (scaleOf bs)) scaleRange _ v (p4 .1) in
         let p6 = items-placed t none (itemsOf bs) (gives (verdict t (scaleOf bs) l (rowsAt t (itemsOf bs)) (bitsOf w))) v (p5 .1) in
         record {
@@ -184,7 +184,7 @@ judged file l w bs v e = go (then-gives (codeFile file) _ v e)
     go f = after (f .value) (f .first) (f .second)
 
 -- the gap of the word and the certificate, as they are read
-abbrev gapRead : Table → List ℤ → List ℕ → List ℕ → ℤ
+abbrev pub gapRead : Table → List ℤ → List ℕ → List ℕ → ℤ
 gapRead t l w bs = gap (t .bits) (scaleOf bs) l (rowsAt t (itemsOf bs)) (bitsOf w)
 
 -- the mark is beyond doubt
