@@ -146,8 +146,7 @@ weak-step : (d s x y a p : ℤ) → s ≡ x +ℤ y → negℤ (d *ℤ p) ⩽ y �
 weak-step d s x y a p = simp ring (omega arithZ)
 
 -- k Σ l P ≤ D · bound
-pub weak-duality : (n d k : ℕ) (l : List ℤ) (P : ℕ → ℤ) (rs : List Row) → InBox d P → AllKept n d P rs
-    → pos k *ℤ spinSum n l P ⩽ pos d *ℤ bound n k l rs
+pub weak-duality : (n d k : ℕ) (l : List ℤ) (P : ℕ → ℤ) (rs : List Row) → InBox d P → AllKept n d P rs → pos k *ℤ spinSum n l P ⩽ pos d *ℤ bound n k l rs
 unfolding bound
 weak-duality n d k l P rs w h = weak-step (pos d) (sumTo n (λ i. P i *ℤ reduced k l rs i)) (pos k *ℤ spinSum n l P)
     (sumTo n (λ i. P i *ℤ pull i rs)) (sumTo n (λ i. abs (reduced k l rs i))) (price rs)

@@ -82,8 +82,7 @@ sum-gap : (b a : ℤ) → a ≡ b → b -ℤ a ≡ pos 0
 sum-gap b a = simp lin (omega arithZ)
 
 -- demand 2: "passes exactly if the word meets all checks and its agreement, times the certificate's scale, equals the multipliers' bound"
-pub verdict-passes⇔ : (t : Table) (s : ℕ) (l : List ℤ) (rs : List Row) (w : List Bool)
-    → (verdict t s l rs w ≡ passes) ↔ MeetsBound t s l rs w
+pub verdict-passes⇔ : (t : Table) (s : ℕ) (l : List ℤ) (rs : List Row) (w : List Bool) → (verdict t s l rs w ≡ passes) ↔ MeetsBound t s l rs w
 unfolding verdict gap
 verdict-passes⇔ t s l rs w = (
   λ e. let p = weigh-passes (firstBroken 0 w (t .checks)) (gap (t .bits) s l rs w) e in

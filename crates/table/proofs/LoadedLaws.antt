@@ -31,8 +31,7 @@ module _ (file s ms : List ℕ) where
   loaded-refused k h = ap (λ a. laid (then a (withRoom s ms)) s ms) (sym h)
 
   module _ (t : Table) (h : codeFile file ≡ gives t) where
-    pub loaded-short : ltb (checksOf t) (length s) && leb (edgesOf t) (length ms) ≡ false
-        → notLoaded bufferShort s ms ≡ loaded file s ms
+    pub loaded-short : ltb (checksOf t) (length s) && leb (edgesOf t) (length ms) ≡ false → notLoaded bufferShort s ms ≡ loaded file s ms
     unfolding loaded laid then withRoom must replyOf
     loaded-short e = ap (λ b. laid (must b bufferShort (gives t)) s ms) (sym e) ∙ ap (λ a. laid (then a (withRoom s ms)) s ms) (sym h)
 

@@ -26,8 +26,7 @@ pub starts-few : (es : List Content) → startsRight 0 es && leb (totalCount es)
 starts-few es h = leb-true (totalCount es) maxEdges (and-both (startsRight 0 es) (leb (totalCount es) maxEdges) h .1)
 
 -- ---- the answer
-pub first-stage : (file : List ℕ) (n m : ℕ) → n ≡ u16At file 0 → m ≡ u16At file 2
-    → codeFileReply file ≡ replyOf tableValues (headerStage file n m)
+pub first-stage : (file : List ℕ) (n m : ℕ) → n ≡ u16At file 0 → m ≡ u16At file 2 → codeFileReply file ≡ replyOf tableValues (headerStage file n m)
 unfolding codeFileReply codeFile fileOf
 first-stage file n m hn hm = ap₂ (λ x y. replyOf tableValues (fileOf file x y)) (sym hn) (sym hm)
 

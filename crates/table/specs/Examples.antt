@@ -13,8 +13,7 @@ file : List ℕ
 file = 3 ∷ 0 ∷ 1 ∷ 0 ∷ 0 ∷ 0 ∷ 3 ∷ 0 ∷ 0 ∷ 0 ∷ 1 ∷ 0 ∷ 2 ∷ 0 ∷ []
 
 -- two starts and three members; a fourth place of each slice stays
-one-check : loaded file (9 ∷ 9 ∷ 9 ∷ []) (9 ∷ 9 ∷ 9 ∷ 9 ∷ [])
-    ≡ withTable 3 1 3 (0 ∷ 3 ∷ 9 ∷ []) (0 ∷ 1 ∷ 2 ∷ 9 ∷ [])
+one-check : loaded file (9 ∷ 9 ∷ 9 ∷ []) (9 ∷ 9 ∷ 9 ∷ 9 ∷ []) ≡ withTable 3 1 3 (0 ∷ 3 ∷ 9 ∷ []) (0 ∷ 1 ∷ 2 ∷ 9 ∷ [])
 unfolding loaded laid withRoom startsOf must then replyOf codeFile fileOf inRange u16At contents countsRight startsRight totalCount numbersAt bodies ascends membersRight bitsRight file
 one-check = refl
 
