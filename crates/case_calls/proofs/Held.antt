@@ -18,47 +18,22 @@ pub record Lengths (code₀ code : List ℕ) (frame₀ frame s z y : List ℤ) (
   pub word : length w ≡ 2100
   pub certificate : length q ≡ 20600
 
-back : {A : Type 0} {size : ℕ} (p : List A) (n : ℕ) (l : List A) → length l ≡ size → length p ≡ length (take n l) → length (p ++ drop n l) ≡ size
+-- a part that comes back as long as it was lent leaves the whole as long as it was
+pub back : {A : Type 0} {size : ℕ} (p : List A) (n : ℕ) (l : List A) → length l ≡ size → length p ≡ length (take n l) → length (p ++ drop n l) ≡ size
 back p n l e h = length-front l p n h ∙ e
 
+-- a command may change the code file, the frame, the copies and the offsets, and keeps their lengths
 module _ {code₀ code : List ℕ} {frame₀ frame s z y : List ℤ} {b m w q : List ℕ} (h : Lengths code₀ code frame₀ frame s z y b m w q) where
-  pub after-edges :
-      {code' : List ℕ} {frame' z' y' : List ℤ} →
-      length code' ≡ length code →
-      length frame' ≡ length frame →
-      length z' ≡ length z →
-      length y' ≡ length y →
-      Lengths code₀ code' frame₀ frame' s z' y' b m w q
-  after-edges hc hf hz hy = record {
-    code-kept = hc ∙ h .code-kept;
-    frame-kept = hf ∙ h .frame-kept;
-    spins = h .spins;
-    copies = hz ∙ h .copies;
-    offsets = hy ∙ h .offsets;
-    multipliers = h .multipliers;
-    masks = h .masks;
-    word = h .word;
-    certificate = h .certificate;
-  }
-
-  pub after-rounds :
-      (s' z' y' : List ℤ) (b' m' w' q' : List ℕ) (i j k d e f g : ℕ) →
-      length s' ≡ length (take i s) →
-      length z' ≡ length (take j z) →
-      length y' ≡ length (take k y) →
-      length b' ≡ length (take d b) →
-      length m' ≡ length (take e m) →
-      length w' ≡ length (take f w) →
-      length q' ≡ length (take g q) →
-      Lengths code₀ code frame₀ frame (s' ++ drop i s) (z' ++ drop j z) (y' ++ drop k y) (b' ++ drop d b) (m' ++ drop e m) (w' ++ drop f w) (q' ++ drop g q)
-  after-rounds s' z' y' b' m' w' q' i j k d e f g hs hz hy hb hm hw hq = record {
-    code-kept = h .code-kept;
-    frame-kept = h .frame-kept;
-    spins = back s' i s (h .spins) hs;
-    copies = back z' j z (h .copies) hz;
-    offsets = back y' k y (h .offsets) hy;
-    multipliers = back b' d b (h .multipliers) hb;
-    masks = back m' e m (h .masks) hm;
-    word = back w' f w (h .word) hw;
-    certificate = back q' g q (h .certificate) hq;
-  }
+  module _ {code' : List ℕ} {frame' z' y' : List ℤ} where
+    pub after-edges : length code' ≡ length code → length frame' ≡ length frame → length z' ≡ length z → length y' ≡ length y → Lengths code₀ code' frame₀ frame' s z' y' b m w q
+    after-edges hc hf hz hy = record {
+      code-kept = hc ∙ h .code-kept;
+      frame-kept = hf ∙ h .frame-kept;
+      spins = h .spins;
+      copies = hz ∙ h .copies;
+      offsets = hy ∙ h .offsets;
+      multipliers = h .multipliers;
+      masks = h .masks;
+      word = h .word;
+      certificate = h .certificate;
+    }

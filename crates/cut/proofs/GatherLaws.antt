@@ -28,19 +28,19 @@ values-++ f (m ∷ ms) ns = ap (λ l. f m ∷ l) (values-++ f ms ns)
 abbrev pub gathered : (ℕ → ℤ) → List ℕ → List ℤ → ℕ → List ℤ
 gathered f ms vs k = valuesAt f (take k ms) ++ drop k vs
 
-pub gather-more : (f : ℕ → ℤ) (ms : List ℕ) (vs ws : List ℤ) (k : ℕ) (z : ℤ) → k < length ms → length ms ≤ length vs → ws ≡ gathered f ms vs k → z ≡ f (getD ms k 0)
-    → set ws k z ≡ gathered f ms vs (k + 1)
-gather-more f ms vs ws k z h g e q =
-    let front = valuesAt f (take k ms) in
-    let size : length front ≡ k = values-length f (take k ms) ∙ length-take-le k ms (omega arith) in
-    let next : valuesAt f (take (suc k) ms) ≡ front ++ (f (getD ms k 0) ∷ []) = ap (valuesAt f) (take-suc ms k 0 h) ∙ values-++ f (take k ms) (getD ms k 0 ∷ []) in
-    ap₂ (λ l x. set l k x) e q
-    ∙ set-more front vs (f (getD ms k 0)) k size (omega arith)
-    ∙ ap (λ l. l ++ drop (suc k) vs) (sym next)
-    ∙ ap (gathered f ms vs) (sym (add-one k))
+module _ (f : ℕ → ℤ) (ms : List ℕ) (vs : List ℤ) where
+  pub gather-more : (ws : List ℤ) (k : ℕ) (z : ℤ) → k < length ms → length ms ≤ length vs → ws ≡ gathered f ms vs k → z ≡ f (getD ms k 0) → set ws k z ≡ gathered f ms vs (k + 1)
+  gather-more ws k z h g e q =
+      let front = valuesAt f (take k ms) in
+      let size : length front ≡ k = values-length f (take k ms) ∙ length-take-le k ms (omega arith) in
+      let next : valuesAt f (take (suc k) ms) ≡ front ++ (f (getD ms k 0) ∷ []) = ap (valuesAt f) (take-suc ms k 0 h) ∙ values-++ f (take k ms) (getD ms k 0 ∷ []) in
+      ap₂ (λ l x. set l k x) e q
+      ∙ set-more front vs (f (getD ms k 0)) k size (omega arith)
+      ∙ ap (λ l. l ++ drop (suc k) vs) (sym next)
+      ∙ ap (gathered f ms vs) (sym (add-one k))
 
-pub gather-all : (f : ℕ → ℤ) (ms : List ℕ) (vs : List ℤ) (k : ℕ) → k ≡ length ms → gathered f ms vs k ≡ valuesAt f ms ++ drop (length ms) vs
-gather-all f ms vs k e = ap (gathered f ms vs) e ∙ ap (λ l. valuesAt f l ++ drop (length ms) vs) (take-all (length ms) ms (omega arith))
+  pub gather-all : (k : ℕ) → k ≡ length ms → gathered f ms vs k ≡ valuesAt f ms ++ drop (length ms) vs
+  gather-all k e = ap (gathered f ms vs) e ∙ ap (λ l. valuesAt f l ++ drop (length ms) vs) (take-all (length ms) ms (omega arith))
 
 -- ---- the front of the values is the members' spins
 module _ (f : ℕ → ℤ) (ms : List ℕ) (vs ws : List ℤ) (e : ws ≡ valuesAt f ms ++ vs) where

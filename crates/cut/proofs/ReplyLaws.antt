@@ -87,8 +87,11 @@ module _ (n m : ℕ) (s : List ℤ) (j : ℕ) where
       (p .0, ltb-true j m (cond-none (ltb j m) 0 16 (p .1) .0))
 
 -- ---- the answer on a table
+abbrev pub refusalOn : Table → List ℤ → ℕ → ℕ
+refusalOn t s j = searchRefusal (t .bits) (checksOf t) s j
+
 module _ (t : Table) (s : List ℤ) (j : ℕ) where
-  search-law : searchOn t s j ≡ turnedDown (searchRefusal (t .bits) (checksOf t) s j) (gives (cut unit (spinsAt t s j)))
+  search-law : searchOn t s j ≡ turnedDown (refusalOn t s j) (gives (cut unit (spinsAt t s j)))
   unfolding searchRefusal onCheck turnedDown
   search-law =
       let a = gives (cut unit (spinsAt t s j)) in
@@ -96,19 +99,18 @@ module _ (t : Table) (s : List ℤ) (j : ℕ) where
       ∙ ap (turnedDown (pointRefusal (t .bits) s)) (test-number (ltb j (checksOf t)) 16 0 a)
       ∙ turned-else (pointRefusal (t .bits) s) (cond (ltb j (checksOf t)) 0 askedTooMuch) a
 
-  pub search-turned : (k : ℕ) → k ≡ searchRefusal (t .bits) (checksOf t) s j → (k ≡ 0 → ⊥) → refused k ≡ maskAnswer (searchOn t s j)
+  pub search-turned : (k : ℕ) → k ≡ refusalOn t s j → (k ≡ 0 → ⊥) → refused k ≡ maskAnswer (searchOn t s j)
   search-turned k e f =
       let a = gives (cut unit (spinsAt t s j)) in
       ap maskAnswer (turned-refused k a f ∙ ap (λ r. turnedDown r a) e ∙ sym search-law)
 
-  pub search-mask : (r : Answer (Option ℕ)) (k : ℕ) → searchRefusal (t .bits) (checksOf t) s j ≡ 0 → k ≡ cutMask (cut unit (clips unit (spinsAt t s j))) → r ≡ maskGives k
-      → r ≡ maskAnswer (searchOn t s j)
+  pub search-mask : (r : Answer (Option ℕ)) (k : ℕ) → refusalOn t s j ≡ 0 → k ≡ cutMask (cut unit (clips unit (spinsAt t s j))) → r ≡ maskGives k → r ≡ maskAnswer (searchOn t s j)
   search-mask r k z e q =
       let vs = spinsAt t s j in
       let point = none-refused (t .bits) (checksOf t) s j z .0 in
       let same : clips unit vs ≡ vs = clips-same unit vs (values-within unit s (membersAt t j) (point-right (t .bits) s point .1)) in
       q ∙ mask-gives unit vs k (e ∙ ap (λ l. cutMask (cut unit l)) same)
-      ∙ ap maskAnswer (turned-none (searchRefusal (t .bits) (checksOf t) s j) (gives (cut unit vs)) z ∙ sym search-law)
+      ∙ ap maskAnswer (turned-none (refusalOn t s j) (gives (cut unit vs)) z ∙ sym search-law)
 
 -- ---- the answer on a code file
 module _ (file : List ℕ) (s : List ℤ) (j : ℕ) where

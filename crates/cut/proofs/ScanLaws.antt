@@ -21,8 +21,8 @@ use Rattle.rules.specs.Step.{clips}
 use Rattle.rules.specs.Buffers.{over}
 use Rattle.rules.proofs.Masks.{mask-below}
 use Rattle.cut.specs.declared.scan.Scan.{Scan}
-use Rattle.cut.specs.Heights.{height, higher, highest}
-use Rattle.cut.specs.Scan.{scanned, sights, rooms, Highest, Scanned}
+use Rattle.cut.specs.Heights.{higher, highest}
+use Rattle.cut.specs.Scan.{scanned, ownHeight, sights, rooms, Highest, Scanned}
 use Rattle.cut.proofs.ValueLaws.{up-mono}
 use Rattle.cut.proofs.GatherLaws.{set-more}
 use Rattle.cut.proofs.HeightLaws.{floor, is-above, not-above, higher-left, higher-right, highest-more, height-low, height-top, sights-length, sights-more}
@@ -36,20 +36,22 @@ clips-length u [] = refl
 clips-length u (v ∷ vs) = ap suc (clips-length u vs)
 
 -- ---- one value more, as the code's two arms have it
-scan-eq : (m m′ r r′ : ℕ) (t t′ : ℤ) (k k′ : ℕ) → m ≡ m′ → r ≡ r′ → t ≡ t′ → k ≡ k′
-    → _≡_ {A = Scan} (record { mask = m; room = r; top = t; place = k }) (record { mask = m′; room = r′; top = t′; place = k′ })
+abbrev scanOf : ℕ → ℕ → ℤ → ℕ → Scan
+scanOf m r t k = record { mask = m; room = r; top = t; place = k }
+
+scan-eq : (m m′ r r′ : ℕ) (t t′ : ℤ) (k k′ : ℕ) → m ≡ m′ → r ≡ r′ → t ≡ t′ → k ≡ k′ → scanOf m r t k ≡ scanOf m′ r′ t′ k′
 scan-eq m m′ r r′ t t′ k k′ p q e f = cc
 
 module _ (s : Scan) (x h : ℤ) (k b a : ℕ) (hb : b ≡ digit (isNeg x) * 2 ^ k) (ha : a ≡ up h) (top now : ℤ) (ht : top ≡ s .top) (hn : now ≡ h) where
   compared : (t : Bool) → ltZ top now ≡ t → ltZ (s .top) h ≡ t
   compared t e = sym (ap₂ ltZ ht hn) ∙ e
 
-  pub with-higher : ltZ top now ≡ true → record { mask = s .mask + b; room = s .room + a; top = now; place = k } ≡ scanned s x h k
+  pub with-higher : ltZ top now ≡ true → scanOf (s .mask + b) (s .room + a) now k ≡ scanned s x h k
   with-higher e =
       scan-eq _ _ _ _ _ _ _ _ (ap (λ n. s .mask + n) hb) (ap (λ n. s .room + n) ha)
       (hn ∙ ap (λ t. cond t h (s .top)) (sym (compared true e))) (ap (λ t. cond t k (s .place)) (sym (compared true e)))
 
-  pub with-other : ltZ top now ≡ false → record { mask = s .mask + b; room = s .room + a; top = top; place = s .place } ≡ scanned s x h k
+  pub with-other : ltZ top now ≡ false → scanOf (s .mask + b) (s .room + a) top (s .place) ≡ scanned s x h k
   with-other e =
       scan-eq _ _ _ _ _ _ _ _ (ap (λ n. s .mask + n) hb) (ap (λ n. s .room + n) ha)
       (ht ∙ ap (λ t. cond t h (s .top)) (sym (compared false e))) (ap (λ t. cond t k (s .place)) (sym (compared false e)))
@@ -116,9 +118,9 @@ peak-more (a ∷ hs) h k f p = go (ltZ (highest (a ∷ hs)) h) refl
     go true q = last-highest (a ∷ hs) h f (is-above (highest (a ∷ hs)) h q)
     go false q = still-highest (a ∷ hs) h k f (not-above (highest (a ∷ hs)) h q) p
 
-with-more : (vs : List ℤ) (s : Scan) (v : ℤ) → floor ⩽ height (isNeg v) v → Scanned vs s → Scanned (vs ++ (v ∷ [])) (scanned s v (height (isNeg v) v) (length vs))
+with-more : (vs : List ℤ) (s : Scan) (v : ℤ) → floor ⩽ ownHeight v → Scanned vs s → Scanned (vs ++ (v ∷ [])) (scanned s v (ownHeight v) (length vs))
 with-more vs s v f p =
-    let h = height (isNeg v) v in
+    let h = ownHeight v in
     let hs = sights vs in
     let next : sights (vs ++ (v ∷ [])) ≡ hs ++ (h ∷ []) = sights-more vs v in
     let peak : Highest (hs ++ (h ∷ [])) (cond (ltZ (s .top) h) (length vs) (s .place)) =
@@ -135,14 +137,14 @@ with-more vs s v f p =
 pub scanned-none : (s : Scan) → s .mask ≡ 0 → s .room ≡ 0 → s .top ≡ floor → s .place ≡ 0 → Scanned [] s
 scanned-none s m r t k = record { negative = m; total = r; high = t; peak = k }
 
-pub scanned-more : (v : List ℤ) (i : ℕ) (s r : Scan) → i < length v → SFits w32 (at v i) → Scanned (take i v) s → r ≡ scanned s (at v i) (height (isNeg (at v i)) (at v i)) i
+pub scanned-more : (v : List ℤ) (i : ℕ) (s r : Scan) → i < length v → SFits w32 (at v i) → Scanned (take i v) s → r ≡ scanned s (at v i) (ownHeight (at v i)) i
     → Scanned (take (i + 1) v) r
 scanned-more v i s r h f p e =
     let x = at v i in
     let next : take (i + 1) v ≡ take i v ++ (x ∷ []) = ap (λ n. take n v) (add-one i) ∙ take-suc v i (pos 0) h in
     let place : length (take i v) ≡ i = length-take-le i v (omega arith) in
     subst (λ l. Scanned l r) (sym next)
-    (subst (Scanned (take i v ++ (x ∷ []))) (ap (scanned s x (height (isNeg x) x)) place ∙ sym e)
+    (subst (Scanned (take i v ++ (x ∷ []))) (ap (scanned s x (ownHeight x)) place ∙ sym e)
     (with-more (take i v) s x (height-low x f) p))
 
 -- one place more is written
@@ -152,20 +154,23 @@ over-more front old z i e h =
     ∙ set-more front old z i e h
     ∙ ap (λ n. (front ++ (z ∷ [])) ++ drop n old) (sym (length-more front z ∙ ap suc e))
 
-pub heights-more : (v old now : List ℤ) (i : ℕ) (z : ℤ) → i < length v → i < length old → z ≡ height (isNeg (at v i)) (at v i) → now ≡ over (sights (take i v)) old
-    → set now i z ≡ over (sights (take (i + 1) v)) old
+-- the first i heights are written
+abbrev pub heightsTo : ℕ → List ℤ → List ℤ → List ℤ
+heightsTo i v old = over (sights (take i v)) old
+
+pub heights-more : (v old now : List ℤ) (i : ℕ) (z : ℤ) → i < length v → i < length old → z ≡ ownHeight (at v i) → now ≡ heightsTo i v old → set now i z ≡ heightsTo (i + 1) v old
 heights-more v old now i z h k e q =
     let x = at v i in
     let next : take (i + 1) v ≡ take i v ++ (x ∷ []) = ap (λ n. take n v) (add-one i) ∙ take-suc v i (pos 0) h in
     let size : length (sights (take i v)) ≡ i = sights-length (take i v) ∙ length-take-le i v (omega arith) in
     ap₂ (λ l y. set l i y) q e
-    ∙ over-more (sights (take i v)) old (height (isNeg x) x) i size k
+    ∙ over-more (sights (take i v)) old (ownHeight x) i size k
     ∙ ap (λ l. over l old) (sym (ap sights next ∙ sights-more (take i v) x))
 
 -- ---- the machine's bounds
 rooms-most : (vs : List ℤ) → rooms (sights vs) ≤ unit * length vs
 rooms-most [] = omega arith
-rooms-most (v ∷ vs) = step (up (height (isNeg v) v)) (rooms (sights vs)) (length vs) (up-mono (height (isNeg v) v) (pos unit) (height-top v)) (rooms-most vs)
+rooms-most (v ∷ vs) = step (up (ownHeight v)) (rooms (sights vs)) (length vs) (up-mono (ownHeight v) (pos unit) (height-top v)) (rooms-most vs)
   where
     step : (a b n : ℕ) → a ≤ unit → b ≤ unit * n → a + b ≤ unit * suc n
     step a b n h k = omega arith

@@ -3,6 +3,7 @@
 use mathlib.Core.Path.{_≡_, refl, sym, _∙_, ap, subst}
 use mathlib.Core.Bool.{Bool, true, false, not}
 use mathlib.Core.List.{List, [], _∷_}
+use mathlib.Core.Option.{Option}
 use Prim.Native.Nat.{ℕ, zero, suc, _*_, _<_}
 use native.Mathlib.Omega.{arith}
 use native.Mathlib.Nat.{le-of-suc-le-suc}
@@ -24,8 +25,15 @@ use Rattle.cut.proofs.ScanLaws.{negatives-length}
 no-less : (u : ℕ) (a b : ℤ) → ltZ a (pos (2 * u)) ≡ false → a ⩽ b → b <ℤ pos (2 * u) → ⊥
 no-less u a b = simp lin (omega arithZ)
 
-cut-any : (u : ℕ) (ss : List ℤ) (vs : List Bool) → AllWithin u ss → odd vs ≡ true → Alike vs ss → ((ts : List Bool) → odd ts ≡ true → Alike ts ss → left u vs ss ⩽ left u ts ss)
-    → cut u ss ≡ keep (ltZ (left u vs ss) (pos (2 * u))) vs
+-- no odd set has a lesser left side
+abbrev Least : ℕ → List Bool → List ℤ → Type 0
+Least u vs ss = (ts : List Bool) → odd ts ≡ true → Alike ts ss → left u vs ss ⩽ left u ts ss
+
+-- the set, if its left side is below 2U
+abbrev pub keepBelow : ℕ → List Bool → List ℤ → Option (List Bool)
+keepBelow u vs ss = keep (ltZ (left u vs ss) (pos (2 * u))) vs
+
+cut-any : (u : ℕ) (ss : List ℤ) (vs : List Bool) → AllWithin u ss → odd vs ≡ true → Alike vs ss → Least u vs ss → cut u ss ≡ keepBelow u vs ss
 cut-any u ss vs w o k below = go (ltZ (left u vs ss) (pos (2 * u))) refl
   where
     go : (b : Bool) → ltZ (left u vs ss) (pos (2 * u)) ≡ b → cut u ss ≡ keep b vs
@@ -33,7 +41,7 @@ cut-any u ss vs w o k below = go (ltZ (left u vs ss) (pos (2 * u))) refl
     go false e = none-cut u ss (λ ts c. no-less u (left u vs ss) (left u ts ss) e (below ts (c .isOdd) (c .long)) (c .under))
 
 -- the negative spins, where they are odd
-pub cut-odd : (u : ℕ) (ss : List ℤ) → AllWithin u ss → odd (negatives ss) ≡ true → cut u ss ≡ keep (ltZ (left u (negatives ss) ss) (pos (2 * u))) (negatives ss)
+pub cut-odd : (u : ℕ) (ss : List ℤ) → AllWithin u ss → odd (negatives ss) ≡ true → cut u ss ≡ keepBelow u (negatives ss) ss
 cut-odd u ss w o = cut-any u ss (negatives ss) w o (negatives-alike ss) (λ ts p k. lowest u ts ss k)
 
 -- ---- member k changes sides
@@ -72,7 +80,7 @@ changed-low : (x y c : ℤ) (n m : ℕ) → x ≡ y +ℤ pos (2 * n) → n ≡ m
 changed-low x y c n m = simp lin (omega arithZ)
 
 pub cut-even : (u k : ℕ) (ss : List ℤ) → AllWithin u ss → odd (negatives ss) ≡ false → k < length ss → natAbs (at ss k) ≡ smallest u ss
-    → cut u ss ≡ keep (ltZ (left u (changeSide k (negatives ss)) ss) (pos (2 * u))) (changeSide k (negatives ss))
+    → cut u ss ≡ keepBelow u (changeSide k (negatives ss)) ss
 cut-even u k ss w e h m =
     cut-any u ss (changeSide k (negatives ss)) w (change-odd k (negatives ss) (subst (λ n. k < n) (sym (negatives-length ss)) h) ∙ ap not e)
     (change-alike k (negatives ss) ss (negatives-alike ss))

@@ -27,20 +27,24 @@ mask-4 : asked (pos 1365 ∷ pos 1365 ∷ negsuc 1366 ∷ []) 0 ≡ gives (some 
 unfolding asked checksFrom onPoint onCheck must cut
 mask-4 = refl
 
+-- what a buffer holds
+sevens : ℕ → List ℤ
+sevens n = replicate n (pos 7)
+
 -- the same two points by their heights, which make 2U and one less; the buffer's fourth place stays
-heights-no-cut : seen (pos 1365 ∷ pos 1365 ∷ negsuc 1365 ∷ []) (pos 7 ∷ pos 7 ∷ pos 7 ∷ pos 7 ∷ [])
+heights-no-cut : seen (pos 1365 ∷ pos 1365 ∷ negsuc 1365 ∷ []) (sevens 4)
     ≡ record { number = 0; mask = 0; top = pos 2731; heights = pos 2731 ∷ pos 2731 ∷ pos 2730 ∷ pos 7 ∷ [] }
-unfolding seen seenOn cut clipZ
+unfolding seen seenOn cut clipZ sevens
 heights-no-cut = refl
 
-heights-mask-4 : seen (pos 1365 ∷ pos 1365 ∷ negsuc 1366 ∷ []) (pos 7 ∷ pos 7 ∷ pos 7 ∷ pos 7 ∷ [])
+heights-mask-4 : seen (pos 1365 ∷ pos 1365 ∷ negsuc 1366 ∷ []) (sevens 4)
     ≡ record { number = 0; mask = 4; top = pos 2731; heights = pos 2731 ∷ pos 2731 ∷ pos 2729 ∷ pos 7 ∷ [] }
-unfolding seen seenOn cut clipZ
+unfolding seen seenOn cut clipZ sevens
 heights-mask-4 = refl
 
 -- of (−1, 5000, −U) the first changes sides: its height rises from U − 1 to U + 1, and the second's is not clipped
-heights-raised : seen (negsuc 0 ∷ pos 5000 ∷ negsuc 4095 ∷ []) (pos 7 ∷ pos 7 ∷ pos 7 ∷ []) ≡ record { number = 0; mask = 4; top = pos 4097; heights = pos 4097 ∷ negsuc 903 ∷ pos 0 ∷ [] }
-unfolding seen seenOn cut clipZ
+heights-raised : seen (negsuc 0 ∷ pos 5000 ∷ negsuc 4095 ∷ []) (sevens 3) ≡ record { number = 0; mask = 4; top = pos 4097; heights = pos 4097 ∷ negsuc 903 ∷ pos 0 ∷ [] }
+unfolding seen seenOn cut clipZ sevens
 heights-raised = refl
 
 -- a buffer of one place has no room for two heights: 41, and it stays as it was; no values need no room

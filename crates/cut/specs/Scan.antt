@@ -14,7 +14,7 @@ use Rattle.rules.specs.Limits.{unit}
 use Rattle.rules.specs.Table.{at}
 use Rattle.rules.specs.Mask.{digit, maskOf}
 use Rattle.rules.specs.Cut.{isNeg, negatives}
-use Rattle.cut.specs.Heights.{heightsOf, higher, highest, Seen}
+use Rattle.cut.specs.Heights.{height, heightsOf, higher, highest, Seen}
 use Rattle.cut.specs.declared.scan.Scan.{Scan}
 
 -- with value k and its height
@@ -25,6 +25,10 @@ scanned s x h k = record {
   top = higher (s .top) h;
   place = cond (ltZ (s .top) h) k (s .place);
 }
+
+-- a value's height on the side of its sign
+abbrev pub ownHeight : ℤ → ℤ
+ownHeight v = height (isNeg v) v
 
 -- the heights as the negative values see them: U less each size
 abbrev pub sights : List ℤ → List ℤ

@@ -1,21 +1,18 @@
 -- What the judge's answer is worth, whoever wrote the certificate (document 00, demand 2; document 01, "Certificates"): certified exactly if the word
 -- meets all checks and its agreement, times the scale, equals the bound, and then nothing agrees better. Corollaries of rules' Judged. Assumes nothing.
 use mathlib.Core.Path.{_≡_, sym, _∙_, subst}
-use mathlib.Core.Bool.{true}
 use mathlib.Core.Logic.{_↔_}
 use mathlib.Core.List.{List}
 use Prim.Native.Nat.{ℕ}
-use lib.IntN.{ℤ, pos, _*ℤ_}
+use lib.IntN.{ℤ, pos}
 use lib.Signed.{_<ℤ_}
 use Rattle.rules.specs.Refusal.{gives}
 use Rattle.rules.specs.Table.{Table}
-use Rattle.rules.specs.Parity.{meets, agreement}
 use Rattle.rules.specs.CodeFile.{codeFile}
 use Rattle.rules.specs.Input.{bitsOf}
-use Rattle.rules.specs.Bound.{bound}
 use Rattle.rules.specs.Certificate.{scaleOf, itemsOf, rowsAt}
 use Rattle.rules.specs.Demand3.{Best}
-use Rattle.rules.specs.Judge.{Verdict, passes, verdict, judge}
+use Rattle.rules.specs.Judge.{Verdict, passes, verdict, MeetsBound, judge}
 use Rattle.rules.proofs.AnswerLaws.{gives-inj}
 use Rattle.rules.proofs.Judged.{judged, verdict-passes⇔, judge-best, judge-positive}
 use Rattle.judge.specs.declared.Verdict.the-variants.{Certified, Gap}
@@ -30,9 +27,7 @@ module _ (file : List ℕ) (l : List ℤ) (w bs : List ℕ) where
 
     -- "passes exactly if the word meets all checks and its agreement, times the certificate's scale, equals the multipliers' bound", of inputs that are
     -- not refused
-    pub certified⇔ : (v : Verdict) → judge file l w bs ≡ gives v
-        → (v ≡ passes)
-        ↔ ((meets (bitsOf w) (t .checks) ≡ true) × (pos (scaleOf bs) *ℤ agreement (t .bits) l (bitsOf w) ≡ bound (t .bits) (scaleOf bs) l (rowsAt t (itemsOf bs))))
+    pub certified⇔ : (v : Verdict) → judge file l w bs ≡ gives v → (v ≡ passes) ↔ MeetsBound t (scaleOf bs) l (rowsAt t (itemsOf bs)) (bitsOf w)
     certified⇔ v h =
         let both = verdict-passes⇔ t (scaleOf bs) l (rowsAt t (itemsOf bs)) (bitsOf w) in
         (λ e. both .0 (verdict-says v h ∙ e), λ p. sym (verdict-says v h) ∙ both .1 p)

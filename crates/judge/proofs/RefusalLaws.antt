@@ -17,13 +17,13 @@ use Rattle.rules.specs.Refusal.{Answer, must, certificateWrong, scaleRange, ent
 use Rattle.rules.specs.Table.{Table, checksOf}
 use Rattle.rules.specs.Mask.{maskRight}
 use Rattle.rules.specs.CodeFile.{inRange}
-use Rattle.rules.specs.Certificate.{Item, itemAt, itemsAt, membersAt, follows, onItem, onItems, entriesOf, scaleOf, itemsOf, onCertificate}
+use Rattle.rules.specs.Certificate.{Item, itemAt, itemsAt, membersAt, follows, onItem, onItems, entriesOf, scaleOf, itemsOf, lengthRight, onCertificate}
 use Rattle.rules.proofs.Basics.{and-both}
 use Rattle.rules.proofs.AnswerLaws.{range-both}
 use Rattle.table.proofs.AnswerLaws.{and-fails, and-holds}
 use Rattle.inputs.specs.Refusals.{turnedDown, orElse}
 use Rattle.inputs.proofs.RefusalLaws.{else-refused, else-next, else-none, cond-none, test-number, turned-else}
-use Rattle.judge.specs.Refusals.{Long, beforeAt, itemRefusal, itemsRefusal, certificateRefusal}
+use Rattle.judge.specs.Refusals.{Long, beforeAt, maskRefusal, itemRefusal, itemsRefusal, certificateRefusal}
 
 -- ---- one test
 cond-same : (b : Bool) (i j k : ℕ) → (b ≡ true → i ≡ j) → cond b i k ≡ cond b j k
@@ -35,10 +35,9 @@ module _ (m : ℕ) (d : ℕ → ℕ) (p : Option Item) (i : Item) (check multipl
   range-is : (ltb (i .check) m && inRange 1 maxMultiplier (i .multiplier)) ≡ (ltb check m && inRange 1 maxMultiplier multiplier)
   range-is = ap₂ (λ x y. ltb x m && inRange 1 maxMultiplier y) (sym hc) (sym hm)
 
-  item-is : (b : Bool) → ltb check m && inRange 1 maxMultiplier multiplier ≡ b
-      → itemRefusal m d p i ≡ cond b (cond (maskRight (d (i .check)) (i .mask)) (cond (follows p i) 0 entryOrder) maskWrong) entryRange
+  item-is : (b : Bool) → ltb check m && inRange 1 maxMultiplier multiplier ≡ b → itemRefusal m d p i ≡ cond b (maskRefusal d p i) entryRange
   unfolding itemRefusal
-  item-is b e = ap (λ x. cond x (cond (maskRight (d (i .check)) (i .mask)) (cond (follows p i) 0 entryOrder) maskWrong) entryRange) (range-is ∙ e)
+  item-is b e = ap (λ x. cond x (maskRefusal d p i) entryRange) (range-is ∙ e)
 
   pub entry-check : m ≤ check → entryRange ≡ itemRefusal m d p i
   entry-check h = sym (item-is false (and-fails (ltb check m) (inRange 1 maxMultiplier multiplier) (le-ltb check m h)))
@@ -93,9 +92,11 @@ module _ (bs : List ℕ) (q k b c : ℕ) (i : Item) (hk : k ≡ 0 → ⊥) (hb :
 
 -- ---- entry by entry
 module _ (m : ℕ) (d : ℕ → ℕ) (bs : List ℕ) (q : ℕ) where
-  items-more : (k : ℕ) → k < q
-      → itemsRefusal m d (beforeAt bs q k) (itemsAt bs q k (q - k))
-      ≡ orElse (itemRefusal m d (beforeAt bs q k) (itemAt bs q k)) (itemsRefusal m d (beforeAt bs q (k + 1)) (itemsAt bs q (k + 1) (q - (k + 1))))
+  -- the refusal of the entries from entry k on
+  abbrev pub refusalFrom : ℕ → ℕ
+  refusalFrom k = itemsRefusal m d (beforeAt bs q k) (itemsAt bs q k (q - k))
+
+  items-more : (k : ℕ) → k < q → refusalFrom k ≡ orElse (itemRefusal m d (beforeAt bs q k) (itemAt bs q k)) (refusalFrom (k + 1))
   unfolding itemsAt itemsRefusal
   items-more k h =
       ap (λ c. itemsRefusal m d (beforeAt bs q k) (itemsAt bs q k c)) (left-more k q h)
@@ -103,25 +104,22 @@ module _ (m : ℕ) (d : ℕ → ℕ) (bs : List ℕ) (q : ℕ) where
 
   -- r the refusal of entry k
   module _ (k r : ℕ) (h : k < q) (e : r ≡ itemRefusal m d (beforeAt bs q k) (itemAt bs q k)) where
-    abbrev rest : ℕ
-    rest = itemsRefusal m d (beforeAt bs q (k + 1)) (itemsAt bs q (k + 1) (q - (k + 1)))
+    pub items-stop : (r ≡ 0 → ⊥) → refusalFrom k ≡ r
+    items-stop f = items-more k h ∙ ap (λ x. orElse x (refusalFrom (k + 1))) (sym e) ∙ else-refused r (refusalFrom (k + 1)) f
 
-    pub items-stop : (r ≡ 0 → ⊥) → itemsRefusal m d (beforeAt bs q k) (itemsAt bs q k (q - k)) ≡ r
-    items-stop f = items-more k h ∙ ap (λ x. orElse x rest) (sym e) ∙ else-refused r rest f
+    pub items-next : r ≡ 0 → refusalFrom k ≡ refusalFrom (k + 1)
+    items-next z = items-more k h ∙ ap (λ x. orElse x (refusalFrom (k + 1))) (sym e) ∙ else-next r (refusalFrom (k + 1)) z
 
-    pub items-next : r ≡ 0 → itemsRefusal m d (beforeAt bs q k) (itemsAt bs q k (q - k)) ≡ itemsRefusal m d (beforeAt bs q (k + 1)) (itemsAt bs q (k + 1) (q - (k + 1)))
-    items-next z = items-more k h ∙ ap (λ x. orElse x rest) (sym e) ∙ else-next r rest z
-
-  pub items-end : (k : ℕ) → q ≤ k → itemsRefusal m d (beforeAt bs q k) (itemsAt bs q k (q - k)) ≡ 0
+  pub items-end : (k : ℕ) → q ≤ k → refusalFrom k ≡ 0
   unfolding itemsAt itemsRefusal
   items-end k h = ap (λ c. itemsRefusal m d (beforeAt bs q k) (itemsAt bs q k c)) (sub-eq-zero-of-le h)
 
-  pub items-all : itemsRefusal m d (beforeAt bs q 0) (itemsAt bs q 0 (q - 0)) ≡ itemsRefusal m d (beforeAt bs q 0) (itemsAt bs q 0 q)
+  pub items-all : refusalFrom 0 ≡ itemsRefusal m d (beforeAt bs q 0) (itemsAt bs q 0 q)
   items-all = ap (λ c. itemsRefusal m d (beforeAt bs q 0) (itemsAt bs q 0 c)) (omega arith)
 
 -- ---- the whole certificate, q being what its first number says
 module _ (m : ℕ) (d : ℕ → ℕ) (bs : List ℕ) where
-  certificate-is : (b c : Bool) → ((leb 4 (length bs) && leb (entriesOf bs) maxEntries) && eqb (length bs) (certificateLength (entriesOf bs))) ≡ b → inRange 1 maxScale (scaleOf bs) ≡ c
+  certificate-is : (b c : Bool) → lengthRight bs ≡ b → inRange 1 maxScale (scaleOf bs) ≡ c
       → certificateRefusal m d bs ≡ cond b (cond c (itemsRefusal m d none (itemsOf bs)) scaleRange) certificateWrong
   unfolding certificateRefusal
   certificate-is b c e f = ap₂ (λ x y. cond x (cond y (itemsRefusal m d none (itemsOf bs)) scaleRange) certificateWrong) e f
@@ -141,7 +139,7 @@ module _ (m : ℕ) (d : ℕ → ℕ) (bs : List ℕ) where
         (and-fails (leb 4 (length bs) && leb (entriesOf bs) maxEntries) (eqb (length bs) (certificateLength (entriesOf bs))) (few false (lt-leb q maxEntries g))) refl)
 
     module _ (g : q ≤ maxEntries) where
-      long : (b : Bool) → eqb (length bs) (certificateLength q) ≡ b → ((leb 4 (length bs) && leb (entriesOf bs) maxEntries) && eqb (length bs) (certificateLength (entriesOf bs))) ≡ b
+      long : (b : Bool) → eqb (length bs) (certificateLength q) ≡ b → lengthRight bs ≡ b
       long b e =
           and-holds (leb 4 (length bs) && leb (entriesOf bs) maxEntries) (eqb (length bs) (certificateLength (entriesOf bs))) (few true (le-leb q maxEntries g))
           ∙ ap (λ x. eqb (length bs) (certificateLength x)) (sym hq) ∙ e
@@ -170,7 +168,7 @@ module _ {A : Type 0} (t : Table) (d : ℕ → ℕ) (same : (j : ℕ) → j < ch
       ∙ ap (must range entryRange) (test-number right 12 last a)
       ∙ test-number range 11 (cond right last maskWrong) a
       ∙ ap (λ r. turnedDown r a)
-      (cond-same range (cond right last maskWrong) (cond (maskRight (d (i .check)) (i .mask)) last maskWrong) entryRange
+      (cond-same range (cond right last maskWrong) (maskRefusal d p i) entryRange
       (λ e. ap (λ x. cond (maskRight x (i .mask)) last maskWrong) (same (i .check) (ltb-true (i .check) (checksOf t) (and-both _ _ e .0)))))
 
   items-law : (p : Option Item) (is : List Item) (a : Answer A) → onItems t p is a ≡ turnedDown (itemsRefusal (checksOf t) d p is) a
@@ -184,7 +182,7 @@ module _ {A : Type 0} (t : Table) (d : ℕ → ℕ) (same : (j : ℕ) → j < ch
   pub certificate-law : (bs : List ℕ) (a : Answer A) → onCertificate t bs a ≡ turnedDown (certificateRefusal (checksOf t) d bs) a
   unfolding onCertificate certificateRefusal
   certificate-law bs a =
-      let size = (leb 4 (length bs) && leb (entriesOf bs) maxEntries) && eqb (length bs) (certificateLength (entriesOf bs)) in
+      let size = lengthRight bs in
       let scale = inRange 1 maxScale (scaleOf bs) in
       let items = itemsRefusal (checksOf t) d none (itemsOf bs) in
       ap (λ x. must size certificateWrong (must scale scaleRange x)) (items-law none (itemsOf bs) a)
@@ -199,7 +197,7 @@ pub record Entry (m : ℕ) (i : Item) : Type 0 where
 item-passed : (m : ℕ) (d : ℕ → ℕ) (p : Option Item) (i : Item) → itemRefusal m d p i ≡ 0 → Entry m i
 unfolding itemRefusal
 item-passed m d p i e =
-    let range = cond-none (ltb (i .check) m && inRange 1 maxMultiplier (i .multiplier)) (cond (maskRight (d (i .check)) (i .mask)) (cond (follows p i) 0 entryOrder) maskWrong) 11 e in
+    let range = cond-none (ltb (i .check) m && inRange 1 maxMultiplier (i .multiplier)) (maskRefusal d p i) 11 e in
     let both = and-both (ltb (i .check) m) (inRange 1 maxMultiplier (i .multiplier)) (range .0) in
     record { check = ltb-true (i .check) m (both .0); multiplier = range-both 1 maxMultiplier (i .multiplier) (both .1) .1 }
 

@@ -25,6 +25,7 @@ use Rattle.rules.specs.Certificate.{Item, itemAt, itemsAt, membersAt, entriesOf
 use Rattle.rules.specs.Judge.{breaks, passes, misses, weigh, verdict, judge, syndrome, agreementOf}
 use Rattle.rules.proofs.Basics.{and-both}
 use Rattle.rules.proofs.AnswerLaws.{then-of}
+use Rattle.rules.proofs.Judged.{gapRead}
 use Rattle.inputs.specs.Refusals.{frameRefusal, wordRefusal, turnedDown, orElse}
 use Rattle.inputs.proofs.InputLaws.{frame-law, word-law}
 use Rattle.table.specs.Layout.{checksFrom, tableOf, Holds, degreeAt}
@@ -66,7 +67,11 @@ module _ (n m : ℕ) (ss ms : List ℕ) (h : Holds n ss ms) (hm : length ss ≡ 
   pub ordered : Ordered m ss
   ordered j k = start-held n ss ms h j (omega (arith, many))
 
-  listed : (bs : List ℕ) → Passed m bs → (k : ℕ) → k < entriesOf bs → itemAt bs (entriesOf bs) k .check < length (checksFrom ss ms)
+  -- each of q entries is of one of the checks
+  abbrev AllListed : List ℕ → ℕ → Type 0
+  AllListed bs q = (k : ℕ) → k < q → itemAt bs q k .check < length (checksFrom ss ms)
+
+  listed : (bs : List ℕ) → Passed m bs → AllListed bs (entriesOf bs)
   listed bs p k i = omega (arith, many, p .entry k i .check)
 
   pub all-placed : (bs : List ℕ) → Passed m bs → AllPlaced n ss ms bs (entriesOf bs)
@@ -102,14 +107,12 @@ module _ (n m : ℕ) (ss ms : List ℕ) (h : Holds n ss ms) (hm : length ss ≡ 
   row-is : (i : Item) → i .check < length (checksFrom ss ms) → rowIn ss ms i ≡ rowAt (tableOf n ss ms) i
   row-is i k = ap (λ l. record { members = l; multiplier = i .multiplier; set = setOf (length l) (i .mask) }) (part-is n ss ms h (i .check) k)
 
-  rows-from : (bs : List ℕ) (q : ℕ) → ((k : ℕ) → k < q → itemAt bs q k .check < length (checksFrom ss ms)) → (k c : ℕ) → k + c ≤ q
-      → rowsIn ss ms (itemsAt bs q k c) ≡ rowsAt (tableOf n ss ms) (itemsAt bs q k c)
+  rows-from : (bs : List ℕ) (q : ℕ) → AllListed bs q → (k c : ℕ) → k + c ≤ q → rowsIn ss ms (itemsAt bs q k c) ≡ rowsAt (tableOf n ss ms) (itemsAt bs q k c)
   unfolding itemsAt
   rows-from bs q f k zero g = refl
   rows-from bs q f k (suc c) g = ap₂ _∷_ (row-is (itemAt bs q k) (f k (first-in k c q g))) (rows-from bs q f (k + 1) c (rest-in k c q g))
 
-  pub gap-is : (l : List ℤ) (w bs : List ℕ) → length l ≡ n → Passed m bs
-      → gap (length l) (scaleOf bs) l (rowsIn ss ms (itemsOf bs)) (bitsOf w) ≡ gap n (scaleOf bs) l (rowsAt (tableOf n ss ms) (itemsOf bs)) (bitsOf w)
+  pub gap-is : (l : List ℤ) (w bs : List ℕ) → length l ≡ n → Passed m bs → gap (length l) (scaleOf bs) l (rowsIn ss ms (itemsOf bs)) (bitsOf w) ≡ gapRead (tableOf n ss ms) l w bs
   gap-is l w bs long p = ap₂ (λ k rs. gap k (scaleOf bs) l rs (bitsOf w)) long (rows-from bs (entriesOf bs) (listed bs p) 0 (entriesOf bs) (omega arith))
 
 zero-gap : (g : ℤ) → (ofZ w64 g ≡ 0 → ⊥) → isZero g ≡ false
@@ -119,14 +122,14 @@ zero-gap (negsuc k) f = refl
 
 -- ---- the verdict
 module _ (t : Table) (l : List ℤ) (w bs : List ℕ) where
-  verdict-is : (o : Option ℕ) (g : ℤ) → o ≡ firstBroken 0 (bitsOf w) (t .checks) → g ≡ gap (t .bits) (scaleOf bs) l (rowsAt t (itemsOf bs)) (bitsOf w) → weigh o g ≡ verdictOn t l w bs
+  verdict-is : (o : Option ℕ) (g : ℤ) → o ≡ firstBroken 0 (bitsOf w) (t .checks) → g ≡ gapRead t l w bs → weigh o g ≡ verdictOn t l w bs
   unfolding verdict
   verdict-is o g ho hg = ap₂ weigh ho hg
 
   pub verdict-broken : (j : ℕ) → some j ≡ firstBroken 0 (bitsOf w) (t .checks) → gives (breaks j) ≡ gives (verdictOn t l w bs)
-  verdict-broken j e = ap gives (verdict-is (some j) (gap (t .bits) (scaleOf bs) l (rowsAt t (itemsOf bs)) (bitsOf w)) e refl)
+  verdict-broken j e = ap gives (verdict-is (some j) (gapRead t l w bs) e refl)
 
-  module _ (e : none ≡ firstBroken 0 (bitsOf w) (t .checks)) (g : ℤ) (hg : g ≡ gap (t .bits) (scaleOf bs) l (rowsAt t (itemsOf bs)) (bitsOf w)) where
+  module _ (e : none ≡ firstBroken 0 (bitsOf w) (t .checks)) (g : ℤ) (hg : g ≡ gapRead t l w bs) where
     pub verdict-certified : g ≡ pos 0 → gives passes ≡ gives (verdictOn t l w bs)
     verdict-certified z = ap gives (ap (weigh none) (sym z) ∙ verdict-is none g e hg)
 

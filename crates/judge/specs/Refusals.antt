@@ -5,13 +5,13 @@ use mathlib.Core.Bool.{cond, _&&_}
 use mathlib.Core.List.{List, [], _∷_}
 use mathlib.Core.Option.{Option, some, none}
 use Prim.Native.Nat.{ℕ, zero, suc, _≤_, _<_}
-use lib.Dec.{leb, ltb, eqb}
+use lib.Dec.{ltb}
 use lib.ListN.{length}
 use Rattle.rules.specs.Limits.{maxEntries, maxScale, maxMultiplier, certificateLength}
 use Rattle.rules.specs.Refusal.{certificateWrong, scaleRange, entryRange, maskWrong, entryOrder}
 use Rattle.rules.specs.Mask.{maskRight}
 use Rattle.rules.specs.CodeFile.{inRange}
-use Rattle.rules.specs.Certificate.{Item, itemAt, follows, entriesOf, scaleOf, itemsOf}
+use Rattle.rules.specs.Certificate.{Item, itemAt, follows, scaleOf, itemsOf, lengthRight}
 use Rattle.table.specs.Layout.{Start}
 use Rattle.inputs.specs.Refusals.{orElse}
 
@@ -34,12 +34,13 @@ abbrev pub beforeAt : List ℕ → ℕ → ℕ → Option Item
 beforeAt bs q zero = none
 beforeAt bs q (suc k) = some (itemAt bs q k)
 
--- m checks, d their degrees, p the entry before
+-- 13 and 14, d the checks' degrees, p the entry before
+abbrev pub maskRefusal : (ℕ → ℕ) → Option Item → Item → ℕ
+maskRefusal d p i = cond (maskRight (d (i .check)) (i .mask)) (cond (follows p i) 0 entryOrder) maskWrong
+
+-- 12 before them, of m checks
 unfoldable pub itemRefusal : ℕ → (ℕ → ℕ) → Option Item → Item → ℕ
-itemRefusal m d p i =
-    cond (ltb (i .check) m && inRange 1 maxMultiplier (i .multiplier))
-    (cond (maskRight (d (i .check)) (i .mask)) (cond (follows p i) 0 entryOrder) maskWrong)
-    entryRange
+itemRefusal m d p i = cond (ltb (i .check) m && inRange 1 maxMultiplier (i .multiplier)) (maskRefusal d p i) entryRange
 
 unfoldable pub itemsRefusal : ℕ → (ℕ → ℕ) → Option Item → List Item → ℕ
 itemsRefusal m d p [] = 0
@@ -47,6 +48,6 @@ itemsRefusal m d p (i ∷ is) = orElse (itemRefusal m d p i) (itemsRefusal m d (
 
 unfoldable pub certificateRefusal : ℕ → (ℕ → ℕ) → List ℕ → ℕ
 certificateRefusal m d bs =
-    cond ((leb 4 (length bs) && leb (entriesOf bs) maxEntries) && eqb (length bs) (certificateLength (entriesOf bs)))
+    cond (lengthRight bs)
     (cond (inRange 1 maxScale (scaleOf bs)) (itemsRefusal m d none (itemsOf bs)) scaleRange)
     certificateWrong

@@ -18,7 +18,7 @@ use Rattle.rules.proofs.Counted.{all-counted}
 use Rattle.run.proofs.AdmitLaws.{sound-safe}
 use Rattle.decoder.proofs.CallLaws.{answers}
 use Rattle.jugnayap.specs.declared.JugnayapRun.{JugnayapRun}
-use Rattle.jugnayap.specs.Numbers.{statusAt, progressBy, progressAt, runAfter, callLeft}
+use Rattle.jugnayap.specs.Numbers.{leftAs, statusAt, progressBy, runFrom, runAfter, callLeft, callNumbers}
 
 -- ---- a call that passes every test is not refused: 44 never comes
 module _ (l : List ℤ) (wanted : ℕ) (r : Run) where
@@ -55,16 +55,19 @@ same-numbers k (suc zero) = refl
 same-numbers k (suc (suc zero)) = refl
 same-numbers k (suc (suc (suc s))) = refl
 
-pub refused-run : (h : JugnayapRun) (file : List ℕ) (l : List ℤ) (wanted : ℕ) (b : Buffers) (k : ℕ)
-    → call file l wanted (record { progress = progressAt h; buffers = b }) .answer ≡ refused k
-    → callLeft h (call file l wanted (record { progress = progressAt h; buffers = b })) ≡ record { called = record { number = k; run = h }; buffers = b }
-unfolding replyOf
-refused-run h file l wanted b k e = ap₂ (λ a q. callLeft h (record { answer = a; run = q })) e (refused-keeps l wanted (record { progress = progressAt h; buffers = b }) file k e)
-    ∙ ap (λ x. record { called = record { number = k; run = x }; buffers = b }) (same-numbers (h .rounds) (h .status))
+module _ (h : JugnayapRun) (file : List ℕ) (l : List ℤ) (wanted : ℕ) (b : Buffers) where
+  pub refused-run : (k : ℕ) → call file l wanted (runFrom h b) .answer ≡ refused k → callNumbers file l wanted h b ≡ leftAs (record { number = k; run = h }) b
+  unfolding replyOf
+  refused-run k e = ap₂ (λ a q. callLeft h (record { answer = a; run = q })) e (refused-keeps l wanted (runFrom h b) file k e)
+      ∙ ap (λ x. leftAs (record { number = k; run = x }) b) (same-numbers (h .rounds) (h .status))
 
--- ---- an unknown status: "then 17, 41, 43"
-pub unknown-43 : (t : Table) (l : List ℤ) (wanted k : ℕ) (lent : Lengths) (b : Buffers) (s : ℕ)
-    → admits t l wanted lent (record { progress = progressBy k (statusAt (suc (suc (suc s)))); buffers = b })
-    ≡ onFrame t l (must (leb wanted roundLimit) askedTooMuch (must (fits (needs t) lent) bufferShort (refused runDamaged)))
+-- ---- an unknown status, 3 or more: "then 17, 41, 43"
+abbrev pub unknown : ℕ → ℕ → JugnayapRun
+unknown k s = record { rounds = k; status = suc (suc (suc s)) }
+
+abbrev pub damaged : Table → List ℤ → ℕ → Lengths → Answer (Unit {0})
+damaged t l wanted lent = onFrame t l (must (leb wanted roundLimit) askedTooMuch (must (fits (needs t) lent) bufferShort (refused runDamaged)))
+
+pub unknown-43 : (t : Table) (l : List ℤ) (wanted : ℕ) (lent : Lengths) (k s : ℕ) (b : Buffers) → admits t l wanted lent (runFrom (unknown k s) b) ≡ damaged t l wanted lent
 unfolding admits must sound
-unknown-43 t l wanted k lent b s = refl
+unknown-43 t l wanted lent k s b = refl

@@ -8,14 +8,12 @@ use Rattle.rules.specs.Buffers.{Buffers}
 use Rattle.rules.specs.Run.{Progress, progressValues, Called, call, Started}
 use Rattle.jugnayap.specs.declared.JugnayapRun.{JugnayapRun}
 use Rattle.jugnayap.specs.declared.JugnayapCalled.{JugnayapCalled}
-use Rattle.jugnayap.specs.Numbers.{startedFrom, Left, startLeft, progressAt, calledFrom, callLeft}
+use Rattle.jugnayap.specs.Numbers.{startedFrom, leftAs, startLeft, progressAt, calledBy, callLeft, callNumbers}
 
-pub start-left : (d e : Started) (r : JugnayapCalled) → r ≡ startedFrom (replyOf progressValues (d .answer)) → d ≡ e
-    → _≡_ {A = Left} (record { called = r; buffers = d .buffers }) (startLeft e)
-start-left d e r p q = ap (λ x. record { called = x; buffers = d .buffers }) p ∙ ap startLeft q
+pub start-left : (d e : Started) (r : JugnayapCalled) → r ≡ startedFrom (replyOf progressValues (d .answer)) → d ≡ e → leftAs r (d .buffers) ≡ startLeft e
+start-left d e r p q = ap (λ x. leftAs x (d .buffers)) p ∙ ap startLeft q
 
-pub call-left : (h : JugnayapRun) (file : List ℕ) (l : List ℤ) (wanted : ℕ) (b : Buffers) (p : Progress) (d : Called) (r : JugnayapCalled)
-    → r ≡ calledFrom h (d .answer) (d .run .progress) → d ≡ call file l wanted (record { progress = p; buffers = b }) → p ≡ progressAt h
-    → _≡_ {A = Left} (record { called = r; buffers = d .run .buffers }) (callLeft h (call file l wanted (record { progress = progressAt h; buffers = b })))
-call-left h file l wanted b p d r e f g = ap (λ x. record { called = x; buffers = d .run .buffers }) e
-    ∙ ap (callLeft h) (f ∙ ap (λ x. call file l wanted (record { progress = x; buffers = b })) g)
+-- h is the record handed in, p the decoder's, d what the decoder's call came to
+module _ (h : JugnayapRun) (file : List ℕ) (l : List ℤ) (wanted : ℕ) (b : Buffers) (p : Progress) (d : Called) (r : JugnayapCalled) where
+  pub call-left : r ≡ calledBy h d → d ≡ call file l wanted (record { progress = p; buffers = b }) → p ≡ progressAt h → leftAs r (d .run .buffers) ≡ callNumbers file l wanted h b
+  call-left e f g = ap (λ x. leftAs x (d .run .buffers)) e ∙ ap (callLeft h) (f ∙ ap (λ x. call file l wanted (record { progress = x; buffers = b })) g)

@@ -1,4 +1,5 @@
 -- What the functions of the C interface return: its version, and the rest made of rules' own replies and calls. Definitions only. Assumes nothing.
+use mathlib.Core.Path.{_≡_}
 use mathlib.Core.List.{List}
 use mathlib.Core.Option.{Option, some, none}
 use Prim.Native.Nat.{ℕ, zero, suc, _+_, _*_}
@@ -6,8 +7,9 @@ use lib.ListN.{getD}
 use lib.IntN.{ℤ, pos, natAbs}
 use Rattle.rules.specs.Limits.{roundLimit}
 use Rattle.rules.specs.Refusal.{Answer, refused, gives, Reply, replyOf}
-use Rattle.rules.specs.Buffers.{Buffers}
-use Rattle.rules.specs.Run.{Status, running, certified, spent, statusNumber, statusValues, Progress, progressValues, Called, Started}
+use Rattle.rules.specs.Buffers.{Buffers, lent, startLent}
+use Rattle.rules.specs.Run.{Status, running, certified, spent, statusNumber, statusValues, Progress, progressValues, Run, Called, call, Started, start}
+use Rattle.run.specs.Slices.{Slice, came, left}
 use Rattle.jugnayap.specs.declared.JugnayapTable.{JugnayapTable}
 use Rattle.jugnayap.specs.declared.JugnayapCut.{JugnayapCut}
 use Rattle.jugnayap.specs.declared.JugnayapVerdict.{JugnayapVerdict}
@@ -56,8 +58,11 @@ pub record Left : Type 0 where
   pub called : JugnayapCalled
   pub buffers : Buffers
 
+abbrev pub leftAs : JugnayapCalled → Buffers → Left
+leftAs r b = record { called = r; buffers = b }
+
 abbrev pub startLeft : Started → Left
-startLeft d = record { called = startedFrom (replyOf progressValues (d .answer)); buffers = d .buffers }
+startLeft d = leftAs (startedFrom (replyOf progressValues (d .answer))) (d .buffers)
 
 -- ---- the record: the rounds done, and 0 running, 1 certified, 2 spent
 abbrev pub runNumbers : Progress → JugnayapRun
@@ -77,6 +82,10 @@ progressBy k (some s) = record { rounds = k; status = s }
 abbrev pub progressAt : JugnayapRun → Progress
 progressAt h = progressBy (h .rounds) (statusAt (h .status))
 
+-- the run that is handed in as numbers and buffers
+abbrev pub runFrom : JugnayapRun → Buffers → Run
+runFrom h b = record { progress = progressAt h; buffers = b }
+
 -- ---- a call for rounds: a record of unknown status comes back as handed in
 abbrev pub runAfter : Option Status → JugnayapRun → Progress → JugnayapRun
 runAfter none h p = h
@@ -85,5 +94,23 @@ runAfter (some s) h p = runNumbers p
 abbrev pub calledFrom : JugnayapRun → Answer Status → Progress → JugnayapCalled
 calledFrom h a p = record { number = replyOf statusValues a .number; run = runAfter (statusAt (h .status)) h p }
 
+abbrev pub calledBy : JugnayapRun → Called → JugnayapCalled
+calledBy h d = calledFrom h (d .answer) (d .run .progress)
+
 abbrev pub callLeft : JugnayapRun → Called → Left
-callLeft h d = record { called = calledFrom h (d .answer) (d .run .progress); buffers = d .run .buffers }
+callLeft h d = leftAs (calledBy h d) (d .run .buffers)
+
+-- document 01's start and call, in numbers
+abbrev pub startNumbers : List ℕ → Buffers → Left
+startNumbers file b = startLeft (start file b)
+
+abbrev pub callNumbers : List ℕ → List ℤ → ℕ → JugnayapRun → Buffers → Left
+callNumbers file l wanted h b = callLeft h (call file l wanted (runFrom h b))
+
+-- ---- f makes what is returned, and what is left in the slices, of what came in them
+abbrev pub StartBecomes : (Buffers → Left) → JugnayapCalled → Slice ℤ → Slice ℤ → Type 0
+StartBecomes f r z y = leftAs r (startLent (left z) (left y)) ≡ f (startLent (came z) (came y))
+
+abbrev pub CallBecomes : (Buffers → Left) → JugnayapCalled → Slice ℤ → Slice ℤ → Slice ℤ → Slice ℕ → Slice ℕ → Slice ℕ → Slice ℕ → Type 0
+CallBecomes f r s z y b k w c =
+    leftAs r (lent (left s) (left z) (left y) (left b) (left k) (left w) (left c)) ≡ f (lent (came s) (came z) (came y) (came b) (came k) (came w) (came c))

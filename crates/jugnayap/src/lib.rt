@@ -14,9 +14,7 @@ ghost use Rattle.rules.specs.Refusal.{replyOf};
 ghost use Rattle.rules.specs.CodeFile.{codeFileReply};
 ghost use Rattle.rules.specs.Cut.{cutReply};
 ghost use Rattle.rules.specs.Judge.{judgeReply, agreementOf, agreementValues};
-ghost use Rattle.rules.specs.Buffers.{lent, startLent};
-ghost use Rattle.rules.specs.Run as rule;
-ghost use Rattle.jugnayap.specs.Numbers.{version, tableFrom, cutFrom, verdictFrom, agreementFrom, progressAt, Left, startLeft, callLeft};
+ghost use Rattle.jugnayap.specs.Numbers.{version, tableFrom, cutFrom, verdictFrom, agreementFrom, startNumbers, callNumbers, StartBecomes, CallBecomes};
 
 // `number` is 0 or the refusal's number; a refused call has zeros in the other fields.
 #[repr(C)]
@@ -168,8 +166,7 @@ pub extern "C" fn jugnayap_start(
     copies: &mut [i32],
     offsets: &mut [i32],
 ) -> JugnayapCalled
-    ensures { λ r. ⌜ _≡_ {A = Left} (record { called = r; buffers = startLent (now (copies .exit)) (now (offsets .exit)) })
-        (startLeft (rule.start (now (code .entry)) (startLent (now (copies .entry)) (now (offsets .entry))))) ⌝ }
+    ensures { λ r. ⌜ StartBecomes (startNumbers (now (code .entry))) r copies offsets ⌝ }
 {
     started_numbers(run::start(code, copies, offsets))
 }
@@ -188,14 +185,7 @@ pub extern "C" fn jugnayap_rounds(
     word: &mut [u8],
     certificate: &mut [u8],
 ) -> JugnayapCalled
-    ensures { λ r. ⌜ _≡_ {A = Left} (record {
-      called = r;
-      buffers = lent (now (spins .exit)) (now (copies .exit)) (now (offsets .exit)) (now (multipliers .exit)) (now (masks .exit)) (now (word .exit)) (now (certificate .exit));
-    })
-        (callLeft run (rule.call (now (code .entry)) (now (frame .entry)) wanted (record {
-          progress = progressAt run;
-          buffers = lent (now (spins .entry)) (now (copies .entry)) (now (offsets .entry)) (now (multipliers .entry)) (now (masks .entry)) (now (word .entry)) (now (certificate .entry));
-        }))) ⌝ }
+    ensures { λ r. ⌜ CallBecomes (callNumbers (now (code .entry)) (now (frame .entry)) wanted run) r spins copies offsets multipliers masks word certificate ⌝ }
 {
     let handed = record_of(run);
     let called = decoder::rounds(

@@ -10,14 +10,14 @@ use denote.Ref.{now}
 use denote.Triple.Clauses as Clauses
 use borrow.Fn.World.{ArgsD, ResD}
 use borrow.Fn.Kinds.{endedOf}
-use Rattle.rules.specs.Refusal.{gives}
+use Rattle.rules.specs.Refusal.{Answer, gives}
 use Rattle.rules.specs.Table.{Table}
 use Rattle.rules.specs.CodeFile.{codeFile}
 use Rattle.rules.specs.Certificate.{certificateIn}
-use Rattle.rules.specs.Judge.{passes, judge}
+use Rattle.rules.specs.Judge.{Verdict, judge}
 use Rattle.rules.specs.Buffers.{Buffers}
 use Rattle.rules.specs.Run.{certified}
-use Rattle.rules.proofs.CallPasses.{PassesAfter, call-passes}
+use Rattle.rules.proofs.CallPasses.{PassesIn, call-passes}
 use Rattle.judge.specs.Reply.{verdictOf}
 use Rattle.judge.specs.declared.Verdict.the-variants.{Certified}
 use Rattle.judge.proofs.ViewLaws.{verdict-inj}
@@ -52,7 +52,11 @@ judgesWord y = now (y .args .1 .1 .0)
 abbrev pub judgesCertificate : JudgeCall → List ℕ
 judgesCertificate y = now (y .args .1 .1 .1 .0)
 
-pub judge-says : (y : JudgeCall) → verdictOf (y .result) ≡ judge (judgesFile y) (judgesFrame y) (judgesWord y) (judgesCertificate y)
+-- what document 01's judge answers to it
+abbrev pub judgesAnswer : JudgeCall → Answer Verdict
+judgesAnswer y = judge (judgesFile y) (judgesFrame y) (judgesWord y) (judgesCertificate y)
+
+pub judge-says : (y : JudgeCall) → verdictOf (y .result) ≡ judgesAnswer y
 judge-says y = y .holds
 
 -- of what it was handed
@@ -70,18 +74,20 @@ pub record Judges (t : Table) (x : RoundsCall) (y : JudgeCall) : Type 0 where
   pub word : judgesWord y ≡ take (t .bits) (leftBy x .word)
   pub certificate : judgesCertificate y ≡ certificateIn (leftBy x .certificate)
 
-pub written-passes : (t : Table) (x : RoundsCall) (y : JudgeCall) → codeFile (roundsFile x) ≡ gives t → Judges t x y
-    → x .result .outcome ≡ out.Certified → y .result ≡ Certified
+-- where the call for rounds answers certified, so does the judge
+abbrev pub WrittenPasses : Type 0
+WrittenPasses = (t : Table) (x : RoundsCall) (y : JudgeCall) → codeFile (roundsFile x) ≡ gives t → Judges t x y → x .result .outcome ≡ out.Certified → y .result ≡ Certified
+
+pub written-passes : WrittenPasses
 written-passes t x y isFile j e = verdict-inj (y .result) Certified (judge-handed y (j .file) (j .frame) (j .word) (j .certificate) ∙ left)
   where
     certifies : roundsGave x .answer ≡ gives certified
     certifies = ap outcomeOf e
 
-    left : judge (roundsFile x) (roundsFrame x) (take (t .bits) (leftBy x .word)) (certificateIn (leftBy x .certificate)) ≡ gives passes
-    left = subst (PassesAfter (roundsFile x) (roundsFrame x) t) (sym (rounds-says x))
+    left : PassesIn (roundsFile x) (roundsFrame x) t (leftBy x)
+    left = subst (λ d. PassesIn (roundsFile x) (roundsFrame x) t (d .run .buffers)) (sym (rounds-says x))
         (call-passes (roundsFile x) (roundsFrame x) (roundsWanted x) (roundsRun x) t isFile (ap (λ d. d .answer) (sym (rounds-says x)) ∙ certifies))
 
 -- beside the proofs of the two functions
-pub proved : {M : Type 1} → rd-statement M × (jd-statement M
-    × ((t : Table) (x : RoundsCall) (y : JudgeCall) → codeFile (roundsFile x) ≡ gives t → Judges t x y → x .result .outcome ≡ out.Certified → y .result ≡ Certified))
+pub proved : {M : Type 1} → rd-statement M × (jd-statement M × WrittenPasses)
 proved = (rounds-met, (judge-met, written-passes))

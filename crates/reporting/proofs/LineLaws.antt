@@ -82,15 +82,10 @@ module _ (file : List ℕ) (b : Buffers) (h : maxEdges ≤ length (b .copies)) (
 abbrev pub withStarted : Buffers → Buffers → Buffers
 withStarted b s = each (λ x. cond (zeroed x) (the x s) (the x b))
 
--- ---- the code's run: s is what a start answered, d what it left of the copies and offsets
-module _ (file : List ℕ) (l : List ℤ) (b : Buffers) (h : maxEdges ≤ length (b .copies)) (k : maxEdges ≤ length (b .offsets))
-    (s : Started) (d : Buffers) (e : record { answer = startedOf s; buffers = d } ≡ start file (startLent (b .copies) (b .offsets))) where
+-- ---- the code's run, with room for every table's copies and offsets
+module _ (file : List ℕ) (l : List ℤ) (b : Buffers) (h : maxEdges ≤ length (b .copies)) (k : maxEdges ≤ length (b .offsets)) where
   lends : Buffers
   lends = startLent (b .copies) (b .offsets)
-
-  answered : (a : Answer Progress) → startedOf s ≡ a → start file lends .answer ≡ a
-  unfolding lends
-  answered a p = ap (λ x. x .answer) (sym e) ∙ p
 
   -- a start that is lent copies and offsets alone does the same to them
   same-start : withStarted b (start file (startLent (b .copies) (b .offsets)) .buffers) ≡ start file b .buffers
@@ -101,22 +96,28 @@ module _ (file : List ℕ) (l : List ℤ) (b : Buffers) (h : maxEdges ≤ length
       go (refused j) p = ap (λ x. withStarted b (x .buffers)) (stayed file lends h k j p) ∙ ap (λ x. x .buffers) (sym (stayed file b h k j p))
       go (gives t) p = ap (λ x. withStarted b (x .buffers)) (began file lends h k t p) ∙ ap (λ x. x .buffers) (sym (began file b h k t p))
 
-  pub ran-refused : (j : ℕ) (r : Record) → s ≡ Refused j → progressOf r ≡ fresh
-      → record { answer = refused j; rounds = r .rounds; word = b .word; certificate = b .certificate } ≡ freshRan file l b
-  unfolding freshRan call lends
-  ran-refused j r p q =
-      let bad = start-refused file lends h k j (answered (refused j) (ap startedOf p)) in
-      ap (λ n. record { answer = refused j; rounds = n .rounds; word = b .word; certificate = b .certificate }) q
-      ∙ ap (λ x. record { answer = refused j; rounds = 0; word = x .buffers .word; certificate = x .buffers .certificate }) (sym (stayed file b h k j bad))
-      ∙ ap (λ a. ranOf (callBy l roundLimit (startedRun file b) a)) (sym bad)
+  -- s is what a start answered, d what it left of the copies and offsets
+  module _ (s : Started) (d : Buffers) (e : record { answer = startedOf s; buffers = d } ≡ start file (startLent (b .copies) (b .offsets))) where
+    answered : (a : Answer Progress) → startedOf s ≡ a → start file lends .answer ≡ a
+    unfolding lends
+    answered a p = ap (λ x. x .answer) (sym e) ∙ p
 
-  pub ran-started : (r : Record) (c : Called) → s ≡ Fresh r → c ≡ call file l roundLimit (record { progress = progressOf r; buffers = withStarted b d }) → ranOf c ≡ freshRan file l b
-  unfolding freshRan lends
-  ran-started r c p q =
-      ap ranOf q
-      ∙ ap₂ (λ x y. ranOf (call file l roundLimit (record { progress = x; buffers = y })))
-      (start-fresh file lends h k (progressOf r) (answered (gives (progressOf r)) (ap startedOf p)))
-      (ap (λ x. withStarted b (x .buffers)) e ∙ same-start)
+    pub ran-refused : (j : ℕ) (r : Record) → s ≡ Refused j → progressOf r ≡ fresh
+        → record { answer = refused j; rounds = r .rounds; word = b .word; certificate = b .certificate } ≡ freshRan file l b
+    unfolding freshRan call lends
+    ran-refused j r p q =
+        let bad = start-refused file lends h k j (answered (refused j) (ap startedOf p)) in
+        ap (λ n. record { answer = refused j; rounds = n .rounds; word = b .word; certificate = b .certificate }) q
+        ∙ ap (λ x. record { answer = refused j; rounds = 0; word = x .buffers .word; certificate = x .buffers .certificate }) (sym (stayed file b h k j bad))
+        ∙ ap (λ a. ranOf (callBy l roundLimit (startedRun file b) a)) (sym bad)
+
+    pub ran-started : (r : Record) (c : Called) → s ≡ Fresh r → c ≡ call file l roundLimit (record { progress = progressOf r; buffers = withStarted b d }) → ranOf c ≡ freshRan file l b
+    unfolding freshRan lends
+    ran-started r c p q =
+        ap ranOf q
+        ∙ ap₂ (λ x y. ranOf (call file l roundLimit (record { progress = x; buffers = y })))
+        (start-fresh file lends h k (progressOf r) (answered (gives (progressOf r)) (ap startedOf p)))
+        (ap (λ x. withStarted b (x .buffers)) e ∙ same-start)
 
 -- ---- and the line
 enough : (t : Table) → Sound t → Part (needs t) greatest
@@ -155,7 +156,7 @@ module _ (file : List ℕ) (l : List ℤ) where
 
       go : (a : Answer Table) → codeFile file ≡ a → lineFrom l (d .answer) (ranOf d) ≡ frameLine file l
       go (refused k) e = ap (λ a. lineFrom l a (ranOf d)) (on-refused k e) ∙ sym (refused-line file l k e)
-      go (gives t) e = by-answer t e (d .answer) refl ∙ blank-line file t l greatest e (enough t (file-sound file t e))
+      go (gives t) e = by-answer t e (d .answer) refl ∙ blank-line file t e l greatest (enough t (file-sound file t e))
 
 -- ---- of what the code's run comes to: what it answered, the word and the certificate
 module _ (file : List ℕ) (l : List ℤ) (d : code.Called) (w c : List ℕ) (e : ranAs d w c ≡ freshRan file l (lentWith blankWord blankCertificate)) where

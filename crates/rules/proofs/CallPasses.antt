@@ -20,14 +20,14 @@ use Rattle.rules.specs.Bytes.{u16At}
 use Rattle.rules.specs.Certificate.{cutsIn, certificateOf, entriesOf, certificateIn}
 use Rattle.rules.specs.Scaled.{atScale}
 use Rattle.rules.specs.Judge.{passes, judge}
-use Rattle.rules.specs.Buffers.{Lengths, lengthsOf, needs, fits, over, overBy, bytesOf, wordLeft, certificateLeft}
+use Rattle.rules.specs.Buffers.{Buffers, Lengths, lengthsOf, needs, fits, over, overBy, bytesOf, wordLeft, certificateLeft}
 use Rattle.rules.specs.Run.{Status, running, certified, spent, Run, stateIn, iterate, isRunning, admits, Called, perform, callOn, callBy, call}
 use Rattle.rules.proofs.AnswerLaws.{refused≢gives, must-gives}
 use Rattle.rules.proofs.Tables.{file-sound}
 use Rattle.rules.proofs.Pass.{AllLaid, stepsIn, steps-laid, entries-length}
 use Rattle.rules.proofs.Optimal.{round-passed}
 use Rattle.rules.proofs.Written.{certificate-length, written-scale}
-use Rattle.rules.proofs.WrittenPasses.{AllProper, bytes-length, checks-written, written-passes}
+use Rattle.rules.proofs.WrittenPasses.{AllProper, bytes-length, checks-written, Framed, Closes, written-passes}
 use Rattle.rules.proofs.BufferLaws.{take-over}
 use Rattle.rules.proofs.RoundSizes.{round-sized}
 use Rattle.rules.proofs.Runs.{coming, Ends, iterate-ends}
@@ -52,6 +52,10 @@ round-entries t l s = entries-length unit (t .checks) (stepsIn t l s) (steps-lai
 entries-front : (es : List Entry) (old : List ℕ) → entriesOf (over (certificateOf es) old) ≡ entriesOf (certificateOf es)
 unfolding certificateOf u16At
 entries-front es old = refl
+
+-- the judge certifies what stands in these buffers
+abbrev pub PassesIn : List ℕ → List ℤ → Table → Buffers → Type 0
+PassesIn file l t b = judge file l (take (t .bits) (b .word)) (certificateIn (b .certificate)) ≡ gives passes
 
 -- ---- what the last round of a certified run left
 module _ (t : Table) (l : List ℤ) (q : Run) (e : Ends t l q) where
@@ -83,19 +87,22 @@ module _ (t : Table) (l : List ℤ) (q : Run) (e : Ends t l q) where
   pub ended-scale : checksOf t ≤ maxChecks → atScale 1 (certificateIn (q .buffers .certificate)) ≡ certificateIn (q .buffers .certificate)
   ended-scale h = ap (atScale 1) (ended-certificate h) ∙ written-scale es ∙ sym (ended-certificate h)
 
-  pub ended-passes : (file : List ℕ) → codeFile file ≡ gives t → length l ≡ t .bits → eachWithin frameLimit l ≡ true
-      → judge file l (take (t .bits) (q .buffers .word)) (certificateIn (q .buffers .certificate)) ≡ gives passes
+  closes : Closes t l (e .word) es
   unfolding es
-  ended-passes file isFile size range =
-      ap₂ (judge file l) ended-word (ended-certificate (file-sound file t isFile .checks .1))
-      ∙ written-passes file l (coming t l (e .last) .entries) (e .word) t isFile size range
-      (sym (bytes-length (e .word)) ∙ round-sized t l (stateIn t (e .last .buffers)) .word (e .word) (e .by))
-      (round-proper t l (stateIn t (e .last .buffers))) (e .moves .small) (round-passed t l (stateIn t (e .last .buffers)) (e .word) (e .by))
+  closes = record {
+    long = sym (bytes-length (e .word)) ∙ round-sized t l (stateIn t (e .last .buffers)) .word (e .word) (e .by);
+    proper = round-proper t l (stateIn t (e .last .buffers));
+    small = e .moves .small;
+    passed = round-passed t l (stateIn t (e .last .buffers)) (e .word) (e .by);
+  }
+
+  pub ended-passes : (file : List ℕ) → codeFile file ≡ gives t → Framed t l → PassesIn file l t (q .buffers)
+  ended-passes file isFile f =
+      ap₂ (judge file l) ended-word (ended-certificate (file-sound file t isFile .checks .1)) ∙ written-passes file t isFile l (e .word) es f closes
 
 -- ---- a call that is not refused has passed these tests
 pub record Admitted (t : Table) (l : List ℤ) (r : Run) : Type 0 where
-  pub size : length l ≡ t .bits
-  pub range : eachWithin frameLimit l ≡ true
+  pub frame : Framed t l
   pub begins : r .progress .status ≡ running
 
 runs : (s : Status) → isRunning s ≡ true → s ≡ running
@@ -111,7 +118,7 @@ admitted t l v n r e =
     let c = must-gives (leb v roundLimit) askedTooMuch _ tt (b .1) in
     let d = must-gives (fits (needs t) n) bufferShort _ tt (c .1) in
     let f = must-gives (isRunning (r .progress .status)) runEnded _ tt (d .1) in
-    record { size = eqb-true (length l) (t .bits) (a .0); range = b .0; begins = runs (r .progress .status) (f .0) }
+    record { frame = record { size = eqb-true (length l) (t .bits) (a .0); range = b .0 }; begins = runs (r .progress .status) (f .0) }
 
 -- ---- the call
 -- what holds of every run that ends certified holds of a call that answers so
@@ -130,9 +137,5 @@ module _ (file : List ℕ) (l : List ℤ) (v : ℕ) (r : Run) (t : Table) (isFil
           let a = admitted t l v (lengthsOf (r .buffers)) r e in
           f _ a (iterate-ends t l v r (a .begins) (answer-certified (q .progress .status) (q .progress .rounds) (r .progress .rounds + v) h))
 
--- the judge certifies what stands in the buffers afterwards
-abbrev pub PassesAfter : List ℕ → List ℤ → Table → Called → Type 0
-PassesAfter file l t d = judge file l (take (t .bits) (d .run .buffers .word)) (certificateIn (d .run .buffers .certificate)) ≡ gives passes
-
-pub call-passes : (file : List ℕ) (l : List ℤ) (v : ℕ) (r : Run) (t : Table) → codeFile file ≡ gives t → call file l v r .answer ≡ gives certified → PassesAfter file l t (call file l v r)
-call-passes file l v r t isFile = call-ends file l v r t isFile (PassesAfter file l t) (λ d a e. ended-passes t l (d .run) e file isFile (a .size) (a .range))
+pub call-passes : (file : List ℕ) (l : List ℤ) (v : ℕ) (r : Run) (t : Table) → codeFile file ≡ gives t → call file l v r .answer ≡ gives certified → PassesIn file l t (call file l v r .run .buffers)
+call-passes file l v r t isFile = call-ends file l v r t isFile (λ d. PassesIn file l t (d .run .buffers)) (λ d a e. ended-passes t l (d .run) e file isFile (a .frame))

@@ -19,12 +19,16 @@ use Rattle.rules.specs.Run.{Status, running, certified, spent, Run, next
 use Rattle.rules.specs.Calls.{Call, startedRun, wantedBy, wantedIn, runAfter, countedBy, countedIn}
 use Rattle.rules.specs.Demand3.{FreshStart, RoundsDone}
 use Rattle.rules.proofs.Runs.{ended-stays, iterate-stays, iterate-plus, running≢certified, spent≢running, iterate-safe, safe-moves}
-use Rattle.rules.proofs.Lends.{callsOn}
-use Rattle.rules.proofs.Lists.{count-next, Reach, reach, takes, callFor, admitsFor, after, taken, list-after}
+use Rattle.rules.proofs.Lends.{callFor, callsOn}
+use Rattle.rules.proofs.Lists.{count-next, Reach, reach, takes, admitsFor, after, taken, list-after}
 use Rattle.rules.proofs.Fresh.{started-safe}
 
+-- of a run that was let do k rounds, all are counted
+abbrev pub Counts : Table → List ℤ → ℕ → Run → Type 0
+Counts t l k r = iterate t l k r .progress .rounds ≡ r .progress .rounds + k
+
 -- a safe run that is still running has counted every round that was due
-pub all-counted : (t : Table) (l : List ℤ) (k : ℕ) (r : Run) → Safe t r → iterate t l k r .progress .status ≡ running → iterate t l k r .progress .rounds ≡ r .progress .rounds + k
+pub all-counted : (t : Table) (l : List ℤ) (k : ℕ) (r : Run) → Safe t r → iterate t l k r .progress .status ≡ running → Counts t l k r
 unfolding iterate
 all-counted t l zero r h e = omega arith
 all-counted t l (suc k) r h e = go (r .progress .status) refl (λ s. all-counted t l k (next t l r) s e)
@@ -33,8 +37,7 @@ all-counted t l (suc k) r h e = go (r .progress .status) refl (λ s. all-counted
     still : (s : Status) → (s ≡ running → ⊥) → r .progress .status ≡ s → ⊥
     still s f p = f (sym p ∙ ap (λ z. z .progress .status) (sym (iterate-stays t l (suc k) r (ended-stays t l r (λ q. f (sym p ∙ q))))) ∙ e)
 
-    go : (s : Status) → r .progress .status ≡ s → (Safe t (next t l r) → iterate t l (suc k) r .progress .rounds ≡ next t l r .progress .rounds + k)
-        → iterate t l (suc k) r .progress .rounds ≡ r .progress .rounds + suc k
+    go : (s : Status) → r .progress .status ≡ s → (Safe t (next t l r) → Counts t l k (next t l r)) → Counts t l (suc k) r
     go running p ih =
         let after = next t l r in
         count-next (iterate t l k after .progress .rounds) (after .progress .rounds) (r .progress .rounds) k (ih (iterate-safe t l 1 r h)) (ap (λ z. z .progress .rounds) (safe-moves t l r h p))

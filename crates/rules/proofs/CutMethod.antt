@@ -57,21 +57,27 @@ changed-there t x y n m = simp lin (omega arithZ)
 changed-end : (u : ℕ) → pos 0 ⩽ pos 0 +ℤ pos (2 * u)
 changed-end u = simp lin (omega arithZ)
 
-pub changed-pays : (u : ℕ) (ss : List ℤ) → left u (sideChanged u ss) ss ⩽ left u (negatives ss) ss +ℤ pos (2 * smallest u ss)
+-- a set whose left side is at most the smallest and twice the smallest absolute spin
+abbrev pub Pays : ℕ → List Bool → List ℤ → Type 0
+Pays u vs ss = left u vs ss ⩽ left u (negatives ss) ss +ℤ pos (2 * smallest u ss)
+
+-- the first of the members changes sides, or one behind it
+abbrev changedIf : Bool → ℕ → ℤ → List ℤ → List Bool
+changedIf here u s ss = cond here (not (isNeg s) ∷ negatives ss) (isNeg s ∷ sideChanged u ss)
+
+pub changed-pays : (u : ℕ) (ss : List ℤ) → Pays u (sideChanged u ss) ss
 changed-pays u [] = changed-end u
 changed-pays u (s ∷ ss) = go (leb (natAbs s) (smallest u ss)) refl (changed-pays u ss)
   where
-    go : (t : Bool) → leb (natAbs s) (smallest u ss) ≡ t → left u (sideChanged u ss) ss ⩽ left u (negatives ss) ss +ℤ pos (2 * smallest u ss)
-        → left u (cond t (not (isNeg s) ∷ negatives ss) (isNeg s ∷ sideChanged u ss)) (s ∷ ss) ⩽ left u (negatives (s ∷ ss)) (s ∷ ss) +ℤ pos (2 * smallest u (s ∷ ss))
+    go : (here : Bool) → leb (natAbs s) (smallest u ss) ≡ here → Pays u (sideChanged u ss) ss → Pays u (changedIf here u s ss) (s ∷ ss)
     go true e ih = changed-here u s (left u (negatives ss) ss) (smallest u ss) (leb-true (natAbs s) (smallest u ss) e)
     go false e ih = changed-there (pos u +ℤ side (isNeg s) s) (left u (sideChanged u ss) ss) (left u (negatives ss) ss) (natAbs s) (smallest u ss) (leb-false (natAbs s) (smallest u ss) e) ih
 
 pub changed-odd : (u : ℕ) (s : ℤ) (ss : List ℤ) → AllWithin u (s ∷ ss) → odd (sideChanged u (s ∷ ss)) ≡ not (odd (negatives (s ∷ ss)))
-changed-odd u s [] h = ap (λ t. odd (cond t (not (isNeg s) ∷ []) (isNeg s ∷ []))) (le-leb (natAbs s) u (natAbs-≤ s u (h .0))) ∙ not-⊕ (isNeg s) false
+changed-odd u s [] h = ap (λ here. odd (changedIf here u s [])) (le-leb (natAbs s) u (natAbs-≤ s u (h .0))) ∙ not-⊕ (isNeg s) false
 changed-odd u s (t ∷ ss) h = go (leb (natAbs s) (smallest u (t ∷ ss))) (changed-odd u t ss (h .1))
   where
-    go : (b : Bool) → odd (sideChanged u (t ∷ ss)) ≡ not (odd (negatives (t ∷ ss)))
-        → odd (cond b (not (isNeg s) ∷ negatives (t ∷ ss)) (isNeg s ∷ sideChanged u (t ∷ ss))) ≡ not (odd (negatives (s ∷ t ∷ ss)))
+    go : (here : Bool) → odd (sideChanged u (t ∷ ss)) ≡ not (odd (negatives (t ∷ ss))) → odd (changedIf here u s (t ∷ ss)) ≡ not (odd (negatives (s ∷ t ∷ ss)))
     go true ih = not-⊕ (isNeg s) (odd (negatives (t ∷ ss)))
     go false ih = ap (λ b. isNeg s ⊕ b) ih ∙ ⊕-not (isNeg s) (odd (negatives (t ∷ ss)))
 
@@ -83,7 +89,7 @@ pub changed-alike : (u : ℕ) (ss : List ℤ) → Alike (sideChanged u ss) ss
 changed-alike u [] = tt
 changed-alike u (s ∷ ss) = go (leb (natAbs s) (smallest u ss)) (changed-alike u ss)
   where
-    go : (b : Bool) → Alike (sideChanged u ss) ss → Alike (cond b (not (isNeg s) ∷ negatives ss) (isNeg s ∷ sideChanged u ss)) (s ∷ ss)
+    go : (here : Bool) → Alike (sideChanged u ss) ss → Alike (changedIf here u s ss) (s ∷ ss)
     go true ih = negatives-alike ss
     go false ih = ih
 

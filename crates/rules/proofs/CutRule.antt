@@ -60,15 +60,17 @@ sum-unlike u (x ∷ ss) (false ∷ σ) (false ∷ τ) w h k e = pair-same u fals
 sum-unlike u (x ∷ ss) (true ∷ σ) (false ∷ τ) w h k e = rw (+ℤ-idr (pos (2 * u))) at (pair-tf u x (left u σ ss) (left u τ ss) (pos 0) (sum-nonneg u ss σ τ (w .1) h k))
 sum-unlike u (x ∷ ss) (false ∷ σ) (true ∷ τ) w h k e = rw (+ℤ-idr (pos (2 * u))) at (pair-ft u x (left u σ ss) (left u τ ss) (pos 0) (sum-nonneg u ss σ τ (w .1) h k))
 
+-- the same set, or sets whose left sides come to 4U together
+abbrev pub SameOrFar : ℕ → List ℤ → List Bool → List Bool → Type 0
+SameOrFar u ss σ τ = (σ ≡ τ) ⊎ (pos (2 * u) +ℤ pos (2 * u) ⩽ left u σ ss +ℤ left u τ ss)
+
 -- one member more on the same side in both
-like-more : (u : ℕ) (a : Bool) (x : ℤ) (ss : List ℤ) (σ τ : List Bool) → Within u x → (σ ≡ τ) ⊎ (pos (2 * u) +ℤ pos (2 * u) ⩽ left u σ ss +ℤ left u τ ss)
-    → ((a ∷ σ) ≡ (a ∷ τ)) ⊎ (pos (2 * u) +ℤ pos (2 * u) ⩽ left u (a ∷ σ) (x ∷ ss) +ℤ left u (a ∷ τ) (x ∷ ss))
+like-more : (u : ℕ) (a : Bool) (x : ℤ) (ss : List ℤ) (σ τ : List Bool) → Within u x → SameOrFar u ss σ τ → SameOrFar u (x ∷ ss) (a ∷ σ) (a ∷ τ)
 like-more u a x ss σ τ w (inl p) = inl (ap (λ l. a ∷ l) p)
 like-more u a x ss σ τ w (inr l) = inr (pair-same u a x (left u σ ss) (left u τ ss) (pos (2 * u) +ℤ pos (2 * u)) w l)
 
 -- of like parity and not the same: they differ in two places
-pub sum-like : (u : ℕ) (ss : List ℤ) (σ τ : List Bool) → AllWithin u ss → Alike σ ss → Alike τ ss → odd σ ≡ odd τ
-    → (σ ≡ τ) ⊎ (pos (2 * u) +ℤ pos (2 * u) ⩽ left u σ ss +ℤ left u τ ss)
+pub sum-like : (u : ℕ) (ss : List ℤ) (σ τ : List Bool) → AllWithin u ss → Alike σ ss → Alike τ ss → odd σ ≡ odd τ → SameOrFar u ss σ τ
 sum-like u [] [] [] w h k e = inl refl
 sum-like u [] [] (t ∷ τ) w h k e = absurd k
 sum-like u [] (s ∷ σ) τ w h k e = absurd h
@@ -91,7 +93,7 @@ pub record Cuts (u : ℕ) (vs : List Bool) (ss : List ℤ) : Type 0 where
 pub at-most-one : (u : ℕ) (ss : List ℤ) (σ τ : List Bool) → AllWithin u ss → Cuts u σ ss → Cuts u τ ss → σ ≡ τ
 at-most-one u ss σ τ w p q = go (sum-like u ss σ τ w (p .long) (q .long) (p .isOdd ∙ sym (q .isOdd)))
   where
-    go : (σ ≡ τ) ⊎ (pos (2 * u) +ℤ pos (2 * u) ⩽ left u σ ss +ℤ left u τ ss) → σ ≡ τ
+    go : SameOrFar u ss σ τ → σ ≡ τ
     go (inl e) = e
     go (inr l) = absurd (not-both u (left u σ ss) (left u τ ss) (p .under) (q .under) l)
 

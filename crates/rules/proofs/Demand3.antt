@@ -2,8 +2,7 @@
 use mathlib.Core.Path.{_≡_, refl, sym, _∙_, ap, subst}
 use mathlib.Core.Bool.{Bool}
 use mathlib.Core.List.{List, [], _∷_}
-use Prim.Native.Nat.{ℕ, _+_, _≤_}
-use native.Mathlib.Omega.{arith}
+use Prim.Native.Nat.{ℕ, _≤_}
 use lib.IntN.{ℤ}
 use Rattle.rules.specs.Table.{Table}
 use Rattle.rules.specs.Parity.{plus, turns, Codeword}
@@ -17,9 +16,9 @@ use Rattle.rules.proofs.Optimal.{round-best}
 use Rattle.rules.proofs.WrittenPasses.{bits-bytes, bytes-length}
 use Rattle.rules.proofs.RoundSizes.{round-sized}
 use Rattle.rules.proofs.Runs.{Ends, iterate-ends}
-use Rattle.rules.proofs.Lends.{callsOn, lent-list}
+use Rattle.rules.proofs.Lends.{callFor, callsOn, lent-list}
 use Rattle.rules.proofs.Twins.{Worded, Twin, iterate-twin, Alike, call-twin}
-use Rattle.rules.proofs.Lists.{callFor, says-status, Stands, found, found-ends, catch}
+use Rattle.rules.proofs.Lists.{says-status, Stands, found, found-ends, catch-first}
 use Rattle.rules.proofs.CallPasses.{ended-made, ended-word}
 use Rattle.rules.proofs.Fresh.{started-twin, all-part}
 use Rattle.rules.proofs.Counted.{list-rounds}
@@ -61,35 +60,29 @@ places-twin t c l (x ∷ xs) r q k h = (place, places-twin t c l xs (callFor t l
     }
 
 -- ---- demand 3
-pub demand3 : (file : List ℕ) (t : Table) (l : List ℤ) (c : List Bool) (calls : List Call) (a b : Buffers)
-    → FreshStart file t a → FreshStart file t b → Codeword t c → AllLent a calls → AllLent b calls → Demand3 file t l c calls a b
-unfolding iterate
-demand3 file t l c calls a b fa fb cw ha hb = record {
-  best = λ w k bs h. let p = proved w k bs h in
-      subst (Best t l) (bytes-inj (p .word) w (sym (ended-word t l _ p) ∙ ends w k bs h .writes))
-      (round-best t l (stateIn t (p .last .buffers)) (p .word) (file-sound file t (fa .isTable) .below)
-      (sym (bytes-length (p .word)) ∙ round-sized t l (stateIn t (p .last .buffers)) .word (p .word) (p .by)) (p .by));
-  done = subst (RoundsDone t l calls (startedRun file a)) (sym (on-table file t l calls a fa ha)) (list-rounds file t l a fa calls);
-  twin = subst (λ ds. SamePlaces t c ds (listFrom file (turns c l) calls b)) (sym (on-table file t l calls a fa ha))
-      (subst (SamePlaces t c (callsOn t l calls (startedRun file a))) (sym (on-table file t (turns c l) calls b fb hb))
-      (places-twin t c l calls (startedRun file a) (startedRun file b) cw (started-twin file t c a b fa fb)));
-  others = λ w k bs h d fd xs hd g.
-      let made = subst (λ n. 1 ≤ n) (ends w k bs h .took) (ended-made t l _ (proved w k bs h)) in
-      subst (CertifiesOn t (plus c w) k bs) (sym (on-table file t (turns c l) xs d fd hd))
-      (caught k bs (plus c w) d (stands-turn t c w k bs (iterate t l k (startedRun file a)) (iterate t (turns c l) k (startedRun file d)) made
-      (iterate-twin t c l cw k (startedRun file a) (startedRun file d) (started-twin file t c a d fa fd)) (ends w k bs h))
-      xs made (subst (λ ds. k ≤ wantedIn xs ds) (on-table file t (turns c l) xs d fd hd) g));
-}
-  where
-    ends : (w : List Bool) (k : ℕ) (bs : List ℕ) → CertifiesOn t w k bs (listFrom file l calls a) → Stands t w k bs (iterate t l k (startedRun file a))
-    ends w k bs h = found-ends t l (startedRun file a) w k bs refl (found t l (startedRun file a) w k bs 0 calls (subst (CertifiesOn t w k bs) (on-table file t l calls a fa ha) h))
+-- for every code file, frame l, word c and list of calls, on buffers a, and b for its twin
+module _ (file : List ℕ) (t : Table) (l : List ℤ) (c : List Bool) (calls : List Call) (a b : Buffers) where
+  pub demand3 : FreshStart file t a → FreshStart file t b → Codeword t c → AllLent a calls → AllLent b calls → Demand3 file t l c calls a b
+  unfolding iterate
+  demand3 fa fb cw ha hb = record {
+    best = λ w k bs h. let p = proved w k bs h in
+        subst (Best t l) (bytes-inj (p .word) w (sym (ended-word t l _ p) ∙ ends w k bs h .writes))
+        (round-best t l (stateIn t (p .last .buffers)) (p .word) (file-sound file t (fa .isTable) .below)
+        (sym (bytes-length (p .word)) ∙ round-sized t l (stateIn t (p .last .buffers)) .word (p .word) (p .by)) (p .by));
+    done = subst (RoundsDone t l calls (startedRun file a)) (sym (on-table file t l calls a fa ha)) (list-rounds file t l a fa calls);
+    twin = subst (λ ds. SamePlaces t c ds (listFrom file (turns c l) calls b)) (sym (on-table file t l calls a fa ha))
+        (subst (SamePlaces t c (callsOn t l calls (startedRun file a))) (sym (on-table file t (turns c l) calls b fb hb))
+        (places-twin t c l calls (startedRun file a) (startedRun file b) cw (started-twin file t c a b fa fb)));
+    others = λ w k bs h d fd xs hd g.
+        let made = subst (λ n. 1 ≤ n) (ends w k bs h .took) (ended-made t l _ (proved w k bs h)) in
+        subst (CertifiesOn t (plus c w) k bs) (sym (on-table file t (turns c l) xs d fd hd))
+        (catch-first t (turns c l) (startedRun file d) refl (plus c w) k bs (stands-turn t c w k bs (iterate t l k (startedRun file a)) (iterate t (turns c l) k (startedRun file d)) made
+        (iterate-twin t c l cw k (startedRun file a) (startedRun file d) (started-twin file t c a d fa fd)) (ends w k bs h))
+        xs made (subst (λ ds. k ≤ wantedIn xs ds) (on-table file t (turns c l) xs d fd hd) g));
+  }
+    where
+      ends : (w : List Bool) (k : ℕ) (bs : List ℕ) → CertifiesOn t w k bs (listFrom file l calls a) → Stands t w k bs (iterate t l k (startedRun file a))
+      ends w k bs h = found-ends t l (startedRun file a) w k bs refl (found t l (startedRun file a) w k bs 0 calls (subst (CertifiesOn t w k bs) (on-table file t l calls a fa ha) h))
 
-    proved : (w : List Bool) (k : ℕ) (bs : List ℕ) → CertifiesOn t w k bs (listFrom file l calls a) → Ends t l (iterate t l k (startedRun file a))
-    proved w k bs h = iterate-ends t l k (startedRun file a) refl (ends w k bs h .marked)
-
-    caught : (k : ℕ) (bs : List ℕ) (v : List Bool) (d : Buffers) → Stands t v k bs (iterate t (turns c l) k (startedRun file d)) → (xs : List Call) → 1 ≤ k
-        → k ≤ wantedIn xs (callsOn t (turns c l) xs (startedRun file d)) → CertifiesOn t v k bs (callsOn t (turns c l) xs (startedRun file d))
-    caught k bs v d s xs h g = catch t (turns c l) (startedRun file d) refl v k bs s xs 0 h (plain (wantedIn xs (callsOn t (turns c l) xs (startedRun file d))) g)
-      where
-        plain : (n : ℕ) → k ≤ n → k ≤ 0 + n
-        plain n h = omega arith
+      proved : (w : List Bool) (k : ℕ) (bs : List ℕ) → CertifiesOn t w k bs (listFrom file l calls a) → Ends t l (iterate t l k (startedRun file a))
+      proved w k bs h = iterate-ends t l k (startedRun file a) refl (ends w k bs h .marked)

@@ -126,7 +126,15 @@ rows-pay n d P (r ∷ rs) h = subst (λ v. negℤ (pos d *ℤ price (r ∷ rs)) 
         ∙ ap (λ t. t +ℤ sumTo n (λ i. P i *ℤ pull i rs)) (gather-value n P (r .members) (weights (r .multiplier) (r .set)) (h .0 .inside))
 
 -- ---- weak duality
-both-sides : (n : ℕ) (k : ℕ) (l : List ℤ) (P : ℕ → ℤ) (rs : List Row) → sumTo n (λ i. P i *ℤ reduced k l rs i) ≡ pos k *ℤ sumTo n (λ i. at l i *ℤ P i) +ℤ sumTo n (λ i. P i *ℤ pull i rs)
+-- numbers from −D to D, one for each bit
+abbrev pub InBox : ℕ → (ℕ → ℤ) → Type 0
+InBox d P = (i : ℕ) → Within d (P i)
+
+-- the sum of l × p
+abbrev pub spinSum : ℕ → List ℤ → (ℕ → ℤ) → ℤ
+spinSum n l P = sumTo n (λ i. at l i *ℤ P i)
+
+both-sides : (n : ℕ) (k : ℕ) (l : List ℤ) (P : ℕ → ℤ) (rs : List Row) → sumTo n (λ i. P i *ℤ reduced k l rs i) ≡ pos k *ℤ spinSum n l P +ℤ sumTo n (λ i. P i *ℤ pull i rs)
 unfolding reduced
 both-sides n k l P rs = ap (sumTo n) (fun-ext (λ i. each (P i) (pos k) (at l i) (pull i rs))) ∙ sumTo-add n (λ i. pos k *ℤ (at l i *ℤ P i)) (λ i. P i *ℤ pull i rs)
     ∙ ap (λ t. t +ℤ sumTo n (λ i. P i *ℤ pull i rs)) (sumTo-times (pos k) n (λ i. at l i *ℤ P i))
@@ -138,10 +146,9 @@ weak-step : (d s x y a p : ℤ) → s ≡ x +ℤ y → negℤ (d *ℤ p) ⩽ y �
 weak-step d s x y a p = simp ring (omega arithZ)
 
 -- k Σ l P ≤ D · bound
-pub weak-duality : (n d k : ℕ) (l : List ℤ) (P : ℕ → ℤ) (rs : List Row) → ((i : ℕ) → Within d (P i)) → AllKept n d P rs
-    → pos k *ℤ sumTo n (λ i. at l i *ℤ P i) ⩽ pos d *ℤ bound n k l rs
+pub weak-duality : (n d k : ℕ) (l : List ℤ) (P : ℕ → ℤ) (rs : List Row) → InBox d P → AllKept n d P rs → pos k *ℤ spinSum n l P ⩽ pos d *ℤ bound n k l rs
 unfolding bound
-weak-duality n d k l P rs w h = weak-step (pos d) (sumTo n (λ i. P i *ℤ reduced k l rs i)) (pos k *ℤ sumTo n (λ i. at l i *ℤ P i))
+weak-duality n d k l P rs w h = weak-step (pos d) (sumTo n (λ i. P i *ℤ reduced k l rs i)) (pos k *ℤ spinSum n l P)
     (sumTo n (λ i. P i *ℤ pull i rs)) (sumTo n (λ i. abs (reduced k l rs i))) (price rs)
     (both-sides n k l P rs) (rows-pay n d P rs h) (sumTo-abs d n P (reduced k l rs) w)
 
@@ -168,11 +175,11 @@ cancel k x y h = λ e. go (le-or-lt x y) e
     go (inl p) e = p
     go (inr p) e = absurd (bad k x y h (next x y p) e)
 
-pub optimal : (n d k : ℕ) (l : List ℤ) (P : ℕ → ℤ) (rs : List Row) (w : List Bool) → 1 ≤ k → ((i : ℕ) → Within d (P i)) → AllKept n d P rs → gap n k l rs w ≡ pos 0
-    → sumTo n (λ i. at l i *ℤ P i) ⩽ pos d *ℤ agreement n l w
+pub optimal : (n d k : ℕ) (l : List ℤ) (P : ℕ → ℤ) (rs : List Row) (w : List Bool) → 1 ≤ k → InBox d P → AllKept n d P rs → gap n k l rs w ≡ pos 0
+    → spinSum n l P ⩽ pos d *ℤ agreement n l w
 unfolding gap
-optimal n d k l P rs w pk box h g = cancel k (sumTo n (λ i. at l i *ℤ P i)) (pos d *ℤ agreement n l w) pk
-    (subst (λ v. pos k *ℤ sumTo n (λ i. at l i *ℤ P i) ⩽ v) (ap (λ t. pos d *ℤ t) (sub-zero (bound n k l rs) (pos k *ℤ agreement n l w) g) ∙ *ℤ-left-comm (pos d) (pos k) (agreement n l w))
+optimal n d k l P rs w pk box h g = cancel k (spinSum n l P) (pos d *ℤ agreement n l w) pk
+    (subst (λ v. pos k *ℤ spinSum n l P ⩽ v) (ap (λ t. pos d *ℤ t) (sub-zero (bound n k l rs) (pos k *ℤ agreement n l w) g) ∙ *ℤ-left-comm (pos d) (pos k) (agreement n l w))
     (weak-duality n d k l P rs box h))
 
 -- ---- codewords are points

@@ -5,29 +5,29 @@ use mathlib.Core.Bool.{Bool, true, false, not, cond, _&&_, false≢true}
 use mathlib.Core.Logic.{_↔_}
 use mathlib.Core.List.{List, [], _∷_}
 use mathlib.Core.Option.{Option, some, none}
-use Prim.Native.Nat.{ℕ, zero, suc, _*_, _≤_, _<_}
+use Prim.Native.Nat.{ℕ, zero, suc, _≤_, _<_}
 use native.Mathlib.Omega.{arith}
 use native.Mathlib.Nat.{le-of-suc-le-suc, not-suc-le-zero}
-use lib.Dec.{leb, ltb, eqb}
+use lib.Dec.{ltb, eqb}
 use borrow.Author.Tests.{ltb-true, eqb-true}
 use lib.ListN.{length, getD}
 use lib.IntN.{ℤ, pos, negsuc, _-ℤ_, _*ℤ_}
 use lib.Signed.{_<ℤ_}
 use Rattle.integers.specs.Linear.{lin, arithZ, _⩽_}
 use Rattle.integers.specs.Order.{sub-zero}
-use Rattle.rules.specs.Limits.{maxEntries, maxScale, maxMultiplier, frameLimit, certificateLength}
+use Rattle.rules.specs.Limits.{maxScale, maxMultiplier, frameLimit}
 use Rattle.rules.specs.Refusal.{Answer, gives, frameLength, frameRange, wordWrong, certificateWrong, scaleRange, entryRange, maskWrong, entryOrder}
-use Rattle.rules.specs.Table.{Table, checksOf, bitsAt, valuesAt}
-use Rattle.rules.specs.Parity.{odd, Alike, left, Keeps, firstBroken, meets, agreement}
+use Rattle.rules.specs.Table.{Table, checksOf, bitsAt}
+use Rattle.rules.specs.Parity.{odd, Alike, KeepsOne, Keeps, firstBroken, meets, agreement}
 use Rattle.rules.specs.Mask.{setOf, maskRight}
 use Rattle.rules.specs.CodeFile.{inRange, codeFile}
 use Rattle.rules.specs.Sound.{Below, AllBelow}
 use Rattle.rules.specs.Input.{eachWithin, onFrame, eachBit, onWord, bitsOf}
 use Rattle.rules.specs.Bound.{Row, bound, gap}
 use Rattle.rules.specs.Round.{isZero}
-use Rattle.rules.specs.Certificate.{Item, membersAt, follows, onItem, onItems, entriesOf, scaleOf, itemsOf, onCertificate, rowAt, rowsAt}
+use Rattle.rules.specs.Certificate.{Item, membersAt, follows, onItem, onItems, scaleOf, itemsOf, lengthRight, onCertificate, rowAt, rowsAt}
 use Rattle.rules.specs.Demand3.{Best}
-use Rattle.rules.specs.Judge.{Verdict, breaks, passes, misses, weigh, verdict, judge}
+use Rattle.rules.specs.Judge.{Verdict, breaks, passes, misses, weigh, verdict, MeetsBound, judge}
 use Rattle.rules.proofs.Basics.{and-both, none≢some}
 use Rattle.rules.proofs.Signs.{length-alike}
 use Rattle.rules.proofs.Masks.{mask-odd, set-length}
@@ -82,8 +82,7 @@ sum-gap : (b a : ℤ) → a ≡ b → b -ℤ a ≡ pos 0
 sum-gap b a = simp lin (omega arithZ)
 
 -- demand 2: "passes exactly if the word meets all checks and its agreement, times the certificate's scale, equals the multipliers' bound"
-pub verdict-passes⇔ : (t : Table) (s : ℕ) (l : List ℤ) (rs : List Row) (w : List Bool)
-    → (verdict t s l rs w ≡ passes) ↔ ((meets w (t .checks) ≡ true) × (pos s *ℤ agreement (t .bits) l w ≡ bound (t .bits) s l rs))
+pub verdict-passes⇔ : (t : Table) (s : ℕ) (l : List ℤ) (rs : List Row) (w : List Bool) → (verdict t s l rs w ≡ passes) ↔ MeetsBound t s l rs w
 unfolding verdict gap
 verdict-passes⇔ t s l rs w = (
   λ e. let p = weigh-passes (firstBroken 0 w (t .checks)) (gap (t .bits) s l rs w) e in
@@ -126,8 +125,7 @@ members-below n [] j h b = absurd (not-suc-le-zero h)
 members-below n (ms ∷ cs) zero h b = b .0
 members-below n (ms ∷ cs) (suc j) h b = members-below n cs j (le-of-suc-le-suc h) (b .1)
 
-keeps-at : (d : ℕ) (f : ℕ → ℤ) (cs : List (List ℕ)) (j : ℕ) → j < length cs → Keeps d f cs → (vs : List Bool) → odd vs ≡ true → Alike vs (getD cs j [])
-    → pos (2 * d) ⩽ left d vs (valuesAt f (getD cs j []))
+keeps-at : (d : ℕ) (f : ℕ → ℤ) (cs : List (List ℕ)) (j : ℕ) → j < length cs → Keeps d f cs → KeepsOne d f (getD cs j [])
 keeps-at d f [] j h k = absurd (not-suc-le-zero h)
 keeps-at d f (ms ∷ cs) zero h k = k .0
 keeps-at d f (ms ∷ cs) (suc j) h k = keeps-at d f cs j (le-of-suc-le-suc h) (k .1)
@@ -169,7 +167,7 @@ judged file l w bs v e = go (then-gives (codeFile file) _ v e)
         let p1 = must-gives (eqb (length l) (t .bits)) frameLength _ v h in
         let p2 = must-gives (eachWithin frameLimit l) frameRange _ v (p1 .1) in
         let p3 = must-gives (eqb (length w) (t .bits) && eachBit w) wordWrong _ v (p2 .1) in
-        let p4 = must-gives ((leb 4 (length bs) && leb (entriesOf bs) maxEntries) && eqb (length bs) (certificateLength (entriesOf bs))) certificateWrong _ v (p3 .1) in
+        let p4 = must-gives (lengthRight bs) certificateWrong _ v (p3 .1) in
         let p5 = must-gives (inRange 1 maxScale (scaleOf bs)) scaleRange _ v (p4 .1) in
         let p6 = items-placed t none (itemsOf bs) (gives (verdict t (scaleOf bs) l (rowsAt t (itemsOf bs)) (bitsOf w))) v (p5 .1) in
         record {
@@ -184,6 +182,10 @@ judged file l w bs v e = go (then-gives (codeFile file) _ v e)
     go : Followed (codeFile file) (λ t. onFrame t l (onWord t w (onCertificate t bs (gives (verdict t (scaleOf bs) l (rowsAt t (itemsOf bs)) (bitsOf w)))))) v → Judged file l w bs v
     go f = after (f .value) (f .first) (f .second)
 
+-- the gap of the word and the certificate, as they are read
+abbrev pub gapRead : Table → List ℤ → List ℕ → List ℕ → ℤ
+gapRead t l w bs = gap (t .bits) (scaleOf bs) l (rowsAt t (itemsOf bs)) (bitsOf w)
+
 -- the mark is beyond doubt
 pub judge-best : (file : List ℕ) (l : List ℤ) (w bs : List ℕ) (t : Table) → codeFile file ≡ gives t → judge file l w bs ≡ gives passes → Best t l (bitsOf w)
 unfolding verdict
@@ -194,8 +196,8 @@ judge-best file l w bs t f e = subst (λ x. Best x l (bitsOf w)) (gives-inj (j .
     j : Judged file l w bs passes
     j = judged file l w bs passes e
 
-    p : (firstBroken 0 (bitsOf w) (j .table .checks) ≡ none) × (gap (j .table .bits) (scaleOf bs) l (rowsAt (j .table) (itemsOf bs)) (bitsOf w) ≡ pos 0)
-    p = weigh-passes (firstBroken 0 (bitsOf w) (j .table .checks)) (gap (j .table .bits) (scaleOf bs) l (rowsAt (j .table) (itemsOf bs)) (bitsOf w)) (j .says)
+    p : (firstBroken 0 (bitsOf w) (j .table .checks) ≡ none) × (gapRead (j .table) l w bs ≡ pos 0)
+    p = weigh-passes (firstBroken 0 (bitsOf w) (j .table .checks)) (gapRead (j .table) l w bs) (j .says)
 
 positive : (g : ℤ) → pos 0 ⩽ g → isZero g ≡ false → pos 0 <ℤ g
 positive (pos zero) h e = absurd (false≢true (sym e))
@@ -205,12 +207,11 @@ positive (negsuc n) h e = absurd (h .le)
 -- "else the gap, which is then positive"
 pub judge-positive : (file : List ℕ) (l : List ℤ) (w bs : List ℕ) (g : ℤ) → judge file l w bs ≡ gives (misses g) → pos 0 <ℤ g
 unfolding verdict
-judge-positive file l w bs g e = subst (λ z. pos 0 <ℤ z) (p .1) (positive (gap (j .table .bits) (scaleOf bs) l (rowsAt (j .table) (itemsOf bs)) (bitsOf w))
+judge-positive file l w bs g e = subst (λ z. pos 0 <ℤ z) (p .1) (positive (gapRead (j .table) l w bs)
     (gap-nonneg (j .table) (scaleOf bs) l (rowsAt (j .table) (itemsOf bs)) (j .implied) (bitsOf w) (none-broken 0 (bitsOf w) (j .table .checks) (p .0))) (p .2))
   where
     j : Judged file l w bs (misses g)
     j = judged file l w bs (misses g) e
 
-    p : (firstBroken 0 (bitsOf w) (j .table .checks) ≡ none) × (gap (j .table .bits) (scaleOf bs) l (rowsAt (j .table) (itemsOf bs)) (bitsOf w) ≡ g)
-        × (isZero (gap (j .table .bits) (scaleOf bs) l (rowsAt (j .table) (itemsOf bs)) (bitsOf w)) ≡ false)
-    p = weigh-misses (firstBroken 0 (bitsOf w) (j .table .checks)) (gap (j .table .bits) (scaleOf bs) l (rowsAt (j .table) (itemsOf bs)) (bitsOf w)) g (j .says)
+    p : (firstBroken 0 (bitsOf w) (j .table .checks) ≡ none) × (gapRead (j .table) l w bs ≡ g) × (isZero (gapRead (j .table) l w bs) ≡ false)
+    p = weigh-misses (firstBroken 0 (bitsOf w) (j .table .checks)) (gapRead (j .table) l w bs) g (j .says)

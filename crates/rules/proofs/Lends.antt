@@ -16,7 +16,7 @@ use Rattle.rules.specs.Buffers.{Lengths, lengthsOf, needs, fits, Part}
 use Rattle.rules.specs.Run.{Status, running, certified, spent, Run, moved, tooLarge, nextBy, stateIn, next, iterate}
 use Rattle.rules.specs.Run.{isRunning, sound, admits, Called, refusedAt, perform, ranOn, callOn, callBy, call}
 use Rattle.rules.specs.Calls.{Call, lend, giveBack, lentCall, callList}
-use Rattle.rules.proofs.AnswerLaws.{refused≢gives, must-false}
+use Rattle.rules.proofs.AnswerLaws.{must-false, must-gives}
 use Rattle.rules.proofs.BufferLaws.{part-trans, fits-part, lengths-part, over-same, past-lengths, over-parts}
 use Rattle.rules.proofs.RoundSizes.{round-sized, state-part, written-part}
 use Rattle.rules.proofs.Runs.{coming, held-start, iterate-held}
@@ -58,17 +58,18 @@ called-eq p e = λ i. record { answer = p i; run = e i }
 refused-back : (k : ℕ) (n : Lengths) (r : Run) → giveBack (refusedAt k (lend n r)) r ≡ refusedAt k r
 refused-back k n r = called-eq refl (run-eq refl (over-same n (r .buffers)))
 
-pub ran-back : (t : Table) (l : List ℤ) (k : ℕ) (n : Lengths) (r : Run) → Part (needs t) n → Part n (lengthsOf (r .buffers))
-    → giveBack (ranOn (r .progress .rounds + k) (iterate t l k (lend n r))) r ≡ ranOn (r .progress .rounds + k) (iterate t l k r)
-ran-back t l k n r h p = ap (λ q. giveBack (ranOn (r .progress .rounds + k) q) r) (iterate-lend t l n h k r)
-    ∙ called-eq refl (run-eq refl (over-parts (needs t) n (iterate t l k r .buffers) (r .buffers) h p
-    (iterate-held t l k (r .buffers) r (held-start t r (part-trans (needs t) n (lengthsOf (r .buffers)) h p)) .past)))
+-- parts that are long enough
+module _ (t : Table) (l : List ℤ) (n : Lengths) (h : Part (needs t) n) (k : ℕ) (r : Run) where
+  ran-back : Part n (lengthsOf (r .buffers)) → giveBack (perform t l k (lend n r) (gives tt)) r ≡ perform t l k r (gives tt)
+  ran-back p = ap (λ q. giveBack (ranOn (r .progress .rounds + k) q) r) (iterate-lend t l n h k r)
+      ∙ called-eq refl (run-eq refl (over-parts (needs t) n (iterate t l k r .buffers) (r .buffers) h p
+      (iterate-held t l k (r .buffers) r (held-start t r (part-trans (needs t) n (lengthsOf (r .buffers)) h p)) .past)))
 
--- long enough parts: the same refusals, for the state read is the same
-admits-lend : (t : Table) (l : List ℤ) (k : ℕ) (n : Lengths) (r : Run) → Part (needs t) n → admits t l k n (lend n r) ≡ admits t l k n r
-unfolding admits
-admits-lend t l k n r h = ap (λ s. onFrame t l (must (leb k roundLimit) askedTooMuch (must (fits (needs t) n) bufferShort
-    (must (isRunning (r .progress .status)) runEnded (must (sound (r .progress .rounds) s) runDamaged (gives tt)))))) (state-part t n (r .buffers) h)
+  -- the same refusals, for the state read is the same
+  admits-lend : admits t l k n (lend n r) ≡ admits t l k n r
+  unfolding admits
+  admits-lend = ap (λ s. onFrame t l (must (leb k roundLimit) askedTooMuch (must (fits (needs t) n) bufferShort
+      (must (isRunning (r .progress .status)) runEnded (must (sound (r .progress .rounds) s) runDamaged (gives tt)))))) (state-part t n (r .buffers) h)
 
 -- parts that are too short: refused, whatever the run
 admits-short : (t : Table) (l : List ℤ) (k : ℕ) (n : Lengths) (r q : Run) → fits (needs t) n ≡ false → admits t l k n r ≡ admits t l k n q
@@ -78,20 +79,18 @@ admits-short t l k n r q e = ap (λ a. onFrame t l (must (leb k roundLimit) aske
 
 -- which they are, too short
 short-refused : (t : Table) (l : List ℤ) (k : ℕ) (n : Lengths) (r : Run) → fits (needs t) n ≡ false → admits t l k n r ≡ gives tt → ⊥
-unfolding admits onFrame must
-short-refused t l k n r e h = go (eqb (length l) (t .bits)) (eachWithin frameLimit l) (leb k roundLimit) (fits (needs t) n) e h
-  where
-    go : (a b c d : Bool) → d ≡ false
-        → _≡_ {A = Answer (Unit {0})} (must a frameLength (must b frameRange (must c askedTooMuch (must d bufferShort
-        (must (isRunning (r .progress .status)) runEnded (must (sound (r .progress .rounds) (stateIn t (r .buffers))) runDamaged (gives tt))))))) (gives tt) → ⊥
-    go false b c d e h = refused≢gives h
-    go true false c d e h = refused≢gives h
-    go true true false d e h = refused≢gives h
-    go true true true true e h = absurd (true≢false e)
-    go true true true false e h = refused≢gives h
+unfolding admits onFrame
+short-refused t l k n r e h =
+    let size = must-gives (eqb (length l) (t .bits)) frameLength _ tt h in
+    let range = must-gives (eachWithin frameLimit l) frameRange _ tt (size .1) in
+    let few = must-gives (leb k roundLimit) askedTooMuch _ tt (range .1) in
+    true≢false (sym (must-gives (fits (needs t) n) bufferShort _ tt (few .1) .0) ∙ e)
 
-pub lent-call : (file : List ℕ) (t : Table) (l : List ℤ) (x : Call) (r : Run) → codeFile file ≡ gives t → Part (x .lent) (lengthsOf (r .buffers))
-    → lentCall file l x r ≡ callOn t l (x .wanted) (x .lent) r
+-- a call of a list
+abbrev pub callFor : Table → List ℤ → Call → Run → Called
+callFor t l x r = callOn t l (x .wanted) (x .lent) r
+
+pub lent-call : (file : List ℕ) (t : Table) (l : List ℤ) (x : Call) (r : Run) → codeFile file ≡ gives t → Part (x .lent) (lengthsOf (r .buffers)) → lentCall file l x r ≡ callFor t l x r
 unfolding lentCall call callOn
 lent-call file t l x r isFile p = ap (λ a. giveBack (callBy l (x .wanted) (lend (x .lent) r) a) r) isFile
     ∙ ap (λ m. giveBack (perform t l (x .wanted) (lend (x .lent) r) (admits t l (x .wanted) m (lend (x .lent) r))) r) (lengths-part (x .lent) (r .buffers) p)
@@ -101,11 +100,11 @@ lent-call file t l x r isFile p = ap (λ a. giveBack (callBy l (x .wanted) (lend
     n = x .lent
 
     by-fit : (b : Bool) → fits (needs t) n ≡ b → giveBack (perform t l (x .wanted) (lend n r) (admits t l (x .wanted) n (lend n r))) r ≡ perform t l (x .wanted) r (admits t l (x .wanted) n r)
-    by-fit true e = ap (λ a. giveBack (perform t l (x .wanted) (lend n r) a) r) (admits-lend t l (x .wanted) n r (fits-part (needs t) n e)) ∙ go (admits t l (x .wanted) n r)
+    by-fit true e = ap (λ a. giveBack (perform t l (x .wanted) (lend n r) a) r) (admits-lend t l n (fits-part (needs t) n e) (x .wanted) r) ∙ go (admits t l (x .wanted) n r)
       where
         go : (a : Answer (Unit {0})) → giveBack (perform t l (x .wanted) (lend n r) a) r ≡ perform t l (x .wanted) r a
         go (refused k) = refused-back k n r
-        go (gives u) = ran-back t l (x .wanted) n r (fits-part (needs t) n e) p
+        go (gives u) = ran-back t l n (fits-part (needs t) n e) (x .wanted) r p
     by-fit false e = ap (λ a. giveBack (perform t l (x .wanted) (lend n r) a) r) (admits-short t l (x .wanted) n (lend n r) r e) ∙ go (admits t l (x .wanted) n r) refl
       where
         go : (a : Answer (Unit {0})) → admits t l (x .wanted) n r ≡ a → giveBack (perform t l (x .wanted) (lend n r) a) r ≡ perform t l (x .wanted) r a
@@ -120,10 +119,10 @@ AllPart n (x ∷ xs) = Part (x .lent) n × AllPart n xs
 
 abbrev pub callsOn : Table → List ℤ → List Call → Run → List Called
 callsOn t l [] r = []
-callsOn t l (x ∷ xs) r = callOn t l (x .wanted) (x .lent) r ∷ callsOn t l xs (callOn t l (x .wanted) (x .lent) r .run)
+callsOn t l (x ∷ xs) r = callFor t l x r ∷ callsOn t l xs (callFor t l x r .run)
 
 -- a call keeps the lengths
-call-lengths : (t : Table) (l : List ℤ) (x : Call) (r : Run) → Part (x .lent) (lengthsOf (r .buffers)) → lengthsOf (callOn t l (x .wanted) (x .lent) r .run .buffers) ≡ lengthsOf (r .buffers)
+call-lengths : (t : Table) (l : List ℤ) (x : Call) (r : Run) → Part (x .lent) (lengthsOf (r .buffers)) → lengthsOf (callFor t l x r .run .buffers) ≡ lengthsOf (r .buffers)
 unfolding callOn
 call-lengths t l x r p = go (admits t l (x .wanted) (x .lent) r) refl
   where
@@ -139,7 +138,7 @@ call-lengths t l x r p = go (admits t l (x .wanted) (x .lent) r) refl
 pub lent-list : (file : List ℕ) (t : Table) (l : List ℤ) (xs : List Call) (r : Run) → codeFile file ≡ gives t → AllPart (lengthsOf (r .buffers)) xs → callList file l xs r ≡ callsOn t l xs r
 lent-list file t l [] r isFile p = refl
 lent-list file t l (x ∷ xs) r isFile p = ap₂ _∷_ here (ap (λ d. callList file l xs (d .run)) here
-    ∙ lent-list file t l xs (callOn t l (x .wanted) (x .lent) r .run) isFile (subst (λ n. AllPart n xs) (sym (call-lengths t l x r (p .0))) (p .1)))
+    ∙ lent-list file t l xs (callFor t l x r .run) isFile (subst (λ n. AllPart n xs) (sym (call-lengths t l x r (p .0))) (p .1)))
   where
-    here : lentCall file l x r ≡ callOn t l (x .wanted) (x .lent) r
+    here : lentCall file l x r ≡ callFor t l x r
     here = lent-call file t l x r isFile (p .0)

@@ -16,9 +16,10 @@ use Rattle.rules.specs.Refusal.{Answer, refused, gives, multiplierLarge}
 use Rattle.rules.specs.Table.{Table, checksOf}
 use Rattle.rules.specs.Buffers.{bytesOf}
 use Rattle.rules.specs.Run.{Status, running, certified, spent, Run, next, iterate, admits, answerAt, Called, perform, callOn}
-use Rattle.rules.specs.Calls.{Call, wantedBy, wantedIn, Certifies, here, later}
+use Rattle.rules.specs.Calls.{Call, wantedBy, wantedIn, here, later}
+use Rattle.rules.specs.Demand3.{CertifiesOn}
 use Rattle.rules.proofs.AnswerLaws.{refused≢gives, gives-inj}
-use Rattle.rules.proofs.Lends.{callsOn}
+use Rattle.rules.proofs.Lends.{callFor, callsOn}
 use Rattle.rules.proofs.Runs.{Moves, next-cases, ended-stays, iterate-stays, iterate-plus, running≢certified, spent≢running}
 
 -- one round more, counted at either end
@@ -51,9 +52,6 @@ reach t l (suc j) r = go (next-cases t l r) (reach t l j r) (reach t l j (next t
 abbrev pub takes : Answer (Unit {0}) → ℕ → ℕ
 takes (refused k) v = 0
 takes (gives u) v = v
-
-abbrev pub callFor : Table → List ℤ → Call → Run → Called
-callFor t l x r = callOn t l (x .wanted) (x .lent) r
 
 abbrev pub admitsFor : Table → List ℤ → Call → Run → Answer (Unit {0})
 admitsFor t l x r = admits t l (x .wanted) (x .lent) r
@@ -114,13 +112,13 @@ pub record Found (t : Table) (l : List ℤ) (r : Run) (w : List Bool) (k : ℕ) 
   pub stands : Stands t w k bs (iterate t l place r)
 
 pub found : (t : Table) (l : List ℤ) (r : Run) (w : List Bool) (k : ℕ) (bs : List ℕ) (i : ℕ) (xs : List Call)
-    → Certifies (t .bits) (checksOf t) w k bs (callsOn t l xs (iterate t l i r)) → Found t l r w k bs
+    → CertifiesOn t w k bs (callsOn t l xs (iterate t l i r)) → Found t l r w k bs
 found t l r w k bs i (x ∷ xs) (here s) = record {
   place = i + takes (admitsFor t l x (iterate t l i r)) (x .wanted);
   stands = subst (Stands t w k bs) (call-extends t l r i x) (record { marked = says-status t l x (iterate t l i r) (s .answers); writes = s .writes; took = s .took; leaves = s .leaves });
 }
 found t l r w k bs i (x ∷ xs) (later h) =
-    found t l r w k bs (i + takes (admitsFor t l x (iterate t l i r)) (x .wanted)) xs (subst (λ z. Certifies (t .bits) (checksOf t) w k bs (callsOn t l xs z)) (call-extends t l r i x) h)
+    found t l r w k bs (i + takes (admitsFor t l x (iterate t l i r)) (x .wanted)) xs (subst (λ z. CertifiesOn t w k bs (callsOn t l xs z)) (call-extends t l r i x) h)
 
 -- from no rounds done, it is certified after exactly the rounds counted
 pub found-ends : (t : Table) (l : List ℤ) (r : Run) (w : List Bool) (k : ℕ) (bs : List ℕ) → r .progress .rounds ≡ 0 → Found t l r w k bs → Stands t w k bs (iterate t l k r)
@@ -174,13 +172,21 @@ module _ (t : Table) (l : List ℤ) (r : Run) (fresh : r .progress .rounds ≡ 0
   late k h = ap (λ n. iterate t l n r) (sym (add-sub-of-le h)) ∙ iterate-plus t l m (k - m) r
       ∙ iterate-stays t l (k - m) (iterate t l m r) (ended-stays t l (iterate t l m r) (λ e. running≢certified (sym e ∙ ends .marked)))
 
-  pub catch : (xs : List Call) (k : ℕ) → k < m → m ≤ k + wantedIn xs (callsOn t l xs (iterate t l k r)) → Certifies (t .bits) (checksOf t) w m bs (callsOn t l xs (iterate t l k r))
+  -- what calls made after k rounds come to
+  abbrev madeAt : ℕ → List Call → List Called
+  madeAt k xs = callsOn t l xs (iterate t l k r)
+
+  -- it certifies, if they want enough
+  abbrev Caught : ℕ → List Call → List Called → Type 0
+  Caught k xs ds = m ≤ k + wantedIn xs ds → CertifiesOn t w m bs ds
+
+  catch : (xs : List Call) (k : ℕ) → k < m → Caught k xs (madeAt k xs)
   unfolding callOn
   catch [] k h g = absurd (over k h g)
     where
       over : (k : ℕ) → k < m → m ≤ k + 0 → ⊥
       over k h g = omega arith
-  catch (x ∷ xs) k h g = go (admitsFor t l x q) g (catch xs k h) (catch xs (k + v))
+  catch (x ∷ xs) k h g = go (admitsFor t l x q) (catch xs k h) (catch xs (k + v)) g
     where
       q : Run
       q = iterate t l k r
@@ -200,14 +206,12 @@ module _ (t : Table) (l : List ℤ) (r : Run) (fresh : r .progress .rounds ≡ 0
       onward : (k v n : ℕ) → m ≤ k + (v + n) → m ≤ k + v + n
       onward k v n g = omega arith
 
-      go : (a : Answer (Unit {0})) → m ≤ k + (wantedBy (perform t l v q a .answer) v + wantedIn xs (callsOn t l xs (perform t l v q a .run)))
-          → (m ≤ k + wantedIn xs (callsOn t l xs q) → Certifies (t .bits) (checksOf t) w m bs (callsOn t l xs q))
-          → (k + v < m → m ≤ k + v + wantedIn xs (callsOn t l xs (iterate t l (k + v) r)) → Certifies (t .bits) (checksOf t) w m bs (callsOn t l xs (iterate t l (k + v) r)))
-          → Certifies (t .bits) (checksOf t) w m bs (perform t l v q a ∷ callsOn t l xs (perform t l v q a .run))
-      go (refused e) g again further = later (again (no-more k (wantedIn xs (callsOn t l xs q)) g))
-      go (gives u) g again further = by-size (decLe m (k + v))
+      go : (a : Answer (Unit {0})) → Caught k xs (madeAt k xs) → (k + v < m → Caught (k + v) xs (madeAt (k + v) xs))
+          → Caught k (x ∷ xs) (perform t l v q a ∷ callsOn t l xs (perform t l v q a .run))
+      go (refused e) again further g = later (again (no-more k (wantedIn xs (madeAt k xs)) g))
+      go (gives u) again further g = by-size (decLe m (k + v))
         where
-          by-size : Dec (m ≤ k + v) → Certifies (t .bits) (checksOf t) w m bs (perform t l v q (gives u) ∷ callsOn t l xs q')
+          by-size : Dec (m ≤ k + v) → CertifiesOn t w m bs (perform t l v q (gives u) ∷ callsOn t l xs q')
           by-size (yes p) = here (record {
             answers = ap (λ s. answerAt s (q' .progress .rounds) (q .progress .rounds + v)) (ap (λ z. z .progress .status) there ∙ ends .marked);
             writes = ap (λ z. take (t .bits) (z .buffers .word)) there ∙ ends .writes;
@@ -217,11 +221,19 @@ module _ (t : Table) (l : List ℤ) (r : Run) (fresh : r .progress .rounds ≡ 0
             where
               there : q' ≡ iterate t l m r
               there = to ∙ late (k + v) p
-          by-size (no f) = later (subst (λ z. Certifies (t .bits) (checksOf t) w m bs (callsOn t l xs z)) (sym to) (further (lt-of-not-le f)
-              (onward k v (wantedIn xs (callsOn t l xs (iterate t l (k + v) r))) (subst (λ z. m ≤ k + (v + wantedIn xs (callsOn t l xs z))) to
+          by-size (no f) = later (subst (λ z. CertifiesOn t w m bs (callsOn t l xs z)) (sym to) (further (lt-of-not-le f)
+              (onward k v (wantedIn xs (madeAt (k + v) xs)) (subst (λ z. m ≤ k + (v + wantedIn xs (callsOn t l xs z))) to
               (subst (λ z. m ≤ k + (wantedBy z v + wantedIn xs (callsOn t l xs q'))) still g)))))
             where
               still : answerAt (q' .progress .status) (q' .progress .rounds) (q .progress .rounds + v) ≡ gives running
               still = ap₂ (λ s n. answerAt s n (q .progress .rounds + v)) (ap (λ z. z .progress .status) to ∙ early-running (k + v) (lt-of-not-le f))
                   (ap (λ z. z .progress .rounds) to ∙ early-rounds (k + v) (lt-of-not-le f))
                   ∙ ap (λ b. cond b (gives running) (refused multiplierLarge)) (eq-eqb (k + v) (q .progress .rounds + v) (ap (λ n. n + v) (sym (early-rounds k h))))
+
+  -- and so does a list from the beginning
+  pub catch-first : (xs : List Call) → 1 ≤ m → m ≤ wantedIn xs (callsOn t l xs r) → CertifiesOn t w m bs (callsOn t l xs r)
+  unfolding iterate
+  catch-first xs h g = catch xs 0 h (plain (wantedIn xs (callsOn t l xs r)) g)
+    where
+      plain : (n : ℕ) → m ≤ n → m ≤ 0 + n
+      plain n h = omega arith

@@ -21,7 +21,7 @@ use Rattle.rules.specs.Judge.{Verdict, judge}
 use Rattle.rules.specs.Buffers.{word, certificate, nought, Buffers, the, Lengths, lengthsOf, Part, needs, blank, partOf, over, write, zeroed, fitsStart, zeroing}
 use Rattle.rules.specs.Run.{Status, running, certified, spent, fresh, Run, stateIn, iterate, isRunning, sound, admits, Called, perform, callOn, callBy, call, start}
 use Rattle.rules.specs.Calls.{lend, giveBack, lentCall, startedRun}
-use Rattle.rules.specs.Report.{Line, refusedLine, certifiedLine, lineAt, lineBy, frameLine}
+use Rattle.rules.specs.Report.{refusedLine, certifiedLine, lineAt, lineAfter, lineBy, frameLine}
 use Rattle.rules.proofs.Basics.{and-both}
 use Rattle.rules.proofs.AnswerLaws.{must-gives, then-of}
 use Rattle.rules.proofs.BufferLaws.{take-over, the-each, buffers-eq, true-every, part-refl, part-fits, lengths-part, past-lengths, write-past, write-part}
@@ -74,15 +74,11 @@ module _ (file : List ℕ) (t : Table) (isFile : codeFile file ≡ gives t) wher
       ∙ sym (lent-call file t l (record { wanted = v; lent = needs t }) r isFile h)
 
 -- ---- what the line reads of the buffers stands in the parts
-lineIn : Table → List ℤ → Called → Line
-lineIn t l d = lineAt t l (d .run) (d .answer)
-
 u16-front : (new old : List ℕ) → 2 ≤ length new → u16At (over new old) 0 ≡ u16At new 0
 unfolding u16At
 u16-front new old h = ap₂ (λ x y. x + 256 * y) (List·getD-append new (drop (length new) old) 0 0 (omega arith)) (List·getD-append new (drop (length new) old) 0 1 (omega arith))
 
-line-back : (t : Table) (l : List ℤ) (d : Called) (r : Run) → lengthsOf (d .run .buffers) ≡ needs t → lineIn t l (giveBack d r) ≡ lineIn t l d
-unfolding lineIn
+line-back : (t : Table) (l : List ℤ) (d : Called) (r : Run) → lengthsOf (d .run .buffers) ≡ needs t → lineAfter t l (giveBack d r) ≡ lineAfter t l d
 line-back t l d r e = go (d .answer)
   where
     go : (a : Answer Status) → lineAt t l (giveBack d r .run) a ≡ lineAt t l (d .run) a
@@ -107,20 +103,20 @@ blank-long : (n g : Lengths) → Part n g → Part n (lengthsOf (blank g))
 blank-long n g h x = subst (λ k. n x ≤ k) (sym (ap length (the-each (λ x. replicate (g x) (nought x)) x) ∙ length-replicate (g x) (nought x))) (h x)
 
 -- ---- blank buffers of any lengths that are enough give the same line
-pub blank-line : (file : List ℕ) (t : Table) (l : List ℤ) (g : Lengths) → codeFile file ≡ gives t → Part (needs t) g
-    → lineAt t l (call file l roundLimit (startedRun file (blank g)) .run) (call file l roundLimit (startedRun file (blank g)) .answer) ≡ frameLine file l
-unfolding frameLine lineIn
-blank-line file t l g isFile h =
-    let long = blank-long (needs t) g h in
-    let r = startedRun file (blank g) in
-    let roomy = started-long file t isFile (blank g) long in
-    let sized = lengths-part (needs t) (r .buffers) roomy in
-    let parts = lend (needs t) r in
-    ap (lineIn t l) (long-call file t isFile l roundLimit r roomy)
-    ∙ line-back t l (call file l roundLimit parts) r (call-lengths file t isFile l roundLimit parts (subst (Part (needs t)) (sym sized) (part-refl (needs t))) ∙ sized)
-    ∙ ap (λ x. lineIn t l (call file l roundLimit x)) (sym (started-part file t isFile (blank g) long))
-    ∙ ap (λ b. lineIn t l (call file l roundLimit (startedRun file b))) (blank-part (needs t) g h)
-    ∙ ap (lineBy file l) (sym isFile)
+module _ (file : List ℕ) (t : Table) (isFile : codeFile file ≡ gives t) where
+  pub blank-line : (l : List ℤ) (g : Lengths) → Part (needs t) g → lineAfter t l (call file l roundLimit (startedRun file (blank g))) ≡ frameLine file l
+  unfolding frameLine
+  blank-line l g h =
+      let long = blank-long (needs t) g h in
+      let r = startedRun file (blank g) in
+      let roomy = started-long file t isFile (blank g) long in
+      let sized = lengths-part (needs t) (r .buffers) roomy in
+      let parts = lend (needs t) r in
+      ap (lineAfter t l) (long-call file t isFile l roundLimit r roomy)
+      ∙ line-back t l (call file l roundLimit parts) r (call-lengths file t isFile l roundLimit parts (subst (Part (needs t)) (sym sized) (part-refl (needs t))) ∙ sized)
+      ∙ ap (λ x. lineAfter t l (call file l roundLimit x)) (sym (started-part file t isFile (blank g) long))
+      ∙ ap (λ b. lineAfter t l (call file l roundLimit (startedRun file b))) (blank-part (needs t) g h)
+      ∙ ap (lineBy file l) (sym isFile)
 
 pub refused-line : (file : List ℕ) (l : List ℤ) (k : ℕ) → codeFile file ≡ refused k → frameLine file l ≡ refusedLine k
 unfolding frameLine

@@ -152,6 +152,6 @@ module _ (file : List ℕ) (k : ℕ) (l : List ℤ) where
   module _ (v : ℕ) (r : Run) (t : Table) (isFile : codeFile file ≡ gives t) where
     pub call-scaled : 1 ≤ k → k ≤ maxScale → call file (times k l) v r .answer ≡ gives certified → ScaledAfter t (call file (times k l) v r)
     call-scaled lo hi = call-ends file (times k l) v r t isFile (ScaledAfter t)
-        (λ d a e. scaled-judged _ (certificateIn (d .run .buffers .certificate)) lo hi (a .range)
+        (λ d a e. scaled-judged _ (certificateIn (d .run .buffers .certificate)) lo hi (a .frame .range)
         ∙ ap (judge file (times k l) _) (ended-scale t (times k l) (d .run) e (file-sound file t isFile .checks .1))
-        ∙ ended-passes t (times k l) (d .run) e file isFile (a .size) (a .range))
+        ∙ ended-passes t (times k l) (d .run) e file isFile (a .frame))

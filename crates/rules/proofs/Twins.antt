@@ -61,8 +61,12 @@ status-turn c k (some w) = refl
 abbrev Fills : ℕ → Option (List Bool) → Type 0
 Fills n o = (w : List Bool) → o ≡ some w → length (bytesOf w) ≡ n
 
+-- the word's buffer after a round
+abbrev wordOver : Option (List Bool) → List ℕ → List ℕ
+wordOver o old = overBy (wordLeft o) old
+
 words-turn : (n k : ℕ) (c : List Bool) (o : Option (List Bool)) (x y : List ℕ) → Fills n o → Fills n (plusO c o)
-    → statusAt k o ≡ certified → Worded n c (overBy (wordLeft o) x) (overBy (wordLeft (plusO c o)) y)
+    → statusAt k o ≡ certified → Worded n c (wordOver o x) (wordOver (plusO c o) y)
 words-turn n k c none x y h g e = absurd (uncertified k e)
 words-turn n k c (some w) x y h g e = record { word = w; here = take-over n (bytesOf w) x (h w refl); there = take-over n (bytesOf (plus c w)) y (g (plus c w) refl) }
 

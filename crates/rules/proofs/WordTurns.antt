@@ -132,11 +132,11 @@ keep-plus : (c w : List Bool) (b : Bool) → keep b (plus c w) ≡ plusO c (keep
 keep-plus c w true = refl
 keep-plus c w false = refl
 
-certify-turns : (t : Table) (c : List Bool) (l : List ℤ) (rs : List Row) (o : Option (List Bool)) → Even c (t .checks) → Good rs
-    → certify t (turns c l) (turnRows c rs) (plusO c o) ≡ plusO c (certify t l rs o)
-certify-turns t c l rs none e h = refl
-certify-turns t c l rs (some w) e h = ap₂ (λ a b. keep (a && isZero b) (plus c w)) (meets-turns c w (t .checks) e) (gap-turns (t .bits) 1 c l rs w h)
-    ∙ keep-plus c w (meets w (t .checks) && isZero (gap (t .bits) 1 l rs w))
+module _ (t : Table) (c : List Bool) (l : List ℤ) (rs : List Row) (even : Even c (t .checks)) (good : Good rs) where
+  certify-turns : (o : Option (List Bool)) → certify t (turns c l) (turnRows c rs) (plusO c o) ≡ plusO c (certify t l rs o)
+  certify-turns none = refl
+  certify-turns (some w) = ap₂ (λ a b. keep (a && isZero b) (plus c w)) (meets-turns c w (t .checks) even) (gap-turns (t .bits) 1 c l rs w good)
+      ∙ keep-plus c w (meets w (t .checks) && isZero (gap (t .bits) 1 l rs w))
 
 abbrev roundOf : List ℤ → List ℤ → List ℤ → List Entry → Option (List Bool) → Round
 roundOf p a y e v = record { spins = p; state = record { copies = a; offsets = y }; entries = e; word = v }
@@ -153,7 +153,7 @@ round-turns t c l s k = ap (roundBy t (turns c l) g) steps ∙ round-eq
     (offsets-turn unit c (t .checks) (stepsIn t l s) (steps-laid t l s))
     (entries-turn c (t .checks) (stepsIn t l s))
     (ap₂ (certify t (turns c l)) (ap (rowsOf (t .checks)) (entries-turn c (t .checks) (stepsIn t l s)) ∙ rows-turn c (t .checks) es) (candidate-turns (t .bits) c f g (k .size) fg)
-    ∙ certify-turns t c l (rowsOf (t .checks) es) (candidate (t .bits) f) even (rows-good unit (t .checks) (stepsIn t l s) (steps-laid t l s)))
+    ∙ certify-turns t c l (rowsOf (t .checks) es) even (rows-good unit (t .checks) (stepsIn t l s) (steps-laid t l s)) (candidate (t .bits) f))
   where
     f : ℕ → ℤ
     f = spinsIn t l s

@@ -1,5 +1,6 @@
 -- A certificate's bytes read back: what a round writes is, item by item, what the round has. Assumes nothing.
 use mathlib.Core.Path.{_≡_, refl, sym, _∙_, ap, ap₂}
+use mathlib.Core.Bool.{Bool}
 use mathlib.Core.List.{List, [], _∷_, _++_, append-nil}
 use Prim.Native.Nat.{ℕ, zero, suc, _+_, _*_, _≤_, _<_}
 use native.Mathlib.Omega.{arith}
@@ -84,10 +85,13 @@ items-in bs q k (suc c) = ap₂ _∷_
     nextMask q k = omega arith
 
 -- ---- the items of a round
+abbrev pub itemOf : ℕ → ℕ → List Bool → Item
+itemOf j b ts = record { check = j; multiplier = b; mask = maskOf ts }
+
 abbrev pub listed : ℕ → List Entry → List Item
 listed j [] = []
 listed j (inactive ∷ es) = listed (suc j) es
-listed j (active b ts ∷ es) = record { check = j; multiplier = b; mask = maskOf ts } ∷ listed (suc j) es
+listed j (active b ts ∷ es) = itemOf j b ts ∷ listed (suc j) es
 
 -- multipliers and masks fit 32 bits
 abbrev pub Narrow : List Entry → Type 0

@@ -17,7 +17,6 @@ use Rattle.rules.specs.Bytes.{u16Limit, u32Limit}
 use Rattle.rules.specs.Limits.{frameLimit, maxEntries, maxScale, maxMultiplier, maxChecks, certificateLength}
 use Rattle.rules.specs.Refusal.{Answer, gives, frameLength, frameRange, wordWrong, certificateWrong, scaleRange, entryRange, maskWrong, entryOrder}
 use Rattle.rules.specs.Table.{Table, checksOf}
-use Rattle.rules.specs.Parity.{odd, Alike}
 use Rattle.rules.specs.Mask.{digit, maskOf, setOf, maskRight}
 use Rattle.rules.specs.CodeFile.{inRange, codeFile}
 use Rattle.rules.specs.Sound.{Degrees, Sound}
@@ -35,7 +34,7 @@ use Rattle.rules.proofs.AnswerLaws.{must-true, then-of}
 use Rattle.rules.proofs.Tables.{file-sound}
 use Rattle.rules.proofs.Steps.{Proper}
 use Rattle.rules.proofs.Optimal.{Passed}
-use Rattle.rules.proofs.Written.{cuts-few, certificate-length, entries-written, scale-written, listed, Narrow, items-written}
+use Rattle.rules.proofs.Written.{cuts-few, certificate-length, entries-written, scale-written, itemOf, listed, Narrow, items-written}
 use Rattle.rules.proofs.Judged.{meets-none}
 
 -- ---- a word's bytes
@@ -131,25 +130,26 @@ unfolding follows
 follows-on none i h = refl
 follows-on (some p) i h = ap (λ b. b || (eqb (p .check) (i .check) && ltb (p .mask) (i .mask))) (lt-ltb (p .check) (i .check) h)
 
-item-right : {A : Type 0} (t : Table) (p : Option Item) (j b : ℕ) (ms : List ℕ) (ts : List Bool) (a : Answer A) → j < checksOf t → membersAt t j ≡ ms → 1 ≤ b → b ≤ maxMultiplier
-    → odd ts ≡ true → Alike ts ms → Before p j → onItem t p (record { check = j; multiplier = b; mask = maskOf ts }) a ≡ a
-unfolding onItem inRange
-item-right t p j b ms ts a inside here lo hi o k bf =
-    must-true (ltb j (checksOf t) && (leb 1 b && leb b maxMultiplier)) entryRange _ (ap₂ _&&_ (lt-ltb j (checksOf t) inside) (ap₂ _&&_ (le-leb 1 b lo) (le-leb b maxMultiplier hi)))
-    ∙ must-true (maskRight (length (membersAt t j)) (maskOf ts)) maskWrong _ (set-right (length (membersAt t j)) ts (sym (alike-length ts ms k) ∙ ap length (sym here)) o)
-    ∙ must-true (follows p (record { check = j; multiplier = b; mask = maskOf ts })) entryOrder a (follows-on p (record { check = j; multiplier = b; mask = maskOf ts }) bf)
+module _ {A : Type 0} (t : Table) where
+  item-right : (p : Option Item) (j b : ℕ) (ts : List Bool) (a : Answer A) → j < checksOf t → Proper (membersAt t j) (active b ts) → b ≤ maxMultiplier → Before p j
+      → onItem t p (itemOf j b ts) a ≡ a
+  unfolding onItem inRange
+  item-right p j b ts a inside proper hi bf =
+      must-true (ltb j (checksOf t) && (leb 1 b && leb b maxMultiplier)) entryRange _ (ap₂ _&&_ (lt-ltb j (checksOf t) inside) (ap₂ _&&_ (le-leb 1 b (proper .2)) (le-leb b maxMultiplier hi)))
+      ∙ must-true (maskRight (length (membersAt t j)) (maskOf ts)) maskWrong _ (set-right (length (membersAt t j)) ts (sym (alike-length ts (membersAt t j) (proper .1))) (proper .0))
+      ∙ must-true (follows p (itemOf j b ts)) entryOrder a (follows-on p (itemOf j b ts) bf)
 
-items-right : {A : Type 0} (t : Table) (p : Option Item) (j : ℕ) (cs : List (List ℕ)) (es : List Entry) (a : Answer A) → From t j cs → AllProper cs es → tooLarge es ≡ false
-    → Before p j → onItems t p (listed j es) a ≡ a
-unfolding onItems
-items-right t p j [] [] a f q b h = refl
-items-right t p j [] (e ∷ es) a f q b h = absurd q
-items-right t p j (ms ∷ cs) [] a f q b h = absurd q
-items-right t p j (ms ∷ cs) (inactive ∷ es) a f q b h = items-right t p (suc j) cs es a (from-next t j ms cs f) (q .1) (or-false (ltb maxMultiplier 0) (tooLarge es) b .1) (before-next p j h)
-items-right t p j (ms ∷ cs) (active m ts ∷ es) a f q b h =
-    item-right t p j m ms ts (onItems t (some (record { check = j; multiplier = m; mask = maskOf ts })) (listed (suc j) es) a) (from-below t j ms cs f) (from-here t j ms cs f)
-    (q .0 .2) (ltb-false maxMultiplier m (or-false (ltb maxMultiplier m) (tooLarge es) b .0)) (q .0 .0) (q .0 .1) h
-    ∙ items-right t (some (record { check = j; multiplier = m; mask = maskOf ts })) (suc j) cs es a (from-next t j ms cs f) (q .1) (or-false (ltb maxMultiplier m) (tooLarge es) b .1) (omega arith)
+  items-right : (p : Option Item) (j : ℕ) (cs : List (List ℕ)) (es : List Entry) (a : Answer A) → From t j cs → AllProper cs es → tooLarge es ≡ false → Before p j
+      → onItems t p (listed j es) a ≡ a
+  unfolding onItems
+  items-right p j [] [] a f q b h = refl
+  items-right p j [] (e ∷ es) a f q b h = absurd q
+  items-right p j (ms ∷ cs) [] a f q b h = absurd q
+  items-right p j (ms ∷ cs) (inactive ∷ es) a f q b h = items-right p (suc j) cs es a (from-next t j ms cs f) (q .1) (or-false (ltb maxMultiplier 0) (tooLarge es) b .1) (before-next p j h)
+  items-right p j (ms ∷ cs) (active m ts ∷ es) a f q b h =
+      item-right p j m ts (onItems t (some (itemOf j m ts)) (listed (suc j) es) a) (from-below t j ms cs f)
+      (subst (λ l. Proper l (active m ts)) (sym (from-here t j ms cs f)) (q .0)) (ltb-false maxMultiplier m (or-false (ltb maxMultiplier m) (tooLarge es) b .0)) h
+      ∙ items-right (some (itemOf j m ts)) (suc j) cs es a (from-next t j ms cs f) (q .1) (or-false (ltb maxMultiplier m) (tooLarge es) b .1) (omega arith)
 
 -- ---- the whole certificate
 -- an entry for each check: the number of cuts reads back
@@ -188,18 +188,30 @@ certificate-right t es a s p b =
     few : (x q n m : ℕ) → x ≡ q → q ≤ n → n ≡ m → m ≤ maxChecks → x ≤ maxEntries
     few x q n m e h f k = omega arith
 
--- A frame that passes 8 and 9, a word with gap 0 on the entries' rows: the judge certifies it by the entries' bytes.
-pub written-passes : (file : List ℕ) (l : List ℤ) (es : List Entry) (w : List Bool) (t : Table) → codeFile file ≡ gives t → length l ≡ t .bits → eachWithin frameLimit l ≡ true
-    → length w ≡ t .bits → AllProper (t .checks) es → tooLarge es ≡ false → Passed t l (rowsOf (t .checks) es) w → judge file l (bytesOf w) (certificateOf es) ≡ gives passes
-unfolding judge onFrame onWord verdict
-written-passes file l es w t isFile size range long p b closed =
-    then-of (codeFile file) t _ isFile
-    ∙ must-true (eqb (length l) (t .bits)) frameLength _ (eq-eqb (length l) (t .bits) size)
-    ∙ must-true (eachWithin frameLimit l) frameRange _ range
-    ∙ must-true (eqb (length (bytesOf w)) (t .bits) && eachBit (bytesOf w)) wordWrong _ (ap₂ _&&_ (eq-eqb (length (bytesOf w)) (t .bits) (bytes-length w ∙ long)) (each-bit w))
-    ∙ certificate-right t es _ (file-sound file t isFile) p b
-    ∙ ap (λ v. gives v) (ap₂ (λ rs x. verdict t (scaleOf (certificateOf es)) l rs x) rows (bits-bytes w) ∙ ap (λ s. verdict t s l (rowsOf (t .checks) es) w) (scale-written es)
-    ∙ ap₂ weigh (meets-none 0 w (t .checks) (closed .legal)) (closed .closed))
-  where
-    rows : rowsAt t (itemsOf (certificateOf es)) ≡ rowsOf (t .checks) es
-    rows = ap (rowsAt t) (items-back t es (file-sound file t isFile) p b) ∙ rows-listed t 0 (t .checks) es (from-start t) p
+-- a frame that passes 8 and 9
+pub record Framed (t : Table) (l : List ℤ) : Type 0 where
+  pub size : length l ≡ t .bits
+  pub range : eachWithin frameLimit l ≡ true
+
+-- a word and entries as a certifying round has them: gap 0 on the entries' rows
+pub record Closes (t : Table) (l : List ℤ) (w : List Bool) (es : List Entry) : Type 0 where
+  pub long : length w ≡ t .bits
+  pub proper : AllProper (t .checks) es
+  pub small : tooLarge es ≡ false
+  pub passed : Passed t l (rowsOf (t .checks) es) w
+
+module _ (file : List ℕ) (t : Table) (isFile : codeFile file ≡ gives t) where
+  -- the judge certifies the word by the entries' bytes
+  pub written-passes : (l : List ℤ) (w : List Bool) (es : List Entry) → Framed t l → Closes t l w es → judge file l (bytesOf w) (certificateOf es) ≡ gives passes
+  unfolding judge onFrame onWord verdict
+  written-passes l w es f c =
+      then-of (codeFile file) t _ isFile
+      ∙ must-true (eqb (length l) (t .bits)) frameLength _ (eq-eqb (length l) (t .bits) (f .size))
+      ∙ must-true (eachWithin frameLimit l) frameRange _ (f .range)
+      ∙ must-true (eqb (length (bytesOf w)) (t .bits) && eachBit (bytesOf w)) wordWrong _ (ap₂ _&&_ (eq-eqb (length (bytesOf w)) (t .bits) (bytes-length w ∙ c .long)) (each-bit w))
+      ∙ certificate-right t es _ (file-sound file t isFile) (c .proper) (c .small)
+      ∙ ap (λ v. gives v) (ap₂ (λ rs x. verdict t (scaleOf (certificateOf es)) l rs x) rows (bits-bytes w) ∙ ap (λ s. verdict t s l (rowsOf (t .checks) es) w) (scale-written es)
+      ∙ ap₂ weigh (meets-none 0 w (t .checks) (c .passed .legal)) (c .passed .closed))
+    where
+      rows : rowsAt t (itemsOf (certificateOf es)) ≡ rowsOf (t .checks) es
+      rows = ap (rowsAt t) (items-back t es (file-sound file t isFile) (c .proper) (c .small)) ∙ rows-listed t 0 (t .checks) es (from-start t) (c .proper)

@@ -82,10 +82,14 @@ itemsOf bs = itemsAt bs (entriesOf bs) 0 (entriesOf bs)
 abbrev pub certificateIn : List ℕ → List ℕ
 certificateIn bs = take (certificateLength (entriesOf bs)) bs
 
+-- q and the scale are there, q is within the limit, and the certificate is as long as q says
+abbrev pub lengthRight : List ℕ → Bool
+lengthRight bs = (leb 4 (length bs) && leb (entriesOf bs) maxEntries) && eqb (length bs) (certificateLength (entriesOf bs))
+
 -- "10 certificate length wrong or q too large. 11 scale", then the entries
 unfoldable pub onCertificate : {A : Type 0} → Table → List ℕ → Answer A → Answer A
 onCertificate t bs a =
-    must ((leb 4 (length bs) && leb (entriesOf bs) maxEntries) && eqb (length bs) (certificateLength (entriesOf bs))) certificateWrong
+    must (lengthRight bs) certificateWrong
     (must (inRange 1 maxScale (scaleOf bs)) scaleRange
     (onItems t none (itemsOf bs) a))
 

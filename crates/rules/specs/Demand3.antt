@@ -62,6 +62,13 @@ pub record RoundsDone (t : Table) (l : List ℤ) (calls : List Call) (r : Run) (
   pub ends : iterate t l roundLimit r .progress .status ≡ running → ⊥
   pub rounds : runAfter r ds .progress .rounds ≡ min (countedIn 0 calls ds) (iterate t l roundLimit r .progress .rounds)
 
+-- "every other list from a fresh start" on this frame certifies w, after k rounds and with multipliers bs, "once its calls not refused want together
+-- at least that many"
+abbrev pub AllCertify : List ℕ → Table → List ℤ → List Bool → ℕ → List ℕ → Type 0
+AllCertify file t l w k bs =
+    (b : Buffers) → FreshStart file t b → (xs : List Call) → AllLent b xs
+    → k ≤ wantedIn xs (listFrom file l xs b) → CertifiesOn t w k bs (listFrom file l xs b)
+
 -- "For every table, frame and codeword c of that table, and for every list of calls for rounds, refused ones included, made from a fresh start":
 -- the list runs on the buffers a, "the same list from a fresh start of its own, on the frame with its numbers negated under the ones of c" on b
 pub record Demand3 (file : List ℕ) (t : Table) (l : List ℤ) (c : List Bool) (calls : List Call) (a b : Buffers) : Type 0 where
@@ -74,6 +81,4 @@ pub record Demand3 (file : List ℕ) (t : Table) (l : List ℤ) (c : List Bool) 
   pub twin : SamePlaces t c (listFrom file l calls a) (listFrom file (turns c l) calls b)
   -- "Then every other list from a fresh start on the negated frame certifies that word too, after exactly as many rounds as w took and with the same
   -- multipliers, once its calls not refused want together at least that many"
-  pub others : (w : List Bool) (k : ℕ) (bs : List ℕ) → CertifiesOn t w k bs (listFrom file l calls a)
-      → (d : Buffers) → FreshStart file t d → (xs : List Call) → AllLent d xs
-      → k ≤ wantedIn xs (listFrom file (turns c l) xs d) → CertifiesOn t (plus c w) k bs (listFrom file (turns c l) xs d)
+  pub others : (w : List Bool) (k : ℕ) (bs : List ℕ) → CertifiesOn t w k bs (listFrom file l calls a) → AllCertify file t (turns c l) (plus c w) k bs

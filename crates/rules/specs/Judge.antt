@@ -1,15 +1,16 @@
 -- The judge of anybody's certificates (document 01, "Certificates"). Definitions only. Assumes nothing.
-use mathlib.Core.Bool.{Bool, cond}
+use mathlib.Core.Path.{_≡_}
+use mathlib.Core.Bool.{Bool, true, cond}
 use mathlib.Core.List.{List, [], _∷_}
 use mathlib.Core.Option.{Option, some, none}
 use Prim.Native.Nat.{ℕ}
-use lib.IntN.{ℤ, pos}
+use lib.IntN.{ℤ, pos, _*ℤ_}
 use Rattle.rules.specs.Refusal.{Answer, gives, then, Reply, replyOf}
 use Rattle.rules.specs.Table.{Table}
-use Rattle.rules.specs.Parity.{firstBroken, agreement}
+use Rattle.rules.specs.Parity.{firstBroken, meets, agreement}
 use Rattle.rules.specs.CodeFile.{codeFile}
 use Rattle.rules.specs.Input.{onFrame, onWord, bitsOf}
-use Rattle.rules.specs.Bound.{Row, gap}
+use Rattle.rules.specs.Bound.{Row, bound, gap}
 use Rattle.rules.specs.Round.{isZero}
 use Rattle.rules.specs.Certificate.{onCertificate, scaleOf, itemsOf, rowsAt}
 
@@ -25,6 +26,10 @@ weigh none g = cond (isZero g) passes (misses g)
 
 unfoldable pub verdict : Table → ℕ → List ℤ → List Row → List Bool → Verdict
 verdict t s l rs w = weigh (firstBroken 0 w (t .checks)) (gap (t .bits) s l rs w)
+
+-- demand 2's "the word meets all checks and its agreement, times the certificate's scale, equals the multipliers' bound"
+abbrev pub MeetsBound : Table → ℕ → List ℤ → List Row → List Bool → Type 0
+MeetsBound t s l rs w = (meets w (t .checks) ≡ true) × (pos s *ℤ agreement (t .bits) l w ≡ bound (t .bits) s l rs)
 
 -- "1 to 7; then 8, 9, 15, 10, 11, entry by entry 12, 13, 14"
 unfoldable pub judge : List ℕ → List ℤ → List ℕ → List ℕ → Answer Verdict

@@ -58,10 +58,14 @@ left u [] ss = pos 0
 left u (v ∷ vs) [] = pos 0
 left u (v ∷ vs) (s ∷ ss) = (pos u +ℤ side v s) +ℤ left u vs ss
 
--- "is at least 2U" for each odd V of each check, with d for U and f the numbers
+-- "is at least 2U" for each odd V of a check, with d for U and f the numbers
+abbrev pub KeepsOne : ℕ → (ℕ → ℤ) → List ℕ → Type 0
+KeepsOne d f ms = (vs : List Bool) → odd vs ≡ true → Alike vs ms → pos (2 * d) ⩽ left d vs (valuesAt f ms)
+
+-- and so of each check
 abbrev pub Keeps : ℕ → (ℕ → ℤ) → List (List ℕ) → Type 0
 Keeps d f [] = Unit {0}
-Keeps d f (ms ∷ cs) = ((vs : List Bool) → odd vs ≡ true → Alike vs ms → pos (2 * d) ⩽ left d vs (valuesAt f ms)) × Keeps d f cs
+Keeps d f (ms ∷ cs) = KeepsOne d f ms × Keeps d f cs
 
 -- "A point of the relaxation: a whole D of 1 or more and numbers p from −D to D which meet every parity inequality with D for U"
 pub record Point (t : Table) (d : ℕ) (p : List ℤ) : Type 0 where

@@ -15,7 +15,7 @@ use Rattle.rules.specs.Parity.{agreement}
 use Rattle.rules.specs.CodeFile.{contents, totalCount, codeFile}
 use Rattle.rules.specs.Input.{bitsOf}
 use Rattle.rules.specs.Buffers.{needs, blank}
-use Rattle.rules.specs.Run.{Status, running, certified, spent, Run, call}
+use Rattle.rules.specs.Run.{Status, running, certified, spent, Run, Called, call}
 use Rattle.rules.specs.Calls.{startedRun}
 
 -- ---- the code file on standard input
@@ -34,20 +34,19 @@ announced bs = announcedBy (length bs) (u16At bs 2) (totalCount (contents bs 0 (
 abbrev pub fileIn : List ℕ → List ℕ
 fileIn input = take (announced (take (announced (take (announced []) input)) input)) input
 
--- document 01's 14 bytes as they come, with a frame behind them; 2,049 checks; a count of 8,193
-announced-examples :
-    map announced
-    ((3 ∷ 0 ∷ [])
-    ∷ (3 ∷ 0 ∷ 1 ∷ 0 ∷ [])
-    ∷ (3 ∷ 0 ∷ 1 ∷ 0 ∷ 0 ∷ 0 ∷ 3 ∷ 0 ∷ [])
-    ∷ (3 ∷ 0 ∷ 1 ∷ 0 ∷ 0 ∷ 0 ∷ 3 ∷ 0 ∷ 0 ∷ 0 ∷ 1 ∷ 0 ∷ 2 ∷ 0 ∷ [])
-    ∷ (3 ∷ 0 ∷ 1 ∷ 0 ∷ 0 ∷ 0 ∷ 3 ∷ 0 ∷ 0 ∷ 0 ∷ 1 ∷ 0 ∷ 2 ∷ 0 ∷ 160 ∷ 15 ∷ 160 ∷ 15 ∷ 48 ∷ 248 ∷ [])
-    ∷ (3 ∷ 0 ∷ 1 ∷ 8 ∷ 0 ∷ 0 ∷ 3 ∷ 0 ∷ [])
-    ∷ (3 ∷ 0 ∷ 1 ∷ 0 ∷ 0 ∷ 0 ∷ 1 ∷ 32 ∷ 0 ∷ 0 ∷ [])
-    ∷ [])
-    ≡ 4 ∷ 8 ∷ 14 ∷ 14 ∷ 14 ∷ 4 ∷ 8 ∷ []
+-- document 01's 14 bytes, with a frame behind them
+abbrev fileAndFrame : List ℕ
+fileAndFrame = 3 ∷ 0 ∷ 1 ∷ 0 ∷ 0 ∷ 0 ∷ 3 ∷ 0 ∷ 0 ∷ 0 ∷ 1 ∷ 0 ∷ 2 ∷ 0 ∷ 160 ∷ 15 ∷ 160 ∷ 15 ∷ 48 ∷ 248 ∷ []
+
+-- as they come
+announced-coming : map (λ have. announced (take have fileAndFrame)) (2 ∷ 4 ∷ 8 ∷ 14 ∷ 20 ∷ []) ≡ 4 ∷ 8 ∷ 14 ∷ 14 ∷ 14 ∷ []
 unfolding announced u16At contents totalCount
-announced-examples = refl
+announced-coming = refl
+
+-- 2,049 checks; a count of 8,193
+announced-large : map announced ((3 ∷ 0 ∷ 1 ∷ 8 ∷ 0 ∷ 0 ∷ 3 ∷ 0 ∷ []) ∷ (3 ∷ 0 ∷ 1 ∷ 0 ∷ 0 ∷ 0 ∷ 1 ∷ 32 ∷ 0 ∷ 0 ∷ []) ∷ []) ≡ 4 ∷ 8 ∷ []
+unfolding announced u16At contents totalCount
+announced-large = refl
 
 -- ---- a frame's line
 -- "After certified: rounds, agreement, cuts"
@@ -64,11 +63,14 @@ lineAt t l r (gives certified) =
     certifiedLine (r .progress .rounds) (agreement (t .bits) l (bitsOf (take (t .bits) (r .buffers .word)))) (u16At (r .buffers .certificate) 0)
 lineAt t l r (gives spent) = spentLine (r .progress .rounds)
 
+-- of what a call came to
+abbrev pub lineAfter : Table → List ℤ → Called → Line
+lineAfter t l d = lineAt t l (d .run) (d .answer)
+
 -- "each frame gets a fresh run of 1,024 rounds"
 abbrev pub lineBy : List ℕ → List ℤ → Answer Table → Line
 lineBy file l (refused k) = refusedLine k
-lineBy file l (gives t) =
-    lineAt t l (call file l roundLimit (startedRun file (blank (needs t))) .run) (call file l roundLimit (startedRun file (blank (needs t))) .answer)
+lineBy file l (gives t) = lineAfter t l (call file l roundLimit (startedRun file (blank (needs t))))
 
 unfoldable pub frameLine : List ℕ → List ℤ → Line
 frameLine file l = lineBy file l (codeFile file)

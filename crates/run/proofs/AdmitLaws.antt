@@ -15,12 +15,14 @@ use Rattle.rules.specs.Table.{Table, edgesOf, checksOf}
 use Rattle.rules.specs.CodeFile.{codeFile, tableValues}
 use Rattle.rules.specs.Input.{eachWithin, onFrame}
 use Rattle.rules.specs.Round.{State}
-use Rattle.rules.specs.Buffers.{Each, by-name, Lengths, needsBy, needs, fits, Part}
+use Rattle.rules.specs.Buffers.{Each, by-name, Lengths, needs, fits, Part}
 use Rattle.rules.specs.Run.{Progress, Run, isRunning, sound, stateIn, admits}
 use Rattle.rules.proofs.Basics.{and-both}
 use Rattle.rules.proofs.BufferLaws.{fits-part, part-fits}
 use Rattle.rules.proofs.AnswerLaws.{refused≢gives, gives-inj, must-gives, must-true, then-gives}
-use Rattle.table.specs.Loaded.{withRoom, laid, loaded}
+use Rattle.table.specs.Loaded.{withRoom, loadedAs, laid, loaded}
+use Rattle.table.specs.declared.Checked.the-variants.{Refused, Accepted}
+use Rattle.table.specs.Reply.{numbered}
 use Rattle.table.proofs.AnswerLaws.{and-holds}
 use Rattle.table.proofs.AcceptedLaws.{readable-table}
 use Rattle.table.proofs.LoadedLaws.{laid-reply}
@@ -28,7 +30,7 @@ use Rattle.inputs.specs.Refusals.{frameRefusal, orElse, turnedDown}
 use Rattle.inputs.proofs.RefusalLaws.{turned-refused, turned-none}
 use Rattle.inputs.proofs.InputLaws.{frame-law}
 use Rattle.cut.proofs.ReplyLaws.{each-all}
-use Rattle.run.specs.Admitted.{Sizes, sizesOf, endedRefusal, damagedRefusal, admitsBy, firstState, admissionBy, admission}
+use Rattle.run.specs.Admitted.{Sizes, sizesAs, sizesOf, needsOf, endedRefusal, damagedRefusal, admitsBy, firstState, admissionAs, admissionBy, admission}
 
 -- ---- 41
 module _ (a b : Lengths) where
@@ -47,36 +49,37 @@ pub turned-down : {A : Type 0} (j k : ℕ) (a : Answer A) → (k ≡ 0 → ⊥) 
 turned-down j k a h e = turned-refused k a h ∙ ap (λ x. turnedDown x a) e
 
 -- ---- each answer on an accepted code file
-module _ (z : Sizes) (l : List ℤ) (wanted : ℕ) (lent : Lengths) (p : Progress) (s : State) where
-  -- with these answers to the tests
-  answered : ℕ → Bool → Bool → Bool → Bool → Answer Sizes
-  answered k asked room runs sounds = turnedDown k (must asked askedTooMuch (must room bufferShort (must runs runEnded (must sounds runDamaged (gives z)))))
+-- 8 or 9 as k, then 17, 41, 42 and 43 by their tests
+abbrev tested : {A : Type 0} → ℕ → Bool → Bool → Bool → Bool → A → Answer A
+tested k asked room runs sounds a = turnedDown k (must asked askedTooMuch (must room bufferShort (must runs runEnded (must sounds runDamaged (gives a)))))
 
-  answered-is : (k : ℕ) (asked room runs sounds : Bool) → frameRefusal (z .bits) l ≡ k → leb wanted roundLimit ≡ asked → fits (needsBy (z .bits) (z .checks) (z .edges)) lent ≡ room
-      → isRunning (p .status) ≡ runs → sound (p .rounds) s ≡ sounds → answered k asked room runs sounds ≡ admitsBy z l wanted lent p s
+module _ (z : Sizes) (l : List ℤ) (wanted : ℕ) (lent : Lengths) (p : Progress) (s : State) where
+  -- with these answers to the tests of what is handed in
+  answered : ℕ → Bool → Bool → Answer Sizes
+  answered k asked room = tested k asked room (isRunning (p .status)) (sound (p .rounds) s) z
+
+  answered-is : (k : ℕ) (asked room : Bool) → frameRefusal (z .bits) l ≡ k → leb wanted roundLimit ≡ asked → fits (needsOf z) lent ≡ room → answered k asked room ≡ admitsBy z l wanted lent p s
   unfolding admitsBy answered
-  answered-is k asked room runs sounds e f g h i =
-      let size = fits (needsBy (z .bits) (z .checks) (z .edges)) lent in
-      sym (ap₂ (λ x y. answered x y size (isRunning (p .status)) (sound (p .rounds) s)) e f ∙ ap₂ (λ x y. answered k asked x y (sound (p .rounds) s)) g h ∙ ap (answered k asked room runs) i)
+  answered-is k asked room e f g = sym (ap₂ (λ x y. answered x y (fits (needsOf z) lent)) e f ∙ ap (answered k asked) g)
 
   module _ (framed : frameRefusal (z .bits) l ≡ 0) where
     pub answers-asked : leb wanted roundLimit ≡ false → refused askedTooMuch ≡ admitsBy z l wanted lent p s
     unfolding answered turnedDown must
-    answers-asked f = answered-is 0 false _ _ _ framed f refl refl refl
+    answers-asked f = answered-is 0 false _ framed f refl
 
     module _ (asked : leb wanted roundLimit ≡ true) where
-      pub answers-short : fits (needsBy (z .bits) (z .checks) (z .edges)) lent ≡ false → refused bufferShort ≡ admitsBy z l wanted lent p s
+      pub answers-short : fits (needsOf z) lent ≡ false → refused bufferShort ≡ admitsBy z l wanted lent p s
       unfolding answered turnedDown must
-      answers-short g = answered-is 0 true false _ _ framed asked g refl refl
+      answers-short g = answered-is 0 true false framed asked g
 
-      module _ (room : fits (needsBy (z .bits) (z .checks) (z .edges)) lent ≡ true) where
+      module _ (room : fits (needsOf z) lent ≡ true) where
         -- 42, then 43: k is the first of them
         module _ (k : ℕ) (first : k ≡ orElse (endedRefusal (p .status)) (damagedRefusal (p .rounds) s)) where
           pub answers-standing : turnedDown k (gives z) ≡ admitsBy z l wanted lent p s
           unfolding answered turnedDown must
-          answers-standing = ap (λ x. turnedDown x (gives z)) first ∙ go (isRunning (p .status)) (sound (p .rounds) s) ∙ answered-is 0 true true _ _ framed asked room refl refl
+          answers-standing = ap (λ x. turnedDown x (gives z)) first ∙ go (isRunning (p .status)) (sound (p .rounds) s) ∙ answered-is 0 true true framed asked room
             where
-              go : (runs sounds : Bool) → turnedDown (orElse (cond runs 0 runEnded) (cond sounds 0 runDamaged)) (gives z) ≡ answered 0 true true runs sounds
+              go : (runs sounds : Bool) → turnedDown (orElse (cond runs 0 runEnded) (cond sounds 0 runDamaged)) (gives z) ≡ tested 0 true true runs sounds z
               go false sounds = refl
               go true false = refl
               go true true = refl
@@ -116,12 +119,12 @@ module _ (file s ms : List ℕ) where
     admission-room l wanted lent p z y = ap (λ a. admissionBy a l wanted lent p z y s ms) (enough (codeFile file) refl)
 
 -- q the load's reply, s′ and ms′ what it left
-module _ (file s ms : List ℕ) (q : Reply) (s′ ms′ : List ℕ) (h : record { reply = q; starts = s′; members = ms′ } ≡ loaded file s ms) where
-  laid-is : record { reply = q; starts = s′; members = ms′ } ≡ laid (roomy file s ms) s ms
+module _ (file s ms : List ℕ) (q : Reply) (s′ ms′ : List ℕ) (h : loadedAs q s′ ms′ ≡ loaded file s ms) where
+  laid-is : loadedAs q s′ ms′ ≡ laid (roomy file s ms) s ms
   unfolding loaded
   laid-is = h
 
-  pub checks-few : (n m e : ℕ) → q ≡ record { number = 0; values = pos n ∷ pos m ∷ pos e ∷ [] } → m ≤ maxChecks
+  pub checks-few : (n m e : ℕ) → q ≡ numbered (Accepted n m e) → m ≤ maxChecks
   unfolding replyOf
   checks-few n m e g = go (roomy file s ms) refl (ap (λ r. r .values) (sym g ∙ ap (λ r. r .reply) laid-is ∙ laid-reply (roomy file s ms) s ms))
     where
@@ -130,12 +133,11 @@ module _ (file s ms : List ℕ) (q : Reply) (s′ ms′ : List ℕ) (h : record 
       go (gives t) f v = readable-table file n m e t (roomy-file file s ms t f) (cc) (cc) (cc) .many
 
   module _ (l : List ℤ) (wanted : ℕ) (lent : Lengths) (p : Progress) (z y : List ℤ) where
-    pub admission-refused : (k : ℕ) → q ≡ record { number = k; values = [] }
-        → record { answer = refused k; starts = s′; members = ms′ } ≡ admission file l wanted lent p z y s ms
+    pub admission-refused : (k : ℕ) → q ≡ numbered (Refused k) → admissionAs (refused k) s′ ms′ ≡ admission file l wanted lent p z y s ms
     unfolding laid replyOf admission
     admission-refused k g = go (roomy file s ms) laid-is
       where
-        go : (b : Answer Table) → record { reply = q; starts = s′; members = ms′ } ≡ laid b s ms → record { answer = refused k; starts = s′; members = ms′ } ≡ admissionBy b l wanted lent p z y s ms
+        go : (b : Answer Table) → loadedAs q s′ ms′ ≡ laid b s ms → admissionAs (refused k) s′ ms′ ≡ admissionBy b l wanted lent p z y s ms
         go (refused x) f =
             let number : k ≡ x = ap (λ r. r .number) (sym g ∙ ap (λ r. r .reply) f) in
             let starts : s′ ≡ s = ap (λ r. r .starts) f in
@@ -143,28 +145,25 @@ module _ (file s ms : List ℕ) (q : Reply) (s′ ms′ : List ℕ) (h : record 
             cc
         go (gives t) f = absurd (let z : _≡_ {A = ℕ} 0 1 = cc (ap (λ r. r .values) (sym g ∙ ap (λ r. r .reply) f)) in omega arith)
 
-    pub admission-sized : (n m e : ℕ) → q ≡ record { number = 0; values = pos n ∷ pos m ∷ pos e ∷ [] }
-        → (a : Answer Sizes) → a ≡ admitsBy (record { bits = n; checks = m; edges = e }) l wanted lent p (firstState e z y)
-        → record { answer = a; starts = s′; members = ms′ } ≡ admission file l wanted lent p z y s ms
-    unfolding laid replyOf admission
-    admission-sized n m e g a w = go (roomy file s ms) laid-is
-      where
-        go : (b : Answer Table) → record { reply = q; starts = s′; members = ms′ } ≡ laid b s ms → record { answer = a; starts = s′; members = ms′ } ≡ admissionBy b l wanted lent p z y s ms
-        go (refused x) f = absurd (let z : _≡_ {A = ℕ} 0 1 = cc (ap (λ r. r .values) (sym g ∙ ap (λ r. r .reply) f)) in omega arith)
-        go (gives t) f =
-            let values : pos n ∷ pos m ∷ pos e ∷ [] ≡ tableValues t = ap (λ r. r .values) (sym g ∙ ap (λ r. r .reply) f) in
-            let bits : n ≡ t .bits = cc in
-            let checks : m ≡ checksOf t = cc in
-            let edges : e ≡ edgesOf t = cc in
-            let starts = ap (λ r. r .starts) f in
-            let members = ap (λ r. r .members) f in
-            cc
+    module _ (n m e : ℕ) (g : q ≡ numbered (Accepted n m e)) where
+      pub admission-sized : (a : Answer Sizes) → a ≡ admitsBy (sizesAs n m e) l wanted lent p (firstState e z y) → admissionAs a s′ ms′ ≡ admission file l wanted lent p z y s ms
+      unfolding laid replyOf admission
+      admission-sized a w = go (roomy file s ms) laid-is
+        where
+          go : (b : Answer Table) → loadedAs q s′ ms′ ≡ laid b s ms → admissionAs a s′ ms′ ≡ admissionBy b l wanted lent p z y s ms
+          go (refused x) f = absurd (let z : _≡_ {A = ℕ} 0 1 = cc (ap (λ r. r .values) (sym g ∙ ap (λ r. r .reply) f)) in omega arith)
+          go (gives t) f =
+              let values : pos n ∷ pos m ∷ pos e ∷ [] ≡ tableValues t = ap (λ r. r .values) (sym g ∙ ap (λ r. r .reply) f) in
+              let bits : n ≡ t .bits = cc in
+              let checks : m ≡ checksOf t = cc in
+              let edges : e ≡ edgesOf t = cc in
+              let starts = ap (λ r. r .starts) f in
+              let members = ap (λ r. r .members) f in
+              cc
 
 -- ---- rules' own tests
 module _ (z : Sizes) where
-  then-must : (k : ℕ) (a b c d : Bool)
-      → then (turnedDown k (must a askedTooMuch (must b bufferShort (must c runEnded (must d runDamaged (gives (tt {0}))))))) (λ u. gives z)
-      ≡ turnedDown k (must a askedTooMuch (must b bufferShort (must c runEnded (must d runDamaged (gives z)))))
+  then-must : (k : ℕ) (a b c d : Bool) → then (tested k a b c d (tt {0})) (λ u. gives z) ≡ tested k a b c d z
   unfolding then turnedDown must
   then-must (suc k) a b c d = refl
   then-must zero false b c d = refl

@@ -1,4 +1,5 @@
 -- The refusals of a call for rounds in the code's own numbers, and what admitting a call leaves. Definitions only. Assumes nothing.
+use mathlib.Core.Path.{_≡_}
 use mathlib.Core.Bool.{cond}
 use mathlib.Core.List.{List}
 use Prim.Native.Nat.{ℕ}
@@ -15,6 +16,7 @@ use Rattle.rules.specs.CodeFile.{codeFile}
 use Rattle.table.specs.Starts.{startsOf}
 use Rattle.table.specs.Loaded.{withRoom}
 use Rattle.inputs.specs.Refusals.{frameRefusal, turnedDown}
+use Rattle.run.specs.Slices.{Slice, came, left}
 use Rattle.run.specs.declared.Lent.{Lent}
 use Rattle.run.specs.declared.Admitted.{Admitted}
 use Rattle.run.specs.declared.Admitted.the-variants.{Refused, Sized}
@@ -45,12 +47,19 @@ pub record Sizes : Type 0 where
   pub checks : ℕ
   pub edges : ℕ
 
+abbrev pub sizesAs : ℕ → ℕ → ℕ → Sizes
+sizesAs n m e = record { bits = n; checks = m; edges = e }
+
 abbrev pub sizesOf : Table → Sizes
-sizesOf t = record { bits = t .bits; checks = checksOf t; edges = edgesOf t }
+sizesOf t = sizesAs (t .bits) (checksOf t) (edgesOf t)
+
+-- the lengths that are needed
+abbrev pub needsOf : Sizes → Lengths
+needsOf z = needsBy (z .bits) (z .checks) (z .edges)
 
 abbrev pub admittedOf : Admitted → Answer Sizes
 admittedOf (Refused k) = refused k
-admittedOf (Sized n m e) = gives (record { bits = n; checks = m; edges = e })
+admittedOf (Sized n m e) = gives (sizesAs n m e)
 
 -- 42 and 43 by their numbers, 0 for none
 abbrev pub endedRefusal : Status → ℕ
@@ -64,7 +73,7 @@ unfoldable pub admitsBy : Sizes → List ℤ → ℕ → Lengths → Progress �
 admitsBy z l wanted lent p s =
     turnedDown (frameRefusal (z .bits) l)
     (must (leb wanted roundLimit) askedTooMuch
-    (must (fits (needsBy (z .bits) (z .checks) (z .edges)) lent) bufferShort
+    (must (fits (needsOf z) lent) bufferShort
     (must (isRunning (p .status)) runEnded
     (must (sound (p .rounds) s) runDamaged
     (gives z)))))
@@ -73,15 +82,22 @@ admitsBy z l wanted lent p s =
 abbrev pub firstState : ℕ → List ℤ → List ℤ → State
 firstState e z y = record { copies = take e z; offsets = take e y }
 
+-- the same of a call that tells what it lends
+abbrev pub admitsLent : Sizes → List ℤ → ℕ → Lent → Progress → List ℤ → List ℤ → Answer Sizes
+admitsLent s l wanted lent p z y = admitsBy s l wanted (lentOf lent z y) p (firstState (s .edges) z y)
+
 -- the answer, and what is left in starts and members
 pub record Admission : Type 0 where
   pub answer : Answer Sizes
   pub starts : List ℕ
   pub members : List ℕ
 
+abbrev pub admissionAs : Answer Sizes → List ℕ → List ℕ → Admission
+admissionAs a ss ms = record { answer = a; starts = ss; members = ms }
+
 -- of a table that was accepted, starts and members are written whatever is refused after it
 abbrev pub admissionBy : Answer Table → List ℤ → ℕ → Lengths → Progress → List ℤ → List ℤ → List ℕ → List ℕ → Admission
-admissionBy (refused k) l wanted lent p z y ss ms = record { answer = refused k; starts = ss; members = ms }
+admissionBy (refused k) l wanted lent p z y ss ms = admissionAs (refused k) ss ms
 admissionBy (gives t) l wanted lent p z y ss ms = record {
   answer = admitsBy (sizesOf t) l wanted lent p (firstState (edgesOf t) z y);
   starts = over (startsOf 0 (t .checks)) ss;
@@ -95,3 +111,7 @@ admission file l wanted lent p z y ss ms = admissionBy (then (codeFile file) (wi
 -- the same of a call that tells what it lends
 abbrev pub admissionLent : List ℕ → List ℤ → ℕ → Lent → Progress → List ℤ → List ℤ → List ℕ → List ℕ → Admission
 admissionLent file l wanted lent p z y ss ms = admission file l wanted (lentOf lent z y) p z y ss ms
+
+-- f makes the answer, and what is left in the two slices, of what came in them
+abbrev pub AdmitBecomes : (List ℕ → List ℕ → Admission) → Admitted → Slice ℕ → Slice ℕ → Type 0
+AdmitBecomes f r ss ms = admissionAs (admittedOf r) (left ss) (left ms) ≡ f (came ss) (came ms)

@@ -1,3 +1,4 @@
 pub mod Reply
+pub mod Slices
 pub mod Admitted
 pub mod Ending

@@ -15,7 +15,7 @@ ghost use Rattle.rules.specs.Limits.{maxChecks};
 ghost use Rattle.rules.specs.Buffers.{startLent, needsBy, fits};
 ghost use Rattle.rules.specs.Run as rule;
 ghost use Rattle.run.specs.Reply.{progressOf, startedOf};
-ghost use Rattle.run.specs.Admitted.{lentOf, admittedOf, admissionLent};
+ghost use Rattle.run.specs.Admitted.{lentOf, admissionLent, AdmitBecomes};
 
 // "whether the run is running, certified or spent"
 pub enum Status {
@@ -150,8 +150,7 @@ pub fn admit(
     starts: &mut [u16],
     members: &mut [u16],
 ) -> Admitted
-    ensures { λ r. ⌜ (record { answer = admittedOf r; starts = now (starts .exit); members = now (members .exit) })
-        ≡ admissionLent (now (code .entry)) (now (frame .entry)) wanted lent (progressOf run) (now (copies .entry)) (now (offsets .entry)) (now (starts .entry)) (now (members .entry)) ⌝ }
+    ensures { λ r. ⌜ AdmitBecomes (admissionLent (now (code .entry)) (now (frame .entry)) wanted lent (progressOf run) (now (copies .entry)) (now (offsets .entry))) r starts members ⌝ }
 {
     let answer = table::load(code, starts, members);
     match answer {

@@ -14,7 +14,7 @@ ghost use Prim.Native.Nat.{_≤_};
 ghost use Rattle.rules.specs.Limits.{maxChecks};
 ghost use Rattle.inputs.specs.Refusals.{orElse};
 ghost use Rattle.run.specs.Reply.{statusOf, progressOf};
-ghost use Rattle.run.specs.Admitted.{lentOf, admittedOf, endedRefusal, damagedRefusal, admitsBy, firstState};
+ghost use Rattle.run.specs.Admitted.{sizesAs, admittedOf, endedRefusal, damagedRefusal, admitsLent};
 
 // 42 of a run that is certified or spent, or 0.
 pub(crate) fn ended_refusal(status: Status) -> u8
@@ -60,8 +60,7 @@ pub(crate) fn admit_sized(
     edges: usize,
 ) -> Admitted
     requires { ⌜ checks ≤ maxChecks ⌝ }
-    ensures { λ r. ⌜ admittedOf r ≡ admitsBy (record { bits = bits; checks = checks; edges = edges }) (now (frame .entry)) wanted (lentOf lent (now (copies .entry)) (now (offsets .entry)))
-        (progressOf run) (firstState edges (now (copies .entry)) (now (offsets .entry))) ⌝ }
+    ensures { λ r. ⌜ admittedOf r ≡ admitsLent (sizesAs bits checks edges) (now (frame .entry)) wanted lent (progressOf run) (now (copies .entry)) (now (offsets .entry)) ⌝ }
 {
     let k = inputs::frame(frame, bits);
     if k != 0 {

@@ -9,20 +9,24 @@ use lib.Dec.{leb, ltb}
 use borrow.Author.Tests.{lt-ltb, le-ltb, le-leb, lt-leb}
 use Rattle.integers.specs.Count.{left-more}
 use Rattle.rules.specs.Bytes.{u16At}
-use Rattle.rules.specs.CodeFile.{Content, contentAt, contents, numbersAt, bodies, ascends, membersRight}
-use Rattle.table.proofs.ContentsLaws.{contents-more, contents-end}
+use Rattle.rules.specs.CodeFile.{Content, contentAt, numbersAt, bodies, ascends, membersRight}
+use Rattle.table.proofs.ContentsLaws.{contentsFrom, contents-more, contents-end}
 
 -- ---- numbers from a byte on
+-- those of d numbers that are left from number k on
+abbrev pub numbersFrom : List ℕ → ℕ → ℕ → ℕ → List ℕ
+numbersFrom file at d k = numbersAt file (at + 2 * k) (d - k)
+
 module _ (file : List ℕ) (at d k : ℕ) where
-  pub numbers-more : k < d → numbersAt file (at + 2 * k) (d - k) ≡ u16At file (at + 2 * k) ∷ numbersAt file (at + 2 * (k + 1)) (d - (k + 1))
+  pub numbers-more : k < d → numbersFrom file at d k ≡ u16At file (at + 2 * k) ∷ numbersFrom file at d (k + 1)
   unfolding numbersAt
   numbers-more h = ap (numbersAt file (at + 2 * k)) (left-more k d h) ∙ ap (λ a. u16At file (at + 2 * k) ∷ numbersAt file a (d - (k + 1))) (omega arith)
 
-  pub numbers-end : d ≤ k → numbersAt file (at + 2 * k) (d - k) ≡ []
+  pub numbers-end : d ≤ k → numbersFrom file at d k ≡ []
   unfolding numbersAt
   numbers-end h = ap (numbersAt file (at + 2 * k)) (sub-eq-zero-of-le h)
 
-pub numbers-all : (file : List ℕ) (at d : ℕ) → numbersAt file (at + 2 * 0) (d - 0) ≡ numbersAt file at d
+pub numbers-all : (file : List ℕ) (at d : ℕ) → numbersFrom file at d 0 ≡ numbersAt file at d
 numbers-all file at d = ap₂ (numbersAt file) (omega arith) (omega arith)
 
 -- ---- strictly ascending
@@ -31,19 +35,19 @@ unfolding ascends
 ascends-cons n least x xs = refl
 
 module _ (file : List ℕ) (at d k n least x : ℕ) (h : k < d) (e : x ≡ u16At file (at + 2 * k)) where
-  ascends-at : ascends n least (numbersAt file (at + 2 * k) (d - k)) ≡ ((leb least x && ltb x n) && ascends n (x + 1) (numbersAt file (at + 2 * (k + 1)) (d - (k + 1))))
-  ascends-at = ap (ascends n least) (numbers-more file at d k h) ∙ ascends-cons n least (u16At file (at + 2 * k)) (numbersAt file (at + 2 * (k + 1)) (d - (k + 1))) ∙ rw e refl
+  ascends-at : ascends n least (numbersFrom file at d k) ≡ ((leb least x && ltb x n) && ascends n (x + 1) (numbersFrom file at d (k + 1)))
+  ascends-at = ap (ascends n least) (numbers-more file at d k h) ∙ ascends-cons n least (u16At file (at + 2 * k)) (numbersFrom file at d (k + 1)) ∙ rw e refl
 
-  pub ascends-low : x < least → ascends n least (numbersAt file (at + 2 * k) (d - k)) ≡ false
+  pub ascends-low : x < least → ascends n least (numbersFrom file at d k) ≡ false
   ascends-low t = ascends-at ∙ simp (lt-leb least x t)
 
-  pub ascends-high : least ≤ x → n ≤ x → ascends n least (numbersAt file (at + 2 * k) (d - k)) ≡ false
+  pub ascends-high : least ≤ x → n ≤ x → ascends n least (numbersFrom file at d k) ≡ false
   ascends-high s t = ascends-at ∙ simp (le-leb least x s, le-ltb x n t)
 
-  pub ascends-more : least ≤ x → x < n → ascends n least (numbersAt file (at + 2 * k) (d - k)) ≡ ascends n (x + 1) (numbersAt file (at + 2 * (k + 1)) (d - (k + 1)))
+  pub ascends-more : least ≤ x → x < n → ascends n least (numbersFrom file at d k) ≡ ascends n (x + 1) (numbersFrom file at d (k + 1))
   ascends-more s t = ascends-at ∙ simp (le-leb least x s, lt-ltb x n t)
 
-pub ascends-end : (file : List ℕ) (at d k n least : ℕ) → d ≤ k → ascends n least (numbersAt file (at + 2 * k) (d - k)) ≡ true
+pub ascends-end : (file : List ℕ) (at d k n least : ℕ) → d ≤ k → ascends n least (numbersFrom file at d k) ≡ true
 unfolding ascends
 ascends-end file at d k n least h = ap (ascends n least) (numbers-end file at d k h)
 
@@ -52,22 +56,26 @@ bodies-cons : (file : List ℕ) (a : ℕ) (e : Content) (es : List Content) → 
 unfolding bodies
 bodies-cons file a e es = refl
 
-pub bodies-more : (file : List ℕ) (m j a d : ℕ) → j < m → d ≡ u16At file (6 + 4 * j)
-    → bodies file a (contents file j (m - j)) ≡ numbersAt file a d ∷ bodies file (a + 2 * d) (contents file (j + 1) (m - (j + 1)))
-bodies-more file m j a d h e = ap (bodies file a) (contents-more file m j h) ∙ bodies-cons file a (contentAt file j) (contents file (j + 1) (m - (j + 1))) ∙ rw e refl
-
-pub bodies-end : (file : List ℕ) (m j a : ℕ) → m ≤ j → bodies file a (contents file j (m - j)) ≡ []
-unfolding bodies
-bodies-end file m j a h = ap (bodies file a) (contents-end file m j h)
-
 members-cons : (n : ℕ) (ms : List ℕ) (cs : List (List ℕ)) → membersRight n (ms ∷ cs) ≡ (ascends n 0 ms && membersRight n cs)
 unfolding membersRight
 members-cons n ms cs = refl
 
-pub members-more : (file : List ℕ) (m j a n d : ℕ) → j < m → d ≡ u16At file (6 + 4 * j)
-    → membersRight n (bodies file a (contents file j (m - j))) ≡ (ascends n 0 (numbersAt file a d) && membersRight n (bodies file (a + 2 * d) (contents file (j + 1) (m - (j + 1)))))
-members-more file m j a n d h e = ap (membersRight n) (bodies-more file m j a d h e) ∙ members-cons n (numbersAt file a d) (bodies file (a + 2 * d) (contents file (j + 1) (m - (j + 1))))
+-- the bodies at byte a of the checks that are left from check j on
+abbrev pub bodiesFrom : List ℕ → ℕ → ℕ → ℕ → List (List ℕ)
+bodiesFrom file m j a = bodies file a (contentsFrom file m j)
 
-pub members-end : (file : List ℕ) (m j a n : ℕ) → m ≤ j → membersRight n (bodies file a (contents file j (m - j))) ≡ true
-unfolding membersRight
-members-end file m j a n h = ap (membersRight n) (bodies-end file m j a h)
+module _ (file : List ℕ) (m j a : ℕ) where
+  module _ (d : ℕ) (h : j < m) (e : d ≡ u16At file (6 + 4 * j)) where
+    pub bodies-more : bodiesFrom file m j a ≡ numbersAt file a d ∷ bodiesFrom file m (j + 1) (a + 2 * d)
+    bodies-more = ap (bodies file a) (contents-more file m j h) ∙ bodies-cons file a (contentAt file j) (contentsFrom file m (j + 1)) ∙ rw e refl
+
+    pub members-more : (n : ℕ) → membersRight n (bodiesFrom file m j a) ≡ (ascends n 0 (numbersAt file a d) && membersRight n (bodiesFrom file m (j + 1) (a + 2 * d)))
+    members-more n = ap (membersRight n) bodies-more ∙ members-cons n (numbersAt file a d) (bodiesFrom file m (j + 1) (a + 2 * d))
+
+  pub bodies-end : m ≤ j → bodiesFrom file m j a ≡ []
+  unfolding bodies
+  bodies-end h = ap (bodies file a) (contents-end file m j h)
+
+  pub members-end : (n : ℕ) → m ≤ j → membersRight n (bodiesFrom file m j a) ≡ true
+  unfolding membersRight
+  members-end n h = ap (membersRight n) (bodies-end h)

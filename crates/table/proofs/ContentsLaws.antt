@@ -11,49 +11,52 @@ use Rattle.rules.specs.Limits.{minDegree, maxDegree}
 use Rattle.rules.specs.Bytes.{u16At}
 use Rattle.rules.specs.CodeFile.{Content, contentAt, inRange, contents, countsRight, startsRight, totalCount}
 
-module _ (file : List ℕ) (m j : ℕ) where
-  pub contents-more : j < m → contents file j (m - j) ≡ contentAt file j ∷ contents file (j + 1) (m - (j + 1))
-  unfolding contents
-  contents-more h = ap (contents file j) (left-more j m h)
+-- what is left from entry j on
+abbrev pub contentsFrom : List ℕ → ℕ → ℕ → List Content
+contentsFrom file m j = contents file j (m - j)
 
-  pub contents-end : m ≤ j → contents file j (m - j) ≡ []
-  unfolding contents
-  contents-end h = ap (contents file j) (sub-eq-zero-of-le h)
-
-pub contents-all : (file : List ℕ) (m : ℕ) → contents file 0 (m - 0) ≡ contents file 0 m
+pub contents-all : (file : List ℕ) (m : ℕ) → contentsFrom file m 0 ≡ contents file 0 m
 contents-all file m = ap (contents file 0) (omega arith)
 
--- ---- counts
 counts-cons : (e : Content) (es : List Content) → countsRight (e ∷ es) ≡ (inRange minDegree maxDegree (e .count) && countsRight es)
 unfolding countsRight
 counts-cons e es = refl
 
-pub counts-more : (file : List ℕ) (m j d : ℕ) → j < m → d ≡ u16At file (6 + 4 * j)
-    → countsRight (contents file j (m - j)) ≡ (inRange minDegree maxDegree d && countsRight (contents file (j + 1) (m - (j + 1))))
-counts-more file m j d h e = ap countsRight (contents-more file m j h) ∙ counts-cons (contentAt file j) (contents file (j + 1) (m - (j + 1))) ∙ rw e refl
-
-pub counts-end : (file : List ℕ) (m j : ℕ) → m ≤ j → countsRight (contents file j (m - j)) ≡ true
-unfolding countsRight
-counts-end file m j h = ap countsRight (contents-end file m j h)
-
--- ---- starts
 starts-cons : (s : ℕ) (e : Content) (es : List Content) → startsRight s (e ∷ es) ≡ (eqb (e .start) s && startsRight (s + e .count) es)
 unfolding startsRight
 starts-cons s e es = refl
 
-pub starts-more : (file : List ℕ) (m j s x d : ℕ) → j < m → x ≡ u16At file (4 + 4 * j) → d ≡ u16At file (6 + 4 * j)
-    → startsRight s (contents file j (m - j)) ≡ (eqb x s && startsRight (s + d) (contents file (j + 1) (m - (j + 1))))
-starts-more file m j s x d h e f = ap (startsRight s) (contents-more file m j h) ∙ starts-cons s (contentAt file j) (contents file (j + 1) (m - (j + 1))) ∙ rw (e, f) refl
+module _ (file : List ℕ) (m j : ℕ) where
+  pub contents-more : j < m → contentsFrom file m j ≡ contentAt file j ∷ contentsFrom file m (j + 1)
+  unfolding contents
+  contents-more h = ap (contents file j) (left-more j m h)
 
-pub starts-end : (file : List ℕ) (m j s : ℕ) → m ≤ j → startsRight s (contents file j (m - j)) ≡ true
-unfolding startsRight
-starts-end file m j s h = ap (startsRight s) (contents-end file m j h)
+  pub contents-end : m ≤ j → contentsFrom file m j ≡ []
+  unfolding contents
+  contents-end h = ap (contents file j) (sub-eq-zero-of-le h)
 
--- ---- the sum of counts
-pub total-more : (file : List ℕ) (m j : ℕ) → j < m → totalCount (contents file j (m - j)) ≡ u16At file (6 + 4 * j) + totalCount (contents file (j + 1) (m - (j + 1)))
-unfolding totalCount
-total-more file m j h = ap totalCount (contents-more file m j h)
+  -- ---- counts
+  pub counts-more : (d : ℕ) → j < m → d ≡ u16At file (6 + 4 * j) → countsRight (contentsFrom file m j) ≡ (inRange minDegree maxDegree d && countsRight (contentsFrom file m (j + 1)))
+  counts-more d h e = ap countsRight (contents-more h) ∙ counts-cons (contentAt file j) (contentsFrom file m (j + 1)) ∙ rw e refl
 
-pub total-end : (file : List ℕ) (m j : ℕ) → m ≤ j → totalCount (contents file j (m - j)) ≡ 0
-unfolding totalCount
-total-end file m j h = ap totalCount (contents-end file m j h)
+  pub counts-end : m ≤ j → countsRight (contentsFrom file m j) ≡ true
+  unfolding countsRight
+  counts-end h = ap countsRight (contents-end h)
+
+  -- ---- starts
+  pub starts-more : (s x d : ℕ) → j < m → x ≡ u16At file (4 + 4 * j) → d ≡ u16At file (6 + 4 * j)
+      → startsRight s (contentsFrom file m j) ≡ (eqb x s && startsRight (s + d) (contentsFrom file m (j + 1)))
+  starts-more s x d h e f = ap (startsRight s) (contents-more h) ∙ starts-cons s (contentAt file j) (contentsFrom file m (j + 1)) ∙ rw (e, f) refl
+
+  pub starts-end : (s : ℕ) → m ≤ j → startsRight s (contentsFrom file m j) ≡ true
+  unfolding startsRight
+  starts-end s h = ap (startsRight s) (contents-end h)
+
+  -- ---- the sum of counts
+  pub total-more : j < m → totalCount (contentsFrom file m j) ≡ u16At file (6 + 4 * j) + totalCount (contentsFrom file m (j + 1))
+  unfolding totalCount
+  total-more h = ap totalCount (contents-more h)
+
+  pub total-end : m ≤ j → totalCount (contentsFrom file m j) ≡ 0
+  unfolding totalCount
+  total-end h = ap totalCount (contents-end h)

@@ -14,7 +14,7 @@ use Rattle.rules.specs.Limits.{maxBits, maxBitDegree}
 use Rattle.rules.specs.Bytes.{u16At}
 use Rattle.rules.specs.Table.{degreeOf}
 use Rattle.rules.specs.CodeFile.{inRange, numbersAt, bitsRight}
-use Rattle.table.proofs.BodiesLaws.{numbers-more, numbers-end, numbers-all}
+use Rattle.table.proofs.BodiesLaws.{numbersFrom, numbers-more, numbers-end, numbers-all}
 use Rattle.rules.proofs.FileLaws.{numbers-length}
 
 -- ---- counting
@@ -58,17 +58,17 @@ module _ (l new rest all : List ℕ) (x : ℕ) (h : Counted l (x ∷ rest) all) 
   pub counted-skip : maxBits ≤ x → new ≡ l → Counted new rest all
   counted-skip hx e = (ap length e ∙ h .0, λ i hi. ap (λ n. getD n i 0 + degreeOf i rest) e ∙ tally-skip l x all rest (h .1) i hi hx)
 
-pub counted-at : (l file all : List ℕ) (at e k x : ℕ) → k < e → x ≡ u16At file (at + 2 * k) → Counted l (numbersAt file (at + 2 * k) (e - k)) all
-    → Counted l (x ∷ numbersAt file (at + 2 * (k + 1)) (e - (k + 1))) all
+pub counted-at : (l file all : List ℕ) (at e k x : ℕ) → k < e → x ≡ u16At file (at + 2 * k) → Counted l (numbersFrom file at e k) all
+    → Counted l (x ∷ numbersFrom file at e (k + 1)) all
 counted-at l file all at e k x h q p =
-    let rest = numbersAt file (at + 2 * (k + 1)) (e - (k + 1)) in
-    let same : numbersAt file (at + 2 * k) (e - k) ≡ x ∷ rest = numbers-more file at e k h ∙ ap (λ y. y ∷ rest) (sym q) in
+    let rest = numbersFrom file at e (k + 1) in
+    let same : numbersFrom file at e k ≡ x ∷ rest = numbers-more file at e k h ∙ ap (λ y. y ∷ rest) (sym q) in
     (p .0, λ i hi. ap (λ ms. getD l i 0 + degreeOf i ms) (sym same) ∙ p .1 i hi)
 
-pub counted-none : (file : List ℕ) (at e : ℕ) → Counted (replicate maxBits 0) (numbersAt file (at + 2 * 0) (e - 0)) (numbersAt file at e)
+pub counted-none : (file : List ℕ) (at e : ℕ) → Counted (replicate maxBits 0) (numbersFrom file at e 0) (numbersAt file at e)
 counted-none file at e = (refl, λ i h. omega (arith, getD-replicate {A = ℕ} maxBits i 0 0 h, ap (degreeOf i) (numbers-all file at e)))
 
-pub counted-end : (l file all : List ℕ) (at e k : ℕ) → e ≤ k → Counted l (numbersAt file (at + 2 * k) (e - k)) all → (i : ℕ) → i < maxBits → getD l i 0 ≡ degreeOf i all
+pub counted-end : (l file all : List ℕ) (at e k : ℕ) → e ≤ k → Counted l (numbersFrom file at e k) all → (i : ℕ) → i < maxBits → getD l i 0 ≡ degreeOf i all
 counted-end l file all at e k h p i hi = omega (arith, p .1 i hi, ap (degreeOf i) (numbers-end file at e k h))
 
 -- ---- the test

@@ -21,7 +21,7 @@ use Rattle.table.specs.declared.Checked.{Checked}
 use Rattle.table.specs.declared.Checked.the-variants.{Refused, Accepted}
 use Rattle.table.specs.Reply.{numbered}
 use Rattle.table.specs.Starts.{startsOf}
-use Rattle.table.specs.Loaded.{laid, loaded}
+use Rattle.table.specs.Loaded.{loadedAs, laid, loaded}
 use Rattle.table.specs.Layout.{checksFrom, Holds, edgesBefore, degreeAt, partAt, Start, Part, Opened}
 use Rattle.table.proofs.StartsLaws.{starts-length, starts-first, starts-next, check-part}
 use Rattle.table.proofs.AcceptedLaws.{readable, refused-is}
@@ -178,7 +178,7 @@ module _ {file : List ℕ} {n m e : ℕ} {ss ms : List ℕ} (o : Opened file n m
   )
 
 -- ---- what a load answers and leaves
-module _ (file s₀ ms₀ : List ℕ) (r : Checked) {s ms : List ℕ} (e : record { reply = numbered r; starts = s; members = ms } ≡ loaded file s₀ ms₀)
+module _ (file s₀ ms₀ : List ℕ) (r : Checked) {s ms : List ℕ} (e : loadedAs (numbered r) s ms ≡ loaded file s₀ ms₀)
     (hs : maxChecks < length s₀) (hm : maxEdges ≤ length ms₀) where
   load-says : numbered r ≡ codeFileReply file
   unfolding codeFileReply
@@ -193,7 +193,7 @@ module _ (file s₀ ms₀ : List ℕ) (r : Checked) {s ms : List ℕ} (e : recor
       let t = tableAt file n m in
       let read = readable file n m k (ap numbered (sym h) ∙ load-says) in
       let left = laid (gives t) s₀ ms₀ in
-      let slices : record { reply = numbered r; starts = s; members = ms } ≡ left = e ∙ loaded-room file s₀ ms₀ hs hm ∙ ap (λ a. laid a s₀ ms₀) (read .table) in
+      let slices : loadedAs (numbered r) s ms ≡ left = e ∙ loaded-room file s₀ ms₀ hs hm ∙ ap (λ a. laid a s₀ ms₀) (read .table) in
       subst (λ x. Opened file n m k (x .starts) (x .members)) (sym slices)
       (subst (λ i. Opened file n m i (left .starts) (left .members)) (edges-are file n m k read)
       (subst (λ i. Opened file n i (edgesOf t) (left .starts) (left .members)) (checks-are file n m k read) (laid-opened file t (read .table) s₀ ms₀ hs hm)))

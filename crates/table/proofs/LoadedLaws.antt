@@ -1,11 +1,10 @@
 -- What a load answers and leaves, in each of its cases. Assumes nothing.
 use mathlib.Core.Path.{_≡_, refl, sym, _∙_, ap, ap₂}
 use mathlib.Core.Bool.{true, false, _&&_}
-use mathlib.Core.List.{List, [], _∷_, _++_}
+use mathlib.Core.List.{List, _++_}
 use Prim.Native.Nat.{ℕ, _+_, _≤_, _<_}
 use native.Mathlib.Omega.{arith}
 use lib.Dec.{leb, ltb}
-use lib.IntN.{pos}
 use lib.ListN.{length, drop}
 use borrow.Author.Tests.{lt-ltb, le-ltb, le-leb, lt-leb}
 use Rattle.rules.specs.Limits.{maxChecks, maxEdges, contentsEnd}
@@ -14,7 +13,7 @@ use Rattle.rules.specs.Table.{Table, edges, edgesOf, checksOf}
 use Rattle.rules.specs.CodeFile.{contents, numbersAt, tableAt, codeFile, tableValues}
 use Rattle.rules.specs.Buffers.{over}
 use Rattle.table.specs.Starts.{startsOf}
-use Rattle.table.specs.Loaded.{withRoom, laid, loaded}
+use Rattle.table.specs.Loaded.{withRoom, notLoaded, withTable, laid, loaded}
 use Rattle.table.proofs.AnswerLaws.{and-fails, and-holds}
 use Rattle.rules.proofs.FileLaws.{bodies-length, edges-bodies, edges-length}
 use Rattle.table.proofs.StartsLaws.{starts-length}
@@ -27,13 +26,12 @@ laid-reply (refused k) s ms = refl
 laid-reply (gives t) s ms = refl
 
 module _ (file s ms : List ℕ) where
-  pub loaded-refused : (k : ℕ) → codeFile file ≡ refused k → record { reply = record { number = k; values = [] }; starts = s; members = ms } ≡ loaded file s ms
+  pub loaded-refused : (k : ℕ) → codeFile file ≡ refused k → notLoaded k s ms ≡ loaded file s ms
   unfolding loaded laid then replyOf
   loaded-refused k h = ap (λ a. laid (then a (withRoom s ms)) s ms) (sym h)
 
   module _ (t : Table) (h : codeFile file ≡ gives t) where
-    pub loaded-short : ltb (checksOf t) (length s) && leb (edgesOf t) (length ms) ≡ false
-        → record { reply = record { number = bufferShort; values = [] }; starts = s; members = ms } ≡ loaded file s ms
+    pub loaded-short : ltb (checksOf t) (length s) && leb (edgesOf t) (length ms) ≡ false → notLoaded bufferShort s ms ≡ loaded file s ms
     unfolding loaded laid then withRoom must replyOf
     loaded-short e = ap (λ b. laid (must b bufferShort (gives t)) s ms) (sym e) ∙ ap (λ a. laid (then a (withRoom s ms)) s ms) (sym h)
 
@@ -67,23 +65,24 @@ module _ (file s ms : List ℕ) (n m e : ℕ) (r : Readable file n m e) where
   room-is : ltb (checksOf (tableAt file n m)) (length s) && leb (edgesOf (tableAt file n m)) (length ms) ≡ (ltb m (length s) && leb e (length ms))
   room-is = ap₂ (λ x y. ltb x (length s) && leb y (length ms)) (checks-are file n m e r) (edges-are file n m e r)
 
-  pub loaded-few-starts : length s ≤ m → record { reply = record { number = bufferShort; values = [] }; starts = s; members = ms } ≡ loaded file s ms
+  pub loaded-few-starts : length s ≤ m → notLoaded bufferShort s ms ≡ loaded file s ms
   loaded-few-starts h = loaded-short file s ms (tableAt file n m) (r .table) (room-is ∙ and-fails (ltb m (length s)) (leb e (length ms)) (le-ltb m (length s) h))
 
-  pub loaded-few-members : m < length s → length ms < e → record { reply = record { number = bufferShort; values = [] }; starts = s; members = ms } ≡ loaded file s ms
+  pub loaded-few-members : m < length s → length ms < e → notLoaded bufferShort s ms ≡ loaded file s ms
   loaded-few-members g h =
       loaded-short file s ms (tableAt file n m) (r .table)
       (room-is ∙ and-holds (ltb m (length s)) (leb e (length ms)) (lt-ltb m (length s) g) ∙ lt-leb e (length ms) h)
 
-  pub loaded-table : (a : ℕ) (s′ ms′ : List ℕ) → a ≡ contentsEnd m → m < length s → e ≤ length ms
-      → s′ ≡ startsOf 0 (tableAt file n m .checks) ++ drop (m + 1) s → ms′ ≡ numbersAt file a e ++ drop e ms
-      → record { reply = record { number = 0; values = pos n ∷ pos m ∷ pos e ∷ [] }; starts = s′; members = ms′ } ≡ loaded file s ms
-  unfolding laid
-  loaded-table a s′ ms′ ha g h p q =
-      let t = tableAt file n m in
-      let front : m + 1 ≡ length (startsOf 0 (t .checks)) = omega (arith, starts-length 0 (t .checks), checks-are file n m e r) in
-      let members : numbersAt file a e ≡ edges (t .checks) = ap₂ (numbersAt file) ha (r .sum) ∙ sym (edges-bodies file (contentsEnd m) (contents file 0 m)) in
-      ap₂ (λ x y. record { reply = record { number = 0; values = pos n ∷ pos m ∷ pos e ∷ [] }; starts = x; members = y })
-      (p ∙ ap (λ k. startsOf 0 (t .checks) ++ drop k s) front) (q ∙ ap₂ (λ l k. l ++ drop k ms) members (sym (edges-are file n m e r)))
-      ∙ ap (λ x. record { reply = x; starts = over (startsOf 0 (t .checks)) s; members = over (edges (t .checks)) ms }) (table-reply file n m e (r .sum))
-      ∙ loaded-gives file s ms t (r .table) (room-is ∙ and-holds (ltb m (length s)) (leb e (length ms)) (lt-ltb m (length s) g) ∙ le-leb e (length ms) h)
+  -- the bodies begin at byte a, and there is room
+  module _ (a : ℕ) (ha : a ≡ contentsEnd m) (g : m < length s) (h : e ≤ length ms) where
+    pub loaded-table : (s′ ms′ : List ℕ) → s′ ≡ startsOf 0 (tableAt file n m .checks) ++ drop (m + 1) s → ms′ ≡ numbersAt file a e ++ drop e ms
+        → withTable n m e s′ ms′ ≡ loaded file s ms
+    unfolding laid
+    loaded-table s′ ms′ p q =
+        let t = tableAt file n m in
+        let front : m + 1 ≡ length (startsOf 0 (t .checks)) = omega (arith, starts-length 0 (t .checks), checks-are file n m e r) in
+        let members : numbersAt file a e ≡ edges (t .checks) = ap₂ (numbersAt file) ha (r .sum) ∙ sym (edges-bodies file (contentsEnd m) (contents file 0 m)) in
+        ap₂ (withTable n m e)
+        (p ∙ ap (λ k. startsOf 0 (t .checks) ++ drop k s) front) (q ∙ ap₂ (λ l k. l ++ drop k ms) members (sym (edges-are file n m e r)))
+        ∙ ap (λ x. record { reply = x; starts = over (startsOf 0 (t .checks)) s; members = over (edges (t .checks)) ms }) (table-reply file n m e (r .sum))
+        ∙ loaded-gives file s ms t (r .table) (room-is ∙ and-holds (ltb m (length s)) (leb e (length ms)) (lt-ltb m (length s) g) ∙ le-leb e (length ms) h)

@@ -5,14 +5,13 @@ use mathlib.Core.List.{List, [], _∷_}
 use Prim.Native.Nat.{ℕ, _≤_}
 use lib.Dec.{leb}
 use lib.IntN.{pos}
-use lib.ListN.{length}
 use borrow.Author.Tests.{leb-true}
 use Rattle.rules.specs.Limits.{maxBits, maxChecks, maxEdges, contentsEnd}
-use Rattle.rules.specs.Refusal.{gives, must, replyOf, headerShort, sizeRange, lengthWrong}
+use Rattle.rules.specs.Refusal.{gives, replyOf}
 use Rattle.rules.specs.Bytes.{u16At}
 use Rattle.rules.specs.Table.{edges, degreeOf}
 use Rattle.rules.specs.CodeFile.{Content, inRange, contents, startsRight, totalCount, numbersAt, bitsRight, tableAt, fileOf, codeFile, tableValues, codeFileReply}
-use Rattle.table.specs.Stages.{contentsStage}
+use Rattle.table.specs.Stages.{headerStage}
 use Rattle.rules.proofs.Basics.{and-both}
 use Rattle.rules.proofs.AnswerLaws.{range-both}
 use Rattle.rules.proofs.FileLaws.{bodies-length, edges-bodies, edges-length}
@@ -27,12 +26,7 @@ pub starts-few : (es : List Content) → startsRight 0 es && leb (totalCount es)
 starts-few es h = leb-true (totalCount es) maxEdges (and-both (startsRight 0 es) (leb (totalCount es) maxEdges) h .1)
 
 -- ---- the answer
-pub first-stage : (file : List ℕ) (n m : ℕ) → n ≡ u16At file 0 → m ≡ u16At file 2
-    → codeFileReply file
-    ≡ replyOf tableValues (must (leb 4 (length file)) headerShort
-    (must (inRange 1 maxBits n && inRange 1 maxChecks m) sizeRange
-    (must (leb (contentsEnd m) (length file)) lengthWrong
-    (contentsStage file n m))))
+pub first-stage : (file : List ℕ) (n m : ℕ) → n ≡ u16At file 0 → m ≡ u16At file 2 → codeFileReply file ≡ replyOf tableValues (headerStage file n m)
 unfolding codeFileReply codeFile fileOf
 first-stage file n m hn hm = ap₂ (λ x y. replyOf tableValues (fileOf file x y)) (sym hn) (sym hm)
 

@@ -1,8 +1,9 @@
 -- What loading a code file answers and leaves in the two slices. Definitions only. Assumes nothing.
 use mathlib.Core.Bool.{_&&_}
-use mathlib.Core.List.{List}
+use mathlib.Core.List.{List, [], _∷_}
 use Prim.Native.Nat.{ℕ}
 use lib.Dec.{leb, ltb}
+use lib.IntN.{pos}
 use lib.ListN.{length}
 use Rattle.rules.specs.Refusal.{Answer, refused, gives, must, then, Reply, replyOf, bufferShort}
 use Rattle.rules.specs.Table.{Table, edges, edgesOf, checksOf}
@@ -18,6 +19,16 @@ pub record Loaded : Type 0 where
 -- "41 a lent buffer too short": the m + 1 starts and the E members want room
 unfoldable pub withRoom : List ℕ → List ℕ → Table → Answer Table
 withRoom s ms t = must (ltb (checksOf t) (length s) && leb (edgesOf t) (length ms)) bufferShort (gives t)
+
+-- an answer and what the slices hold; a refusal's number; a table's n, m and E
+abbrev pub loadedAs : Reply → List ℕ → List ℕ → Loaded
+loadedAs q s ms = record { reply = q; starts = s; members = ms }
+
+abbrev pub notLoaded : ℕ → List ℕ → List ℕ → Loaded
+notLoaded k s ms = loadedAs (record { number = k; values = [] }) s ms
+
+abbrev pub withTable : ℕ → ℕ → ℕ → List ℕ → List ℕ → Loaded
+withTable n m e s ms = loadedAs (record { number = 0; values = pos n ∷ pos m ∷ pos e ∷ [] }) s ms
 
 -- A refusal leaves both slices as they were; of a table, the starts and the members are written from the front.
 unfoldable pub laid : Answer Table → List ℕ → List ℕ → Loaded

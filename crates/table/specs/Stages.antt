@@ -1,13 +1,14 @@
--- The tests of rules' `fileOf` from the counts on, and from the members on: what the code's two later stages answer. Definitions only. Assumes nothing.
+-- The tests of rules' `fileOf`, those from the counts on, and those from the members on: what the code's three stages answer. Definitions only.
+-- Assumes nothing.
 use mathlib.Core.Bool.{_&&_}
 use mathlib.Core.List.{List}
 use Prim.Native.Nat.{ℕ}
 use lib.Dec.{leb, eqb}
 use lib.ListN.{length}
-use Rattle.rules.specs.Limits.{maxEdges, fileLength}
-use Rattle.rules.specs.Refusal.{Answer, gives, must, countRange, startWrong, lengthWrong, memberWrong, bitDegree}
+use Rattle.rules.specs.Limits.{maxBits, maxChecks, maxEdges, contentsEnd, fileLength}
+use Rattle.rules.specs.Refusal.{Answer, gives, must, headerShort, sizeRange, countRange, startWrong, lengthWrong, memberWrong, bitDegree}
 use Rattle.rules.specs.Table.{Table, edges, degreeOf}
-use Rattle.rules.specs.CodeFile.{contents, countsRight, startsRight, totalCount, membersRight, bitsRight, tableAt}
+use Rattle.rules.specs.CodeFile.{inRange, contents, countsRight, startsRight, totalCount, membersRight, bitsRight, tableAt}
 
 abbrev pub bodiesStage : List ℕ → ℕ → ℕ → Answer Table
 bodiesStage file n m =
@@ -21,3 +22,10 @@ contentsStage file n m =
     (must (startsRight 0 (contents file 0 m) && leb (totalCount (contents file 0 m)) maxEdges) startWrong
     (must (eqb (length file) (fileLength m (totalCount (contents file 0 m)))) lengthWrong
     (bodiesStage file n m)))
+
+abbrev pub headerStage : List ℕ → ℕ → ℕ → Answer Table
+headerStage file n m =
+    must (leb 4 (length file)) headerShort
+    (must (inRange 1 maxBits n && inRange 1 maxChecks m) sizeRange
+    (must (leb (contentsEnd m) (length file)) lengthWrong
+    (contentsStage file n m)))

@@ -2,7 +2,7 @@
 use native.Mathlib.Omega.{arith}
 use lib.ListN.{length-take}
 use borrow.Author.Needs.{needs}
-use Rattle.case_calls.proofs.Held.{Lengths, after-edges, after-rounds}
+use Rattle.case_calls.proofs.Held.{Lengths, back, after-edges}
 use Rattle.case_calls.proofs.play.Statement.{statement}
 use Rattle.case_calls.proofs.play.Tie as tie
 
@@ -21,7 +21,19 @@ loop-less c =
 loop-again : tie.Need-loop-again Inv-loop μ-loop
 loop-again c =
     let called = c .before .before .before .before .before .before .before .before in
-    search (after-rounds (called .before .before .before .before .before .before .before .before .before .before .before .before .before .before .before .before .loop .inv), called .rounds .kept)
+    let inv = called .before .before .before .before .before .before .before .before .before .before .before .before .before .before .before .before .loop .inv in
+    let kept = called .rounds .kept in
+    record {
+      code-kept = inv .code-kept;
+      frame-kept = inv .frame-kept;
+      spins = search (back, inv .spins, kept);
+      copies = search (back, inv .copies, kept);
+      offsets = search (back, inv .offsets, kept);
+      multipliers = search (back, inv .multipliers, kept);
+      masks = search (back, inv .masks, kept);
+      word = search (back, inv .word, kept);
+      certificate = search (back, inv .certificate, kept);
+    }
 
 loop-less-2 : tie.Need-loop-less-2 Inv-loop μ-loop
 loop-less-2 c =

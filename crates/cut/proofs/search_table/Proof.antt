@@ -14,10 +14,14 @@ use Rattle.cut.proofs.search_table.Tie as tie
 checks-are : (start : tie.Start) → start .args .checks ≡ length (checksFrom (start .args .starts .now) (start .args .members .now))
 checks-are start = omega (arith, start .pre .1, starts-long _ _ _ (start .pre .0))
 
--- the refusal that was found is the table's
-refusal-is : (start : tie.Start) (r : ℕ) → r ≡ searchRefusal (start .args .bits) (start .args .checks) (start .args .spins .now) (start .args .check)
-    → r ≡ searchRefusal (start .args .bits) (length (checksFrom (start .args .starts .now) (start .args .members .now))) (start .args .spins .now) (start .args .check)
-refusal-is start r e = e ∙ ap (λ m. searchRefusal (start .args .bits) m (start .args .spins .now) (start .args .check)) (checks-are start)
+-- the refusal on so many checks
+abbrev refusalOf : tie.Start → ℕ → ℕ
+refusalOf start m = searchRefusal (start .args .bits) m (start .args .spins .now) (start .args .check)
+
+-- that was found is the table's
+refusal-is : (start : tie.Start) (r : ℕ) → r ≡ refusalOf start (start .args .checks)
+    → r ≡ refusalOf start (length (checksFrom (start .args .starts .now) (start .args .members .now)))
+refusal-is start r e = e ∙ ap (refusalOf start) (checks-are start)
 
 returns : tie.Need-returns
 returns c = search-turned _ _ _ _ (refusal-is (c .before .before .before .before) _ (c .before .refusal .ensures)) (c .if1 .taken)

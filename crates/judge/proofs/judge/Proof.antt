@@ -1,5 +1,6 @@
 -- `judge` meets its contract: a refused file, or the table that was loaded. Assumes nothing.
 use mathlib.Core.Path.{_≡_, sym, _∙_}
+use mathlib.Core.List.{List}
 use Prim.Native.Nat.{ℕ}
 use native.Mathlib.Omega.{arith}
 use lib.Seq.{length-take-le}
@@ -11,9 +12,12 @@ use Rattle.judge.proofs.StageLaws.{judge-none, judge-table}
 use Rattle.judge.proofs.judge.Statement.{statement}
 use Rattle.judge.proofs.judge.Tie as tie
 
--- the file was accepted
-opened : (c : tie.After-load) {n m e : ℕ} → c .load .result ≡ Accepted n m e
-    → Opened (c .before .before .before .before .before .before .args .code .now) n m e (c .load .last .1 .0) (c .load .last .1 .1 .0)
+-- the code file
+abbrev file : tie.After-load → List ℕ
+file c = c .before .before .before .before .before .before .args .code .now
+
+-- was accepted
+opened : (c : tie.After-load) {n m e : ℕ} → c .load .result ≡ Accepted n m e → Opened (file c) n m e (c .load .last .1 .0) (c .load .last .1 .1 .0)
 opened c h = load-opened _ _ _ _ (c .load .ensures) (omega arith) (omega arith) h
 
 add-end : tie.Need-add-end

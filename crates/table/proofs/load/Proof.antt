@@ -1,6 +1,6 @@
 -- `load` meets its contract: each return has the answer and the tests that led there. Assumes nothing.
 use mathlib.Core.Path.{sym, _∙_, ap}
-use Prim.Native.Nat.{_≤_, _<_}
+use Prim.Native.Nat.{ℕ, _≤_, _<_}
 use native.Mathlib.Omega.{arith}
 use lib.ListN.{length}
 use borrow.Author.Needs.{needs}
@@ -10,29 +10,34 @@ use Rattle.table.proofs.LoadedLaws.{loaded-refused, loaded-few-starts, 
 use Rattle.table.proofs.load.Statement.{statement}
 use Rattle.table.proofs.load.Tie as tie
 
--- the file was accepted
-accepted : (c : tie.After-answer2)
-    → Readable (c .before .before .before .before .before .before .args .code .now) (c .answer2 .given .0 .0) (c .answer2 .given .0 .1 .0) (c .answer2 .given .0 .1 .1 .0)
+-- the file was accepted, with these numbers of checks and edges
+abbrev checks : tie.After-answer2 → ℕ
+checks c = c .answer2 .given .0 .1 .0
+
+abbrev edges : tie.After-answer2 → ℕ
+edges c = c .answer2 .given .0 .1 .1 .0
+
+accepted : (c : tie.After-answer2) → Readable (c .before .before .before .before .before .before .args .code .now) (c .answer2 .given .0 .0) (checks c) (edges c)
 accepted c = readable _ _ _ _ (ap numbered (sym (c .answer2 .given .1)) ∙ c .before .before .check .ensures)
 
 returns : tie.Need-returns
 returns c =
     let start = c .before .before .before .before .before .before .before .before in
-    let short : length (start .args .starts .now) ≤ c .before .before .answer2 .given .0 .1 .0 = omega arith in
+    let short : length (start .args .starts .now) ≤ checks (c .before .before) = omega arith in
     loaded-few-starts _ _ _ _ _ _ (accepted (c .before .before)) short
 
 -- there is room for the starts
-starts-fit : (c : tie.Else1) → c .before .before .answer2 .given .0 .1 .0 < length (c .before .before .before .before .before .before .before .before .args .starts .now)
+starts-fit : (c : tie.Else1) → checks (c .before .before) < length (c .before .before .before .before .before .before .before .before .args .starts .now)
 starts-fit c = omega arith
 
 returns-2 : tie.Need-returns-2
 returns-2 c =
     let read = c .before .before .before in
-    let short : length (read .before .before .before .before .before .before .args .members .now) < read .answer2 .given .0 .1 .1 .0 = omega arith in
+    let short : length (read .before .before .before .before .before .before .args .members .now) < edges read = omega arith in
     loaded-few-members _ _ _ _ _ _ (accepted read) (starts-fit (c .before)) short
 
 -- and for the members
-members-fit : (c : tie.Else2) → c .before .before .before .answer2 .given .0 .1 .1 .0 ≤ length (c .before .before .before .before .before .before .before .before .before .args .members .now)
+members-fit : (c : tie.Else2) → edges (c .before .before .before) ≤ length (c .before .before .before .before .before .before .before .before .before .args .members .now)
 members-fit c = omega arith
 
 write-starts-requires : tie.Need-write-starts-requires
@@ -54,7 +59,7 @@ returns-3 c = loaded-refused _ _ _ _ (refused-is _ _ (ap numbered (sym (c .befor
 returns-4 : tie.Need-returns-4
 returns-4 c =
     let room = c .before .before .before .before .before .before .before .before .before in
-    loaded-table _ _ _ _ _ _ (accepted (room .before .before .before)) _ _ _ (c .before .before .before .before .contents-end .ensures) (starts-fit (room .before)) (members-fit room)
+    loaded-table _ _ _ _ _ _ (accepted (room .before .before .before)) _ (c .before .before .before .before .contents-end .ensures) (starts-fit (room .before)) (members-fit room) _ _
     (c .before .before .before .before .before .before .before .write-starts .ensures) (c .before .before .write-members .ensures)
 
 pub load-spec : {M : Type 1} → statement M

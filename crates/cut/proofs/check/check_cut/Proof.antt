@@ -1,6 +1,6 @@
 -- `check_cut` meets its contract. Assumes nothing.
 use mathlib.Core.Path.{sym, _∙_, ap, subst}
-use Prim.Native.Nat.{_+_, _≤_, _<_}
+use Prim.Native.Nat.{ℕ, _+_, _≤_, _<_}
 use native.Mathlib.Omega.{arith}
 use lib.ListN.{length, getD}
 use borrow.Author.Needs.{needs}
@@ -19,9 +19,14 @@ use Rattle.cut.proofs.check.check_cut.Tie as tie
 check : (start : tie.Start) → start .args .j < length (checksFrom (start .args .starts .now) (start .args .members .now))
 check start = omega (arith, start .pre .1, starts-long _ _ _ (start .pre .0))
 
--- its part of the members is there
-inside : (start : tie.Start) → (getD (start .args .starts .now) (start .args .j) 0 ≤ getD (start .args .starts .now) (start .args .j + 1) 0)
-    × (getD (start .args .starts .now) (start .args .j + 1) 0 ≤ length (start .args .members .now))
+-- its part of the members is there, from its start to the next
+abbrev first : tie.Start → ℕ
+first start = getD (start .args .starts .now) (start .args .j) 0
+
+abbrev past : tie.Start → ℕ
+past start = getD (start .args .starts .now) (start .args .j + 1) 0
+
+inside : (start : tie.Start) → (first start ≤ past start) × (past start ≤ length (start .args .members .now))
 inside start = part-in _ _ _ (start .pre .0) _ (check start)
 
 mul-members-cut : tie.Need-mul-members-cut

@@ -13,10 +13,8 @@ use Rattle.integers.specs.Linear.{_⩽_}
 use Rattle.integers.specs.Machine.{fit}
 use Rattle.rules.specs.Limits.{unit}
 use Rattle.rules.specs.Table.{at}
-use Rattle.rules.specs.Cut.{isNeg}
 use Rattle.rules.specs.Buffers.{over}
-use Rattle.cut.specs.Heights.{height}
-use Rattle.cut.specs.Scan.{scanned, sights, Scanned}
+use Rattle.cut.specs.Scan.{scanned, ownHeight, sights, Scanned}
 use Rattle.cut.proofs.HeightLaws.{height-top}
 use Rattle.cut.proofs.ScanLaws.{scanned-none, scanned-more, heights-more, mask-fits, room-fits}
 use Rattle.cut.proofs.scan.scan_values.Statement.{statement}
@@ -41,10 +39,8 @@ value : (c : tie.After-x Inv-loop μ-loop) → toZ w32 (ofZ w32 (valueAt (c .bef
 value c = toZ-ofZ (fit w32 (valueAt (c .before .before)) (c .x .given))
 
 -- its height
-sight : (c : tie.After-height-of Inv-loop μ-loop)
-    → toZ w32 (ofZ w32 (c .height-of .result))
-    ≡ height (isNeg (valueAt (c .before .before .before))) (valueAt (c .before .before .before))
-sight c = toZ-ofZ (fit w32 (c .height-of .result) (c .height-of .ok)) ∙ c .height-of .ensures ∙ ap (λ z. height (isNeg z) z) (value (c .before))
+sight : (c : tie.After-height-of Inv-loop μ-loop) → toZ w32 (ofZ w32 (c .height-of .result)) ≡ ownHeight (valueAt (c .before .before .before))
+sight c = toZ-ofZ (fit w32 (c .height-of .result) (c .height-of .ok)) ∙ c .height-of .ensures ∙ ap ownHeight (value (c .before))
 
 with-requires : tie.Need-with-requires Inv-loop μ-loop
 with-requires c κs =

@@ -1,6 +1,7 @@
 -- `first_broken` meets its contract: the checks from j on decide, and check j's part of the members is that check. Assumes nothing.
 use mathlib.Core.Path.{_≡_, refl, sym, _∙_, subst}
-use Prim.Native.Nat.{_-_, _≤_, _<_}
+use mathlib.Core.List.{List}
+use Prim.Native.Nat.{ℕ, _-_, _≤_, _<_}
 use native.Mathlib.Omega.{arith}
 use lib.ListN.{length, drop}
 use Rattle.rules.specs.Sound.{Below}
@@ -19,9 +20,12 @@ Inv-loop starts members m word j₀ j =
 abbrev μ-loop : tie.MeasureT-loop
 μ-loop starts members m word j₀ j = m - j
 
+-- the checks there are
+abbrev checks : tie.Start Inv-loop μ-loop → List (List ℕ)
+checks start = checksFrom (start .args .starts .now) (start .args .members .now)
+
 -- there is a check j
-check : (c : tie.In-loop Inv-loop μ-loop)
-    → c .before .loop .j < length (checksFrom (c .before .before .before .before .before .args .starts .now) (c .before .before .before .before .before .args .members .now))
+check : (c : tie.In-loop Inv-loop μ-loop) → c .before .loop .j < length (checks (c .before .before .before .before .before))
 check c =
     let start = c .before .before .before .before .before in
     omega (arith, c .loop-test .taken, start .pre .1, starts-long _ _ _ (start .pre .0))
@@ -33,8 +37,10 @@ start-at-requires-2 : tie.Need-start-at-requires-2 Inv-loop μ-loop
 start-at-requires-2 c κs = omega (arith, c .before .loop-test .taken, c .before .before .before .before .before .before .pre .1)
 
 -- its part of the members
-inside : (c : tie.After-start-at2 Inv-loop μ-loop) → (c .before .start-at .result ≤ c .start-at2 .result)
-    × (c .start-at2 .result ≤ length (c .before .before .before .before .before .before .before .args .members .now))
+abbrev members : tie.After-start-at2 Inv-loop μ-loop → List ℕ
+members c = c .before .before .before .before .before .before .before .args .members .now
+
+inside : (c : tie.After-start-at2 Inv-loop μ-loop) → (c .before .start-at .result ≤ c .start-at2 .result) × (c .start-at2 .result ≤ length (members c))
 inside c =
     let here = c .before .before in
     let start = here .before .before .before .before .before in
@@ -76,7 +82,7 @@ loop-again c =
 returns-2 : tie.Need-returns-2 Inv-loop μ-loop
 returns-2 c =
     let start = c .before .before .before .before .before in
-    let done : length (checksFrom (start .args .starts .now) (start .args .members .now)) ≤ c .before .loop .j = omega (arith, c .loop-test .left, start .pre .1, starts-long _ _ _ (start .pre .0)) in
+    let done : length (checks start) ≤ c .before .loop .j = omega (arith, c .loop-test .left, start .pre .1, starts-long _ _ _ (start .pre .0)) in
     sym (c .before .loop .inv .1 ∙ broken-none (bitsOf (start .args .word .now)) _ _ done)
 
 pub first-broken-spec : {M : Type 1} → statement M

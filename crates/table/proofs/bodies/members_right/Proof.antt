@@ -34,7 +34,7 @@ ascending-requires c κs =
 returns : tie.Need-returns Inv-loop μ-loop
 returns c =
     sym (c .before .before .before .before .loop .inv .2
-    ∙ members-more _ _ _ _ _ _ (c .before .before .before .loop-test .taken) (c .before .before .count-at .ensures .0)
+    ∙ members-more _ _ _ _ _ (c .before .before .before .loop-test .taken) (c .before .before .count-at .ensures .0) _
     ∙ and-fails _ _ (sym (c .before .ascending .ensures) ∙ not-true _ (c .if1 .taken)))
 
 add-at : tie.Need-add-at Inv-loop μ-loop
@@ -48,7 +48,7 @@ loop-again c = (
   let args = c .before .before .before .before .before .before .before .args in
       omega (arith, total-more (args .code .now) (args .m) (c .before .before .before .before .loop .j) (c .before .before .before .loop-test .taken)),
   c .before .before .before .before .loop .inv .2
-      ∙ members-more _ _ _ _ _ _ (c .before .before .before .loop-test .taken) (c .before .before .count-at .ensures .0)
+      ∙ members-more _ _ _ _ _ (c .before .before .before .loop-test .taken) (c .before .before .count-at .ensures .0) _
       ∙ and-holds _ _ (sym (c .before .ascending .ensures) ∙ not-false _ (c .if1 .left)),
 )
 
