@@ -104,12 +104,17 @@ fn a_refused_code_file() {
 }
 
 #[test]
-fn a_code_file_leaves_what_follows_to_others() {
+fn of_what_is_no_code_file_no_more_is_read_than_shows_it() {
     let folder = Folder::new();
-    let (bad, rest) = (b"\x07\0\x01\x08", b"what follows");
-    folder.write("input", [&bad[..], rest].concat());
-    let done = folder.shell("{ $JUGNAYAP decode - - --binary; cat; } < input 2> /dev/null").output().unwrap();
-    assert_eq!(done.stdout, [b"refused 2\n", &rest[..]].concat());
+    let rest = b"what follows";
+    // 2,049 checks; and a check of 8,193 members.
+    for (bad, report) in
+        [(&b"\x07\0\x01\x08"[..], "refused 2\n"), (b"\x07\0\x01\0\0\0\x01\x20", "refused 3\n")]
+    {
+        folder.write("input", [bad, rest].concat());
+        let line = "{ $JUGNAYAP decode - - --binary; cat; } < input 2> /dev/null";
+        assert_eq!(folder.shell(line).output().unwrap().stdout, [report.as_bytes(), rest].concat());
+    }
 }
 
 #[test]
