@@ -3,7 +3,6 @@
 pub mod cases;
 pub mod clock;
 pub mod decoder;
-pub mod ffi;
 pub mod gen;
 pub mod independent;
 pub mod proved;

@@ -7,12 +7,15 @@
 
 use std::fmt;
 
+use crate::text::{counted, quoted, whole_number};
 use crate::{limits, Code, Refusal};
 
 /// Why a text is no alist of a code within the limits, and the line of the text that shows it.
 #[derive(Clone, Debug, PartialEq, Eq)]
 pub struct Error {
+    /// The line, from 1.
     pub line: usize,
+    /// What is wrong, without the line.
     pub message: String,
 }
 
@@ -60,14 +63,8 @@ fn without_comment(line: &str) -> &str {
 }
 
 fn parse_number(at: usize, word: &str) -> Result<usize, Error> {
-    let plain = word.len() <= 9 && word.bytes().all(|digit| digit.is_ascii_digit());
-    let number = if plain { word.parse().ok() } else { None };
-    number.ok_or_else(|| Error { line: at, message: format!("{:?} is not a whole number", shortened(word)) })
-}
-
-/// A word for a message, cut if it is long.
-fn shortened(word: &str) -> String {
-    word.chars().take(20).collect()
+    whole_number(word)
+        .ok_or_else(|| Error { line: at, message: format!("{} is not a whole number", quoted(word)) })
 }
 
 /// The lines that have numbers, one after the other.
@@ -248,10 +245,6 @@ fn refuse_disagreement(of_columns: &[List], of_rows: &[List]) -> Result<(), Erro
         }
     }
     Ok(())
-}
-
-fn counted(count: usize, noun: &str) -> String {
-    format!("{count} {noun}{}", if count == 1 { "" } else { "s" })
 }
 
 // ---- table to alist

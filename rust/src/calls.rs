@@ -1,15 +1,18 @@
 //! The proved library's calls on plain slices. Each takes any bytes, numbers and lengths, and answers or
-//! refuses by number; a refused call changes nothing. The types of the crate's root own their buffers and
-//! are easier to use.
+//! refuses by number; a refused call changes nothing. An answer that the C header does not allow is a panic.
+//! The types of the crate's root own their buffers and are easier to use.
 
 use crate::ffi;
 use crate::Refusal;
 
-/// The sizes of a code: n, m and E.
+/// The sizes of a code.
 #[derive(Clone, Copy, Debug, PartialEq, Eq)]
 pub struct Sizes {
+    /// n: the number of bits.
     pub bits: u32,
+    /// m: the number of parity checks.
     pub checks: u32,
+    /// E: the members of all checks together.
     pub edges: u32,
 }
 
@@ -28,29 +31,39 @@ pub enum Verdict {
 #[repr(C)]
 #[derive(Clone, Copy, Debug, PartialEq, Eq)]
 pub struct Record {
+    /// The rounds done.
     pub rounds: u32,
+    /// [`RUNNING`](Self::RUNNING), [`CERTIFIED`](Self::CERTIFIED) or [`SPENT`](Self::SPENT).
     pub status: u32,
 }
 
 impl Record {
+    /// The status of a run that may go on.
     pub const RUNNING: u32 = 0;
+    /// The status of a run that ended with a word and a certificate.
     pub const CERTIFIED: u32 = 1;
+    /// The status of a run whose rounds brought no certificate.
     pub const SPENT: u32 = 2;
+    /// What a start leaves.
     pub const FRESH: Record = Record { rounds: 0, status: Self::RUNNING };
 }
 
 /// A call for rounds: the refusal, if any, and the record that the call leaves.
 #[derive(Clone, Copy, Debug, PartialEq, Eq)]
 pub struct Called {
+    /// Why the call was refused, if it was.
     pub refusal: Option<Refusal>,
+    /// The record after the call; of a refused one, that before it.
     pub record: Record,
 }
 
 impl Called {
+    /// A call that was not refused.
     pub fn done(record: Record) -> Called {
         Called { refusal: None, record }
     }
 
+    /// A call that was.
     pub fn refused(refusal: Refusal, record: Record) -> Called {
         Called { refusal: Some(refusal), record }
     }
@@ -78,16 +91,23 @@ pub(crate) use each_buffer;
 
 macro_rules! lent {
     ($($name:ident: $element:ty, $need:ident;)*) => {
-        /// The buffers lent to a call for rounds.
+        /// The buffers lent to a call for rounds, each as long as its field says, or longer, where `bits`,
+        /// `checks` and `edges` are the code's and `certificate` is 4 + 10 × `checks`.
+        ///
+        /// A call that does a round leaves what the last one has: each bit's spin, each edge's copy and
+        /// offset, each check's multiplier and mask. One that certifies also writes word and certificate.
+        #[derive(Debug)]
         pub struct Buffers<'a> {
-            $(pub $name: &'a mut [$element],)*
+            $(
+                #[doc = concat!("At least `", stringify!($need), "` elements.")]
+                pub $name: &'a mut [$element],
+            )*
         }
     };
 }
 each_buffer!(lent);
 
-/// The answer of a call: `value` at number 0. A refusal has zeros beside its number (`rest_zero`); anything
-/// else is no library of this interface.
+/// The answer of a call: `value` at number 0. A refusal has zeros beside its number (`rest_zero`).
 fn answer<T>(number: u32, rest_zero: bool, value: T) -> Result<T, Refusal> {
     if number == 0 {
         return Ok(value);
@@ -107,6 +127,11 @@ fn verdict(raw: &ffi::Verdict) -> Verdict {
 
 // SAFETY, for every call below: pointer and length come from one slice that outlives the call, and no
 // two lent slices overlap, as the borrow checker sees to.
+
+/// The version of the proved library: major times 10,000, plus minor times 100, plus patch.
+pub fn version() -> u32 {
+    unsafe { ffi::jugnayap_version() }
+}
 
 /// Checks a code file. Refusals: 1 to 7.
 pub fn check_table(code: &[u8]) -> Result<Sizes, Refusal> {

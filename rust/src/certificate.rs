@@ -1,8 +1,10 @@
 //! Certificates, as bytes and as text.
 
-use std::fmt::{self, Write};
+use std::fmt;
 use std::str::FromStr;
 
+use crate::bytes::{u16_at, u32_at};
+use crate::text::{quoted, whole_number};
 use crate::{limits, Refusal};
 
 /// A certificate: multipliers on parity inequalities, at a scale. It may be anybody's: only its length is
@@ -20,12 +22,14 @@ use crate::{limits, Refusal};
 #[derive(Clone, Debug, PartialEq, Eq, Hash)]
 pub struct Certificate(Vec<u8>);
 
-/// An entry of a certificate: a multiplier on the inequality of an odd set of a check's members. Bit k of
-/// the mask stands for the check's k-th member.
-#[derive(Clone, Copy, Debug, PartialEq, Eq)]
+/// An entry of a certificate: a multiplier on the inequality of an odd set of a check's members.
+#[derive(Clone, Copy, Debug, PartialEq, Eq, Hash)]
 pub struct Entry {
+    /// The check's number, from 0.
     pub check: u16,
+    /// The multiplier, which the judge wants from 1 to 16,777,215.
     pub multiplier: u32,
+    /// The set: bit k stands for the check's k-th member, from 0.
     pub mask: u32,
 }
 
@@ -41,14 +45,6 @@ impl fmt::Display for NotCertificate {
 
 impl std::error::Error for NotCertificate {}
 
-fn u16_at(bytes: &[u8], place: usize) -> u16 {
-    u16::from_le_bytes([bytes[place], bytes[place + 1]])
-}
-
-fn u32_at(bytes: &[u8], place: usize) -> u32 {
-    u32::from_le_bytes([bytes[place], bytes[place + 1], bytes[place + 2], bytes[place + 3]])
-}
-
 impl Certificate {
     /// The bytes of a certificate with so many entries.
     pub const fn length(entries: usize) -> usize {
@@ -58,21 +54,22 @@ impl Certificate {
     /// From exactly its bytes. Refusal: 10.
     pub fn from_bytes(bytes: impl Into<Vec<u8>>) -> Result<Certificate, Refusal> {
         let bytes = bytes.into();
-        match Self::length_at_front(&bytes) {
-            Some(length) if length == bytes.len() => Ok(Certificate(bytes)),
-            _ => Err(Refusal::CERTIFICATE_LENGTH),
+        if Self::length_at_front(&bytes) == Some(bytes.len()) {
+            Ok(Certificate(bytes))
+        } else {
+            Err(Refusal::CERTIFICATE_LENGTH)
         }
     }
 
     /// The certificate at the front of longer bytes. Refusal: 10.
     pub fn at_front(bytes: &[u8]) -> Result<Certificate, Refusal> {
-        let length = Self::length_at_front(bytes).ok_or(Refusal::CERTIFICATE_LENGTH)?;
-        Self::from_bytes(bytes.get(..length).ok_or(Refusal::CERTIFICATE_LENGTH)?)
+        let front = Self::length_at_front(bytes).and_then(|length| bytes.get(..length));
+        front.map(|front| Certificate(front.to_vec())).ok_or(Refusal::CERTIFICATE_LENGTH)
     }
 
     /// The length by the first two bytes; none if they are missing or tell of too many entries.
     pub fn length_at_front(bytes: &[u8]) -> Option<usize> {
-        let entries = usize::from(u16::from_le_bytes([*bytes.first()?, *bytes.get(1)?]));
+        let entries = usize::from(u16_at(bytes.get(..2)?, 0));
         (entries <= limits::ENTRIES).then_some(Self::length(entries))
     }
 
@@ -92,10 +89,12 @@ impl Certificate {
         Ok(Certificate(bytes))
     }
 
+    /// Its bytes, as many as its entries need.
     pub fn bytes(&self) -> &[u8] {
         &self.0
     }
 
+    /// Its scale, which the judge wants from 1 to 1,023.
     pub fn scale(&self) -> u16 {
         u16_at(&self.0, 2)
     }
@@ -112,6 +111,7 @@ impl Certificate {
         usize::from(u16_at(&self.0, 0))
     }
 
+    /// Its entries, in their order.
     pub fn entries(&self) -> impl Iterator<Item = Entry> + '_ {
         let masks = 4 + 6 * self.cuts();
         (0..self.cuts()).map(move |k| Entry {
@@ -124,19 +124,24 @@ impl Certificate {
 
 impl fmt::Display for Certificate {
     fn fmt(&self, f: &mut fmt::Formatter) -> fmt::Result {
-        let mut text = format!("scale {}", self.scale());
-        for Entry { check, multiplier, mask } in self.entries() {
-            write!(text, " {check}:{multiplier}:{mask}")?;
-        }
-        f.write_str(&text)
+        write!(f, "scale {}", self.scale())?;
+        self.entries().try_for_each(|entry| write!(f, " {entry}"))
     }
 }
 
-/// A number of an entry, within its width.
-fn number<T: FromStr>(text: &str, what: &str) -> Result<T, NotCertificate> {
-    let plain = !text.is_empty() && text.bytes().all(|digit| digit.is_ascii_digit());
-    let number = if plain { text.parse().ok() } else { None };
-    number.ok_or_else(|| NotCertificate(format!("{text:?} where {what} should stand")))
+impl fmt::Display for Entry {
+    fn fmt(&self, f: &mut fmt::Formatter) -> fmt::Result {
+        write!(f, "{}:{}:{}", self.check, self.multiplier, self.mask)
+    }
+}
+
+fn misplaced(text: &str, wanted: &str) -> NotCertificate {
+    NotCertificate(format!("{} where {wanted} should stand", quoted(text)))
+}
+
+/// A number within the width of its place.
+fn number<T: FromStr>(text: &str, wanted: &str) -> Result<T, NotCertificate> {
+    whole_number(text).ok_or_else(|| misplaced(text, wanted))
 }
 
 impl FromStr for Entry {
@@ -145,7 +150,7 @@ impl FromStr for Entry {
     fn from_str(text: &str) -> Result<Entry, NotCertificate> {
         let parts: Vec<&str> = text.split(':').collect();
         let &[check, multiplier, mask] = parts.as_slice() else {
-            return Err(NotCertificate(format!("{text:?} where CHECK:MULTIPLIER:MASK should stand")));
+            return Err(misplaced(text, "CHECK:MULTIPLIER:MASK"));
         };
         Ok(Entry {
             check: number(check, "a check's number")?,
@@ -162,7 +167,7 @@ impl FromStr for Certificate {
         let mut words = text.split_ascii_whitespace();
         let first = words.next().unwrap_or_default();
         if first != "scale" {
-            return Err(NotCertificate(format!("{first:?} where 'scale' should stand")));
+            return Err(misplaced(first, "\"scale\""));
         }
         let scale = number(words.next().unwrap_or_default(), "the scale")?;
         let entries = words.map(str::parse).collect::<Result<Vec<Entry>, _>>()?;

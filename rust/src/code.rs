@@ -1,5 +1,6 @@
 //! A code: a parity-check table that the proved library has accepted.
 
+use crate::bytes::u16_at;
 use crate::calls::{self, Sizes, Verdict};
 use crate::{alist, limits, Answer, Certificate, Refusal, Run, Word};
 
@@ -19,11 +20,6 @@ pub struct Code {
     sizes: Sizes,
 }
 
-/// A number of 16 bits at a place of a code file that was accepted.
-fn u16_at(file: &[u8], place: usize) -> u16 {
-    u16::from_le_bytes([file[place], file[place + 1]])
-}
-
 impl Code {
     /// From a code file's bytes. Refusals: 1 to 7.
     pub fn from_file(file: impl Into<Vec<u8>>) -> Result<Code, Refusal> {
@@ -32,26 +28,18 @@ impl Code {
         Ok(Code { file, sizes })
     }
 
-    /// From the checks' members, each list ascending. Refusals: 1 to 7.
+    /// From the checks' members, each list ascending. Refusals: 2, 3, 4, 6, 7.
     pub fn from_checks<M: AsRef<[u16]>>(bits: usize, checks: &[M]) -> Result<Code, Refusal> {
-        let edges: usize = checks.iter().map(|members| members.as_ref().len()).sum();
-        if bits > limits::BITS || checks.len() > limits::CHECKS {
-            return Err(Refusal::FILE_SIZES);
-        }
-        if checks.iter().any(|members| members.as_ref().len() > limits::DEGREE) {
-            return Err(Refusal::FILE_COUNT);
-        }
-        if edges > limits::EDGES {
-            return Err(Refusal::FILE_START);
-        }
-        let mut numbers = vec![bits, checks.len()];
+        let mut contents = vec![bits, checks.len()];
         let mut start = 0;
         for members in checks {
             let count = members.as_ref().len();
-            numbers.extend([start, count]);
+            contents.extend([start, count]);
             start += count;
         }
-        let contents = numbers.into_iter().map(|number| number as u16);
+        // What leaves 16 bits is refused like their greatest number; starts leave them only after a count
+        // or a number of checks that is refused.
+        let contents = contents.into_iter().map(|number| u16::try_from(number).unwrap_or(u16::MAX));
         let bodies = checks.iter().flat_map(|members| members.as_ref().iter().copied());
         Code::from_file(contents.chain(bodies).flat_map(u16::to_le_bytes).collect::<Vec<u8>>())
     }
@@ -71,14 +59,17 @@ impl Code {
         &self.file
     }
 
+    /// n: the number of bits.
     pub fn bits(&self) -> usize {
         self.sizes.bits as usize
     }
 
+    /// m: the number of parity checks.
     pub fn checks(&self) -> usize {
         self.sizes.checks as usize
     }
 
+    /// E: the members of all checks together.
     pub fn edges(&self) -> usize {
         self.sizes.edges as usize
     }
@@ -138,6 +129,16 @@ impl Code {
 
     /// The violated odd set of a check's members at these spins, as a mask of its members, or none.
     /// Refusals: 16, 17.
+    ///
+    /// ```
+    /// use jugnayap::{Code, Refusal};
+    /// let code = Code::from_checks(3, &[[0, 1, 2]])?;
+    /// assert_eq!(code.search_cut(&[1365, 1365, -1366], 0)?, None);
+    /// assert_eq!(code.search_cut(&[1365, 1365, -1367], 0)?, Some(0b100));
+    /// assert_eq!(code.search_cut(&[0, 0, 4097], 0), Err(Refusal::POINT));
+    /// assert_eq!(code.search_cut(&[0, 0, 0], 1), Err(Refusal::REQUEST));
+    /// # Ok::<(), Refusal>(())
+    /// ```
     pub fn search_cut(&self, spins: &[i32], check: usize) -> Result<Option<u32>, Refusal> {
         calls::search_cut(&self.file, spins, check)
     }

@@ -26,7 +26,12 @@
 //! The decoder and the judge are the proved library `libjugnayap.a`; this crate is the plain Rust around it:
 //! buffers, text and the [alist] format.
 
+#![warn(missing_docs)]
+#![deny(unsafe_code)]
+
 pub mod alist;
+mod bytes;
+#[allow(unsafe_code)]
 pub mod calls;
 mod certificate;
 mod code;
@@ -35,6 +40,7 @@ pub mod limits;
 mod refusal;
 mod run;
 pub mod scale;
+mod text;
 mod word;
 
 pub use calls::Verdict;
@@ -43,3 +49,8 @@ pub use code::Code;
 pub use refusal::Refusal;
 pub use run::{Answer, Certified, Run};
 pub use word::Word;
+
+/// The example of the README is a test.
+#[cfg(doctest)]
+#[doc = include_str!("../README.md")]
+struct Readme;

@@ -8,7 +8,7 @@ use crate::{Certificate, Code, Refusal, Word};
 pub enum Answer {
     /// The rounds wanted are done, and the run goes on.
     Running,
-    /// The run has ended with a word that nothing agrees better than.
+    /// The run has ended with a best word, and with what shows that it is.
     Certified(Certified),
     /// 1,024 rounds brought no certificate.
     Spent,
@@ -17,8 +17,11 @@ pub enum Answer {
 /// A certified word, with what shows that it is best.
 #[derive(Clone, Debug, PartialEq, Eq)]
 pub struct Certified {
+    /// The rounds that the run took.
     pub rounds: u32,
+    /// The word: no codeword, and no point of the relaxation, agrees better with the frame.
     pub word: Word,
+    /// The last round's cuts, at scale 1, by which the judge certifies the word.
     pub certificate: Certificate,
 }
 
@@ -50,6 +53,10 @@ macro_rules! owned {
                 Owned { $($name: vec![0; needs.$need],)* }
             }
 
+            fn clear(&mut self) {
+                $(self.$name.fill(0);)*
+            }
+
             fn lend(&mut self) -> Buffers<'_> {
                 Buffers { $($name: &mut self.$name,)* }
             }
@@ -59,7 +66,11 @@ macro_rules! owned {
 each_buffer!(owned);
 
 /// A run on one code. It owns record and buffers, so none of its calls is refused for how the run stands,
-/// but for a call after its end (42).
+/// but for a call after its end (42). What it shows of its buffers is what the last round left, zeros before
+/// the first.
+///
+/// Its calls for rounds should all have one frame. With another the run goes on from where the last left it;
+/// a certificate is of the frame of the call that answers it.
 ///
 /// ```
 /// use jugnayap::{Answer, Code, Run};
@@ -88,6 +99,7 @@ impl<'c> Run<'c> {
 
     /// Starts again, in the same buffers.
     pub fn restart(&mut self) {
+        self.buffers.clear();
         let Owned { copies, offsets, .. } = &mut self.buffers;
         self.record =
             calls::start(self.code.file(), copies, offsets).expect("an accepted code, and its lengths");
@@ -116,15 +128,17 @@ impl<'c> Run<'c> {
         }
     }
 
+    /// The code that it runs on.
     pub fn code(&self) -> &'c Code {
         self.code
     }
 
+    /// The rounds done since the start.
     pub fn rounds_done(&self) -> u32 {
         self.record.rounds
     }
 
-    /// Each bit's spin after the last round.
+    /// Each bit's spin: positive for 0, negative for 1.
     pub fn spins(&self) -> &[i32] {
         &self.buffers.spins
     }
@@ -139,12 +153,12 @@ impl<'c> Run<'c> {
         &self.buffers.offsets
     }
 
-    /// Each check's multiplier of the last round, 0 for no cut.
+    /// Each check's multiplier, 0 for no cut.
     pub fn multipliers(&self) -> &[u32] {
         &self.buffers.multipliers
     }
 
-    /// Each check's mask of the last round, 0 for no cut.
+    /// Each check's cut as a mask of its members, 0 for none.
     pub fn masks(&self) -> &[u32] {
         &self.buffers.masks
     }

@@ -1,7 +1,7 @@
 //! Lent buffers with guards, and half-done runs.
 
 use super::rng::Rng;
-use crate::decoder::{each_buffer, Buffers, Record, Refusal};
+use crate::decoder::{Buffers, Record, Refusal};
 use crate::independent::limits::{certificate_length, OFFSET_STEP, ROUND_LIMIT, UNIT};
 use crate::independent::table::Table;
 
@@ -93,7 +93,7 @@ macro_rules! buffers {
         }
     };
 }
-each_buffer!(buffers);
+jugnayap::each_buffer!(buffers);
 
 impl State {
     pub fn zeroed(shape: &Shape) -> State {
