@@ -1,6 +1,6 @@
 //! Decode: the report, words and certificates.
 
-use super::support::{sample, Folder, ONE, THREE};
+use super::support::{is_binary, sample, samples, Folder, ONE, THREE};
 
 const FRAMES: &str = "4000 4000 -2000\n10 10 10\n0 0 0\n";
 const REPORT: &str =
@@ -12,10 +12,14 @@ fn three() -> Folder {
 
 #[test]
 fn samples_give_their_reports() {
-    for (name, form, status) in [("hamming", "", 0), ("array", "--binary", 1), ("regular", "--binary", 1)] {
-        let folder = Folder::with_sample(name);
+    assert!(samples().len() >= 3);
+    for name in samples() {
+        let folder = Folder::with_sample(&name);
+        let report = folder.text("report.txt");
+        let status = i32::from(report.contains("refused"));
+        let form = if is_binary(&name) { "--binary" } else { "" };
         for code in ["code.alist", "code.code"] {
-            folder.run(&format!("decode {code} frames {form}")).says(status, &folder.text("report.txt"));
+            folder.run(&format!("decode {code} frames {form}")).says(status, &report);
         }
     }
 }

@@ -4,7 +4,7 @@ use jugnayap::{limits, Code};
 
 use super::selection::{Form, Selection};
 use super::{Lines, Listing, Source};
-use crate::command::errors::{counted, quoted, Failure};
+use crate::command::errors::{quoted, Failure};
 
 pub struct Frames {
     listing: Listing,
@@ -95,7 +95,7 @@ fn read_numbers(
         }
     }
     if found != bits {
-        return Err(lines.refuse(&format!("{}, {bits} wanted", counted(found, "number"))));
+        return Err(lines.refuse(&format!("a frame of {found}, {bits} numbers wanted")));
     }
     Ok(())
 }
