@@ -98,7 +98,3 @@ pub fn quoted(found: &[u8]) -> String {
     let dots = if front.len() < found.len() { "..." } else { "" };
     format!("\"{}\"{dots}", front.escape_ascii())
 }
-
-pub fn counted(count: usize, noun: &str) -> String {
-    format!("{count} {noun}{}", if count == 1 { "" } else { "s" })
-}

@@ -1,6 +1,6 @@
 //! Decode: the report, words and certificates.
 
-use super::support::{sample, Folder, ONE, THREE};
+use super::support::{is_binary, sample, samples, Folder, ONE, THREE};
 
 const FRAMES: &str = "4000 4000 -2000\n10 10 10\n0 0 0\n";
 const REPORT: &str =
@@ -12,10 +12,14 @@ fn three() -> Folder {
 
 #[test]
 fn samples_give_their_reports() {
-    for (name, form, status) in [("hamming", "", 0), ("array", "--binary", 1), ("regular", "--binary", 1)] {
-        let folder = Folder::with_sample(name);
+    assert!(samples().len() >= 3);
+    for name in samples() {
+        let folder = Folder::with_sample(&name);
+        let report = folder.text("report.txt");
+        let status = i32::from(report.contains("refused"));
+        let form = if is_binary(&name) { "--binary" } else { "" };
         for code in ["code.alist", "code.code"] {
-            folder.run(&format!("decode {code} frames {form}")).says(status, &folder.text("report.txt"));
+            folder.run(&format!("decode {code} frames {form}")).says(status, &report);
         }
     }
 }
@@ -104,12 +108,17 @@ fn a_refused_code_file() {
 }
 
 #[test]
-fn a_code_file_leaves_what_follows_to_others() {
+fn of_what_is_no_code_file_no_more_is_read_than_shows_it() {
     let folder = Folder::new();
-    let (bad, rest) = (b"\x07\0\x01\x08", b"what follows");
-    folder.write("input", [&bad[..], rest].concat());
-    let done = folder.shell("{ $JUGNAYAP decode - - --binary; cat; } < input 2> /dev/null").output().unwrap();
-    assert_eq!(done.stdout, [b"refused 2\n", &rest[..]].concat());
+    let rest = b"what follows";
+    // 2,049 checks; and a check of 8,193 members.
+    for (bad, report) in
+        [(&b"\x07\0\x01\x08"[..], "refused 2\n"), (b"\x07\0\x01\0\0\0\x01\x20", "refused 3\n")]
+    {
+        folder.write("input", [bad, rest].concat());
+        let line = "{ $JUGNAYAP decode - - --binary; cat; } < input 2> /dev/null";
+        assert_eq!(folder.shell(line).output().unwrap().stdout, [report.as_bytes(), rest].concat());
+    }
 }
 
 #[test]

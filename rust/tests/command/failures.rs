@@ -53,7 +53,7 @@ fn folders_are_no_files() {
 #[test]
 fn a_full_disk() {
     let folder = three();
-    for frames in ["frames", "many"] {
+    for frames in ["frames", "frames --count 1", "many"] {
         for output in ["report", "words", "certificates"] {
             folder
                 .run(&format!("decode code {frames} --{output} /dev/full"))

@@ -68,9 +68,9 @@ fn refused(frames: impl AsRef<[u8]>, options: &str, line: &str) {
 
 #[test]
 fn what_is_no_frame_is_named_by_its_line() {
-    refused("1 1 1\n# c\n1 1\n", "", "3: 2 numbers, 3 wanted");
-    refused("1 1 1 1\n", "", "1: 4 numbers, 3 wanted");
-    refused("1\n", "", "1: 1 number, 3 wanted");
+    refused("1 1 1\n# c\n1 1\n", "", "3: a frame of 2, 3 numbers wanted");
+    refused("1 1 1 1\n", "", "1: a frame of 4, 3 numbers wanted");
+    refused("1\n", "", "1: a frame of 1, 3 numbers wanted");
     refused("1 1 1\n\n1 x 1\n", "", "3: number 2 is \"x\", a whole number wanted");
     refused("1 - 1\n", "", "1: number 2 is \"-\", a whole number wanted");
     refused("1 0.5 1\n", "", "1: number 2 is \"0.5\", a whole number wanted (amplitudes need --gain G)");

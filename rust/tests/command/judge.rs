@@ -96,7 +96,9 @@ fn binary_claims_that_are_none_of_decode() {
     };
     let twice = [certificate, certificate].concat();
     judge(&[0, 7, 0, 0, 0, 0], &twice, "frame 0 refused 15\nframe 1 certified");
+    judge(&[0, 255, 0, 0, 0, 0], &twice, "frame 0 refused 15\nframe 1 certified");
     judge(&[0; 5], &twice, "frame 0 certified\nframe 1 refused 15");
+    judge(&[0, 0, 0, 255, 255], &twice, "frame 0 certified\nframe 1 refused 15");
     judge(&[0; 6], &twice[..27], "frame 0 certified\nframe 1 refused 10");
     judge(&[0; 6], &twice[..17], "frame 0 certified\nframe 1 refused 10");
     judge(&[0; 6], &[&too_many[..], &certificate].concat(), "frame 0 refused 10\nframe 1 certified");

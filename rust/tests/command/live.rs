@@ -6,27 +6,31 @@ use std::process::Stdio;
 use super::support::{Folder, THREE};
 
 /// Sends frame after frame, each when the line of the last one has come.
-fn answered(arguments: &str, frame: &[u8]) {
-    let folder = Folder::with(&[("code", THREE)]);
+fn answered(arguments: &str, frame: &[u8], first: Option<&str>, line: &str) {
+    let folder = Folder::with(&[("code", THREE), ("w", &"000\n".repeat(3)), ("c", &"scale 1\n".repeat(3))]);
     let mut command = folder.command(arguments);
     let mut child = command.stdin(Stdio::piped()).stdout(Stdio::piped()).spawn().unwrap();
     let (mut input, output) = (child.stdin.take().unwrap(), child.stdout.take().unwrap());
     let mut lines = BufReader::new(output).lines().map(Result::unwrap);
-    assert_eq!(lines.next().unwrap(), "bits 3 checks 1 edges 3");
+    if first.is_some() {
+        assert_eq!(lines.next().as_deref(), first);
+    }
     for number in 0..3 {
         input.write_all(frame).unwrap();
-        assert_eq!(lines.next().unwrap(), format!("frame {number} certified 1 30 0"));
+        assert_eq!(lines.next().unwrap(), format!("frame {number} {line}"));
     }
     drop(input);
-    assert_eq!(lines.next(), None);
     assert!(child.wait().unwrap().success());
 }
 
 #[test]
 fn each_frame_is_answered_before_the_next() {
-    answered("decode code - --quiet", b"10 10 10\n");
-    answered("decode code - --quiet --gain 10", b"1 1 1\r\n");
-    answered("decode code - --quiet --binary", &[10, 0, 10, 0, 10, 0]);
+    let (code, line) = (Some("bits 3 checks 1 edges 3"), "certified 1 30 0");
+    answered("decode code - --quiet", b"10 10 10\n", code, line);
+    answered("decode code - --quiet --gain 10", b"1 1 1\r\n", code, line);
+    answered("decode code - --quiet --binary", &[10, 0, 10, 0, 10, 0], code, line);
+    answered("judge code - w c", b"10 10 10\n", None, "certified");
+    answered("judge code - w c --binary", &[10, 0, 10, 0, 10, 0], None, "certified");
 }
 
 #[test]

@@ -72,6 +72,8 @@ fn small_numbers_are_warned_of() {
         let errors = folder.run(&format!("decode code.alist frames {option}")).errors;
         assert!(!errors.contains("warning"), "{errors}");
     }
-    folder.write("frames", "820 1 1 1 1 1 1\n9000 1 1 1 1 1 1\n");
-    assert!(!folder.run("decode code.alist frames").errors.contains("warning"));
+    // Refused frames are not meant: this is one of 820s, and the begin of one.
+    folder.write("frames", [&[0x34, 0x03].repeat(7)[..], &[1, 0]].concat());
+    let done = folder.run("decode code.alist frames --binary");
+    assert!(done.text().ends_with("frame 1 refused 8\n") && !done.errors.contains("warning"), "{done:?}");
 }

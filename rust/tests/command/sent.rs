@@ -51,10 +51,10 @@ fn sent_words_that_do_not_fit() {
         folder.write("sent", sent);
         folder.run("decode code frames --sent sent").fails(1, line);
     };
-    fails(b"000\n00\n", "jugnayap: sent:2: 2 bits, 3 wanted");
+    fails(b"000\n00\n", "jugnayap: sent:2: a word of 2, 3 bits wanted");
     fails(b"000\n0x0\n", "jugnayap: sent:2: \"0x0\", a word of 0s and 1s or none wanted");
     fails(b"\0\0\0\0\x02\0", "jugnayap: sent: frame 1: byte 2 in a word, 0 or 1 wanted");
-    fails(b"\0\0\0\0", "jugnayap: sent: frame 1: 1 bit, 3 wanted");
+    fails(b"\0\0\0\0", "jugnayap: sent: frame 1: a word of 1, 3 bits wanted");
     fails("000\n".repeat(9).as_bytes(), "jugnayap: sent: nothing for frame 9, which frames has");
     fails("000\n".repeat(11).as_bytes(), "jugnayap: frames: nothing for frame 10, which sent has");
     folder.write("sent", "000\n".repeat(11));

@@ -27,14 +27,13 @@ impl Folder {
         Folder(path)
     }
 
-    /// With the files of a sample, frames as `frames`.
+    /// With the files of a sample, its frames as `frames`.
     pub fn with_sample(name: &str) -> Folder {
         let folder = Folder::new();
         for file in ["code.alist", "code.code", "report.txt"] {
             folder.write(file, sample(name, file));
         }
-        let frames = if name == "hamming" { "frames.txt" } else { "frames.bin" };
-        folder.write("frames", sample(name, frames));
+        folder.write("frames", sample(name, if is_binary(name) { "frames.bin" } else { "frames.txt" }));
         folder
     }
 
@@ -141,9 +140,25 @@ impl Done {
     }
 }
 
+fn samples_folder() -> PathBuf {
+    PathBuf::from(env!("CARGO_MANIFEST_DIR")).join("../samples")
+}
+
+/// The names of all samples.
+pub fn samples() -> Vec<String> {
+    let entries = fs::read_dir(samples_folder()).unwrap().map(Result::unwrap);
+    let folders = entries.filter(|entry| entry.path().is_dir());
+    folders.map(|entry| entry.file_name().into_string().unwrap()).collect()
+}
+
+/// Whether a sample's frames are binary.
+pub fn is_binary(name: &str) -> bool {
+    samples_folder().join(name).join("frames.bin").exists()
+}
+
 pub fn sample(name: &str, file: &str) -> Vec<u8> {
-    let path = format!("{}/../samples/{name}/{file}", env!("CARGO_MANIFEST_DIR"));
-    fs::read(&path).unwrap_or_else(|error| panic!("{path}: {error}"))
+    let path = samples_folder().join(name).join(file);
+    fs::read(&path).unwrap_or_else(|error| panic!("{}: {error}", path.display()))
 }
 
 /// The numbers of frames that are lines of text.

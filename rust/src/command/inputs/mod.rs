@@ -4,12 +4,14 @@ mod certificates;
 mod code;
 mod frames;
 mod lines;
+mod selection;
 mod source;
 mod words;
 
 pub use certificates::{Certificates, NO_CERTIFICATE};
 pub use code::read_code;
-pub use frames::{open_code_and_frames, Frames, Selection};
+pub use frames::Frames;
+pub use selection::{open_code_and_frames, Selection};
 pub use source::Source;
 pub use words::{Sent, Words, NONE, NO_BIT};
 

@@ -5,7 +5,7 @@ use std::ffi::OsStr;
 use jugnayap::Word;
 
 use super::{missing, Claim, Lines, Listing, Source};
-use crate::command::errors::{counted, quoted, Failure};
+use crate::command::errors::{quoted, Failure};
 
 /// Stands for each bit where there is no word.
 pub const NO_BIT: u8 = 255;
@@ -95,7 +95,7 @@ impl Sent {
         let Claim::Is(word) = self.0.claim() else { return Ok(()) };
         let refuse = |what: String| Err(Failure::Input(format!("{}: {what}", self.0.place(number))));
         if word.len() != self.0.bits {
-            return refuse(format!("{}, {} wanted", counted(word.len(), "bit"), self.0.bits));
+            return refuse(format!("a word of {}, {} bits wanted", word.len(), self.0.bits));
         }
         match word.iter().find(|&&bit| bit > 1) {
             Some(byte) => refuse(format!("byte {byte} in a word, 0 or 1 wanted")),
