@@ -1,11 +1,12 @@
-/* Answer, record and all buffers of starts and calls for rounds, held to document 01's numbers and
- * to what follows from them by its steps. Says what differs; exit status 0 only if nothing does. */
+/* Answer, record and all buffers of starts and calls for rounds, held to worked examples. Says what
+ * differs; exit status 0 only if nothing does. */
 #include <string.h>
 
 #include "jugnayap.h"
 #include "same.h"
 
-enum { UNIT = 4096, BITS = 3, CHECKS = 1, EDGES = 3, CERTIFICATE = 4 + 10 * CHECKS };
+enum { BITS = 3, CHECKS = 1, EDGES = 3, CERTIFICATE = JUGNAYAP_CERTIFICATE_LENGTH(CHECKS) };
+enum { ROUNDS = JUGNAYAP_MAX_ROUNDS };
 
 static const uint8_t code[] = {3, 0, 1, 0, 0, 0, 3, 0, 0, 0, 1, 0, 2, 0};
 static const int16_t leaning[BITS] = {4000, 4000, -2000};
@@ -107,11 +108,14 @@ static JugnayapCalled start(size_t code_len, size_t copies, size_t offsets, Buff
 static void starts(void)
 {
     Buffers b = junk();
-    same_called("copies short", start(sizeof code, 2, 4, &b), (JugnayapCalled){.number = 41});
-    same_called("offsets short", start(sizeof code, 4, 2, &b), (JugnayapCalled){.number = 41});
-    same_called("code a byte short", start(sizeof code - 1, 4, 4, &b), (JugnayapCalled){.number = 5});
+    same_called("copies short", start(sizeof code, 2, 4, &b),
+                (JugnayapCalled){.number = JUGNAYAP_REFUSED_BUFFER_SHORT});
+    same_called("offsets short", start(sizeof code, 4, 2, &b),
+                (JugnayapCalled){.number = JUGNAYAP_REFUSED_BUFFER_SHORT});
+    same_called("code a byte short", start(sizeof code - 1, 4, 4, &b),
+                (JugnayapCalled){.number = JUGNAYAP_REFUSED_LENGTH_WRONG});
     same_called("nothing lent", jugnayap_start(code, sizeof code, NULL, 0, NULL, 0),
-                (JugnayapCalled){.number = 41});
+                (JugnayapCalled){.number = JUGNAYAP_REFUSED_BUFFER_SHORT});
     same_buffers("refused start", b, junk());
     same_called("start", start(sizeof code, 4, 4, &b), (JugnayapCalled){.number = 0, .run = fresh});
     same_buffers("start", b, started());
@@ -125,13 +129,14 @@ static JugnayapCalled rounds(const int16_t *frame, JugnayapRun run, uint32_t wan
     return jugnayap_rounds(code, sizeof code, frame, BITS, run, wanted EACH_BUFFER(LEND));
 }
 
-static JugnayapCalled rounds_on_nothing(const int16_t *frame, size_t frame_len, JugnayapRun run, uint32_t wanted)
+static JugnayapCalled rounds_on_nothing(const int16_t *frame, size_t frame_len, JugnayapRun run,
+                                        uint32_t wanted)
 {
 #define LEND_NONE(element, name, need, first) , NULL, 0
     return jugnayap_rounds(code, sizeof code, frame, frame_len, run, wanted EACH_BUFFER(LEND_NONE));
 }
 
-/* Document 01's first reference frame, a round at a time. */
+/* (4000, 4000, -2000), a round at a time: word 000 after round 3. */
 static void three_rounds(void)
 {
     static const Shown shown[] = {
@@ -153,7 +158,8 @@ static void three_rounds(void)
     same_called("round 3", rounds(leaning, second, 1, lent, &b), (JugnayapCalled){.run = third});
     show_certified(&wanted, &shown[2], word, certificate, sizeof certificate);
     same_buffers("round 3", b, wanted);
-    same_called("round 4", rounds(leaning, third, 1, lent, &b), (JugnayapCalled){.number = 42, .run = third});
+    same_called("round 4", rounds(leaning, third, 1, lent, &b),
+                (JugnayapCalled){.number = JUGNAYAP_REFUSED_RUN_ENDED, .run = third});
     same_buffers("round 4", b, wanted);
 }
 
@@ -164,7 +170,7 @@ static void two_ones(void)
     static const Shown last = {{-3364, -3364, 2636}, {-3365, -3365, 2635}, {-3333, -3333, -3333}, 3333, 7};
     static const uint8_t word[] = {1, 1, 0}, certificate[] = {1, 0, 1, 0, 0, 0, 0x05, 0x0D, 0, 0, 7, 0, 0, 0};
     Buffers b = started(), wanted = started();
-    same_called("word 110", rounds(frame, fresh, 1024, needed, &b),
+    same_called("word 110", rounds(frame, fresh, ROUNDS, needed, &b),
                 (JugnayapCalled){.run = {.rounds = 3, .status = JUGNAYAP_CERTIFIED}});
     show_certified(&wanted, &last, word, certificate, sizeof certificate);
     same_buffers("word 110", b, wanted);
@@ -182,11 +188,12 @@ static void no_cut(void)
     show_certified(&wanted, &last, word, certificate, sizeof certificate);
     same_buffers("no cut", b, wanted);
     same_verdict("4 + 10q bytes",
-                 jugnayap_judge(code, sizeof code, frame, BITS, b.word, BITS, b.certificate, 4),
+                 jugnayap_judge(code, sizeof code, frame, BITS, b.word, BITS, b.certificate,
+                                jugnayap_certificate_length(b.certificate)),
                  (JugnayapVerdict){.kind = JUGNAYAP_PASSED});
     same_verdict("all bytes lent",
                  jugnayap_judge(code, sizeof code, frame, BITS, b.word, BITS, b.certificate, CERTIFICATE),
-                 (JugnayapVerdict){.number = 10});
+                 (JugnayapVerdict){.number = JUGNAYAP_REFUSED_CERTIFICATE_WRONG});
 }
 
 /* A frame of zeros, from the start and resumed: all is 0, and word and certificate stay. */
@@ -194,8 +201,8 @@ static void spent(void)
 {
     static const int16_t frame[BITS] = {0, 0, 0};
     static const Shown last = {0};
-    static const uint32_t done[] = {0, 1000, 1023}, wants[] = {1024, 1024, 1};
-    const JugnayapRun end = {.rounds = 1024, .status = JUGNAYAP_SPENT};
+    static const uint32_t done[] = {0, 1000, ROUNDS - 1}, wants[] = {ROUNDS, ROUNDS, 1};
+    const JugnayapRun end = {.rounds = ROUNDS, .status = JUGNAYAP_SPENT};
     for (size_t i = 0; i < COUNT(done); i++) {
         Buffers b = started(), wanted = started();
         JugnayapRun run = {.rounds = done[i], .status = JUGNAYAP_RUNNING};
@@ -221,16 +228,16 @@ static void refused_records(void)
         uint32_t number;
         JugnayapRun run;
         uint32_t wanted;
-    } cases[] = {{"1025 rounds", 17, {7, JUGNAYAP_RUNNING}, 1025},
-                 {"4294967295 rounds", 17, {9, JUGNAYAP_SPENT}, UINT32_MAX},
-                 {"certified before", 42, {3, JUGNAYAP_CERTIFIED}, 1},
-                 {"spent before", 42, {1024, JUGNAYAP_SPENT}, 1},
-                 {"spent after 70000", 42, {70000, JUGNAYAP_SPENT}, 0},
-                 {"running after 1024", 43, {1024, JUGNAYAP_RUNNING}, 0},
-                 {"running after 1025", 43, {1025, JUGNAYAP_RUNNING}, 1},
-                 {"running after 4294967295", 43, {UINT32_MAX, JUGNAYAP_RUNNING}, 1},
-                 {"status 3", 43, {5, 3}, 1},
-                 {"status 4294967295", 43, {UINT32_MAX, UINT32_MAX}, 1}};
+    } cases[] = {{"1025 rounds", JUGNAYAP_REFUSED_ASKED_TOO_MUCH, {7, JUGNAYAP_RUNNING}, ROUNDS + 1},
+                 {"4294967295 rounds", JUGNAYAP_REFUSED_ASKED_TOO_MUCH, {9, JUGNAYAP_SPENT}, UINT32_MAX},
+                 {"certified before", JUGNAYAP_REFUSED_RUN_ENDED, {3, JUGNAYAP_CERTIFIED}, 1},
+                 {"spent before", JUGNAYAP_REFUSED_RUN_ENDED, {ROUNDS, JUGNAYAP_SPENT}, 1},
+                 {"spent after 70000", JUGNAYAP_REFUSED_RUN_ENDED, {70000, JUGNAYAP_SPENT}, 0},
+                 {"running after 1024", JUGNAYAP_REFUSED_RUN_DAMAGED, {ROUNDS, JUGNAYAP_RUNNING}, 0},
+                 {"running after 1025", JUGNAYAP_REFUSED_RUN_DAMAGED, {ROUNDS + 1, JUGNAYAP_RUNNING}, 1},
+                 {"running after 4294967295", JUGNAYAP_REFUSED_RUN_DAMAGED, {UINT32_MAX, JUGNAYAP_RUNNING}, 1},
+                 {"status 3", JUGNAYAP_REFUSED_RUN_DAMAGED, {5, 3}, 1},
+                 {"status 4294967295", JUGNAYAP_REFUSED_RUN_DAMAGED, {UINT32_MAX, UINT32_MAX}, 1}};
     for (size_t i = 0; i < COUNT(cases); i++)
         refused(cases[i].call, cases[i].number, cases[i].run, cases[i].wanted, lent, started());
 }
@@ -241,35 +248,35 @@ static void refused_lengths(void)
     Lengths n = needed;
 #define SHORT(element, name, need, first) \
     n.name--; \
-    refused(#name " short", 41, run, 1, n, started()); \
+    refused(#name " short", JUGNAYAP_REFUSED_BUFFER_SHORT, run, 1, n, started()); \
     n.name++;
     EACH_BUFFER(SHORT)
-    refused("nothing lent", 41, run, 1, none, started());
+    refused("nothing lent", JUGNAYAP_REFUSED_BUFFER_SHORT, run, 1, none, started());
     same_called("nothing lent, NULL", rounds_on_nothing(leaning, BITS, run, 1),
-                (JugnayapCalled){.number = 41, .run = run});
+                (JugnayapCalled){.number = JUGNAYAP_REFUSED_BUFFER_SHORT, .run = run});
 }
 
 static void refused_edges(void)
 {
     const JugnayapRun run = {.rounds = 2, .status = JUGNAYAP_RUNNING};
-    refused("no start", 43, run, 1, lent, junk());
+    refused("no start", JUGNAYAP_REFUSED_RUN_DAMAGED, run, 1, lent, junk());
     Buffers b = started();
-    b.copies[2] = -UNIT - 1;
-    refused("copy -4097", 43, run, 1, lent, b);
+    b.copies[2] = -JUGNAYAP_UNIT - 1;
+    refused("copy -4097", JUGNAYAP_REFUSED_RUN_DAMAGED, run, 1, lent, b);
     b = started();
     b.offsets[1] = 2 * 8192 + 1;
-    refused("offset 16385 after 2 rounds", 43, run, 1, lent, b);
+    refused("offset 16385 after 2 rounds", JUGNAYAP_REFUSED_RUN_DAMAGED, run, 1, lent, b);
 }
 
 static void refused_frames(void)
 {
-    static const int16_t too_large[BITS] = {4000, 4000, 8192};
+    static const int16_t too_large[BITS] = {4000, 4000, JUGNAYAP_MAX_FRAME + 1};
     const JugnayapRun run = {.rounds = 70000, .status = 9};
     Buffers b = started();
-    same_called("frame out of range", rounds(too_large, run, 1025, lent, &b),
-                (JugnayapCalled){.number = 9, .run = run});
-    same_called("no frame, no buffers", rounds_on_nothing(NULL, 0, run, 1025),
-                (JugnayapCalled){.number = 8, .run = run});
+    same_called("frame out of range", rounds(too_large, run, ROUNDS + 1, lent, &b),
+                (JugnayapCalled){.number = JUGNAYAP_REFUSED_FRAME_RANGE, .run = run});
+    same_called("no frame, no buffers", rounds_on_nothing(NULL, 0, run, ROUNDS + 1),
+                (JugnayapCalled){.number = JUGNAYAP_REFUSED_FRAME_LENGTH, .run = run});
     same_buffers("refused frames", b, started());
 }
 

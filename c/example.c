@@ -1,11 +1,11 @@
-/* Document 01's first reference frame, a round at a time: one check on bits 0, 1 and 2. */
+/* Decodes a frame, a round at a time, and has the word judged: one check on bits 0, 1 and 2. */
 #include <inttypes.h>
 #include <stdio.h>
 
 #include "jugnayap.h"
 #include "verdict.h"
 
-enum { BITS = 3, CHECKS = 1, EDGES = 3, CERTIFICATE = 4 + 10 * CHECKS };
+enum { BITS = 3, CHECKS = 1, EDGES = 3, CERTIFICATE = JUGNAYAP_CERTIFICATE_LENGTH(CHECKS) };
 
 static const uint8_t code[] = {3, 0, 1, 0, 0, 0, 3, 0, 0, 0, 1, 0, 2, 0};
 static const int16_t frame[BITS] = {4000, 4000, -2000};
@@ -35,16 +35,10 @@ static void print_round(uint32_t round, const Buffers *b)
     printf("\n");
 }
 
-/* q stands in front of a certificate, and says how long it is. */
-static size_t certificate_length(const uint8_t *certificate)
-{
-    return 4 + 10 * (size_t)(certificate[0] | certificate[1] << 8);
-}
-
 static JugnayapVerdict judged(const Buffers *b)
 {
     return jugnayap_judge(code, sizeof code, frame, BITS, b->word, BITS, b->certificate,
-                          certificate_length(b->certificate));
+                          jugnayap_certificate_length(b->certificate));
 }
 
 static void print_certified(uint32_t rounds, const Buffers *b)
@@ -54,7 +48,7 @@ static void print_certified(uint32_t rounds, const Buffers *b)
         printf("%d", b->word[i]);
     JugnayapAgreement a = jugnayap_agreement(code, sizeof code, frame, BITS, b->word, BITS);
     printf("\nrounds %" PRIu32 "\nagreement %" PRId64 "\ncertificate", rounds, a.agreement);
-    for (size_t i = 0; i < certificate_length(b->certificate); i++)
+    for (size_t i = 0; i < jugnayap_certificate_length(b->certificate); i++)
         printf(" %02X", b->certificate[i]);
     printf("\njudge ");
     print_verdict(judged(b));
@@ -62,6 +56,11 @@ static void print_certified(uint32_t rounds, const Buffers *b)
 
 int main(void)
 {
+    if (jugnayap_version() != JUGNAYAP_VERSION) {
+        fprintf(stderr, "compiled for version %d, linked with %" PRIu32 "\n", JUGNAYAP_VERSION,
+                jugnayap_version());
+        return 1;
+    }
     Buffers b = {0};
     JugnayapCalled called = jugnayap_start(code, sizeof code, b.copies, EDGES, b.offsets, EDGES);
     while (called.number == 0 && called.run.status == JUGNAYAP_RUNNING) {

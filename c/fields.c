@@ -1,20 +1,20 @@
-/* Every field that table, cut search, judge and agreement answer, held to document 01's numbers and to
- * some worked out by hand. Says what differs; exit status 0 only if nothing does. */
+/* Every field that table, cut search, judge and agreement answer, held to worked examples. Says what
+ * differs; exit status 0 only if nothing does. */
 #include <string.h>
 
 #include "jugnayap.h"
 #include "same.h"
 
-enum { UNIT = 4096, BITS = 3, CERTIFICATE = 14 };
+enum { UNIT = JUGNAYAP_UNIT, BITS = 3, CERTIFICATE = JUGNAYAP_CERTIFICATE_LENGTH(1) };
 
-/* Document 01's one check on bits 0, 1 and 2, and the (7,4) Hamming code: checks on 0 2 4 6, 1 2 5 6 and
- * 3 4 5 6, so that n, m and E are three different numbers. */
+/* One check on bits 0, 1 and 2, and the (7,4) Hamming code: checks on 0 2 4 6, 1 2 5 6 and 3 4 5 6, so that
+ * n, m and E are three different numbers. */
 static const uint8_t three[] = {3, 0, 1, 0, 0, 0, 3, 0, 0, 0, 1, 0, 2, 0};
 static const uint8_t hamming[] = {7, 0, 3, 0, 0, 0, 4, 0, 4, 0, 4, 0, 8, 0, 4, 0, 0, 0, 2, 0,
                                   4, 0, 6, 0, 1, 0, 2, 0, 5, 0, 6, 0, 3, 0, 4, 0, 5, 0, 6, 0};
 
 static const int16_t leaning[BITS] = {4000, 4000, -2000};
-static const int16_t too_large[BITS] = {4000, 4000, 8192};
+static const int16_t too_large[BITS] = {4000, 4000, JUGNAYAP_MAX_FRAME + 1};
 
 static void same_table(const char *call, JugnayapTable got, JugnayapTable wanted)
 {
@@ -41,8 +41,9 @@ static void tables(void)
     same_table("table", jugnayap_check_table(hamming, sizeof hamming),
                (JugnayapTable){.number = 0, .bits = 7, .checks = 3, .edges = 12});
     same_table("table a byte short", jugnayap_check_table(hamming, sizeof hamming - 1),
-               (JugnayapTable){.number = 5});
-    same_table("no table", jugnayap_check_table(NULL, 0), (JugnayapTable){.number = 1});
+               (JugnayapTable){.number = JUGNAYAP_REFUSED_LENGTH_WRONG});
+    same_table("no table", jugnayap_check_table(NULL, 0),
+               (JugnayapTable){.number = JUGNAYAP_REFUSED_HEADER_SHORT});
 }
 
 static void cuts(void)
@@ -54,19 +55,19 @@ static void cuts(void)
     same_cut("check 0, which is met", jugnayap_search_cut(hamming, sizeof hamming, spins, 7, 0),
              (JugnayapCut){.mask = 0});
     same_cut("check 3 of 3", jugnayap_search_cut(hamming, sizeof hamming, spins, 7, 3),
-             (JugnayapCut){.number = 17});
+             (JugnayapCut){.number = JUGNAYAP_REFUSED_ASKED_TOO_MUCH});
     same_cut("no spins", jugnayap_search_cut(hamming, sizeof hamming, NULL, 0, 2),
-             (JugnayapCut){.number = 16});
+             (JugnayapCut){.number = JUGNAYAP_REFUSED_POINT_WRONG});
     spins[6] = UNIT + 1;
     same_cut("spin 4097", jugnayap_search_cut(hamming, sizeof hamming, spins, 7, 2),
-             (JugnayapCut){.number = 16});
+             (JugnayapCut){.number = JUGNAYAP_REFUSED_POINT_WRONG});
     same_cut("1365 1365 -1366", jugnayap_search_cut(three, sizeof three, uncut, BITS, 0),
              (JugnayapCut){.mask = 0});
     same_cut("1365 1365 -1367", jugnayap_search_cut(three, sizeof three, cut, BITS, 0),
              (JugnayapCut){.mask = 4});
 }
 
-/* Document 01's certificate of one entry, scale 1, mask 4, on word 000. */
+/* One entry, scale 1, mask 4, on word 000. */
 static JugnayapVerdict judged(const int16_t *frame, uint16_t multiplier, size_t length)
 {
     const uint8_t word[BITS] = {0, 0, 0};
@@ -89,12 +90,13 @@ static void verdicts(void)
     same_verdict("multiplier 4001", judged(leaning, 4001, CERTIFICATE),
                  (JugnayapVerdict){.kind = JUGNAYAP_GAP, .value = 4});
     same_verdict("frame out of range", judged(too_large, 2000, CERTIFICATE),
-                 (JugnayapVerdict){.number = 9});
+                 (JugnayapVerdict){.number = JUGNAYAP_REFUSED_FRAME_RANGE});
     same_verdict("certificate longer than 4 + 10q", judged(leaning, 2000, CERTIFICATE + 1),
-                 (JugnayapVerdict){.number = 10});
-    same_verdict("multiplier 0", judged(leaning, 0, CERTIFICATE), (JugnayapVerdict){.number = 12});
+                 (JugnayapVerdict){.number = JUGNAYAP_REFUSED_CERTIFICATE_WRONG});
+    same_verdict("multiplier 0", judged(leaning, 0, CERTIFICATE),
+                 (JugnayapVerdict){.number = JUGNAYAP_REFUSED_ENTRY_RANGE});
     same_verdict("no frame", jugnayap_judge(three, sizeof three, NULL, 0, NULL, 0, NULL, 0),
-                 (JugnayapVerdict){.number = 8});
+                 (JugnayapVerdict){.number = JUGNAYAP_REFUSED_FRAME_LENGTH});
 }
 
 /* A gap of more than 32 bits: one check on 32 bits, the masks 1, 2, 4, 7 and 8 with the greatest
@@ -104,7 +106,8 @@ static void large_gap(void)
 {
     const uint8_t masks[5] = {1, 2, 4, 7, 8}, word[32] = {0};
     const int16_t frame[32] = {0};
-    uint8_t code[8 + 2 * 32] = {32, 0, 1, 0, 0, 0, 32, 0}, certificate[4 + 10 * 5] = {5, 0, 1, 0};
+    uint8_t code[JUGNAYAP_CODE_LENGTH(1, 32)] = {32, 0, 1, 0, 0, 0, 32, 0};
+    uint8_t certificate[JUGNAYAP_CERTIFICATE_LENGTH(5)] = {5, 0, 1, 0};
     for (int i = 0; i < 32; i++)
         code[8 + 2 * i] = (uint8_t)i;
     for (int i = 0; i < 5; i++) {
@@ -113,7 +116,7 @@ static void large_gap(void)
     }
     same_verdict("large gap",
                  jugnayap_judge(code, sizeof code, frame, 32, word, 32, certificate, sizeof certificate),
-                 (JugnayapVerdict){.kind = JUGNAYAP_GAP, .value = INT64_C(296) * 16777215});
+                 (JugnayapVerdict){.kind = JUGNAYAP_GAP, .value = INT64_C(296) * JUGNAYAP_MAX_MULTIPLIER});
 }
 
 static void agreements(void)
@@ -124,10 +127,10 @@ static void agreements(void)
     same_agreement("word 110", jugnayap_agreement(three, sizeof three, leaning, BITS, ones, BITS),
                    (JugnayapAgreement){.agreement = -10000});
     same_agreement("word 002", jugnayap_agreement(three, sizeof three, leaning, BITS, two, BITS),
-                   (JugnayapAgreement){.number = 15});
+                   (JugnayapAgreement){.number = JUGNAYAP_REFUSED_WORD_WRONG});
     same_agreement("frame out of range",
                    jugnayap_agreement(three, sizeof three, too_large, BITS, zeros, BITS),
-                   (JugnayapAgreement){.number = 9});
+                   (JugnayapAgreement){.number = JUGNAYAP_REFUSED_FRAME_RANGE});
 }
 
 int main(void)

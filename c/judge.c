@@ -1,13 +1,14 @@
-/* Has a word and a certificate judged: judge CODE FRAME WORD CERTIFICATE, each a file in document 01's
- * format (the word one byte a bit, 0 or 1). Prints the verdict; exit status 0 only for certified. */
+/* Has a word and a certificate judged: judge CODE FRAME WORD CERTIFICATE, each a file in the header's format,
+ * the frame's numbers in 16 bits each. Prints the verdict; exit status 0 only for certified. */
 #include <stdio.h>
 #include <stdlib.h>
 
 #include "jugnayap.h"
 #include "verdict.h"
 
-/* Longer than any file that is accepted: a longer one is cut, and refused for its length. */
-enum { LONGEST = 65536 };
+/* One byte more than the longest file that is accepted, a certificate: a longer file is cut, and refused for
+ * its length. */
+enum { LONGEST = JUGNAYAP_CERTIFICATE_LENGTH(JUGNAYAP_MAX_ENTRIES) + 1 };
 
 typedef struct {
     uint8_t bytes[LONGEST];
@@ -25,7 +26,7 @@ static void read_file(const char *name, File *file)
     fclose(in);
 }
 
-/* Little-endian numbers of 16 bits; an odd byte at the end makes the frame one number too long. */
+/* An odd byte at the end makes the frame one number too long. */
 static size_t numbers_of(const File *file, int16_t *numbers)
 {
     size_t count = (file->length + 1) / 2;
@@ -39,7 +40,7 @@ static size_t numbers_of(const File *file, int16_t *numbers)
 int main(int argc, char **argv)
 {
     static File code, frame, word, certificate;
-    static int16_t numbers[LONGEST / 2];
+    static int16_t numbers[(LONGEST + 1) / 2];
     if (argc != 5) {
         fprintf(stderr, "usage: judge CODE FRAME WORD CERTIFICATE\n");
         return 2;

@@ -1,4 +1,20 @@
-/* Jugnayap: a proved LP decoder for sparse parity-check codes, and a proved judge of its certificates.
+/* Jugnayap: a proved LP decoder for sparse parity-check codes, and a proved judge of anybody's certificates.
+ *
+ * A frame number is positive where the bit is likelier 0: it is the log-likelihood ratio
+ * ln(P(bit is 0) / P(bit is 1)) times a gain of your choice, as a whole number.
+ *
+ * Formats (file numbers are little-endian; U is 4096; docs/FORMATS.md has more):
+ *   code         n and m (16 bits each: bits, checks), then m entries of start and count (16 bits each),
+ *                then the bodies: bit numbers, 16 bits each, strictly ascending within a check. The first
+ *                start is 0, each later one the start before it plus its count. E is the sum of counts:
+ *                an edge is one body number. 4 + 4m + 2E bytes.
+ *   frame        n numbers from -8191 to 8191.
+ *   word         n bytes, each 0 or 1.
+ *   spins        n numbers from -U to U; +U is bit 0, -U is bit 1.
+ *   certificate  q and scale (16 bits each), then q entries of check number (16 bits) and multiplier
+ *                (32 bits), then q masks (32 bits). 4 + 10q bytes. Entries ascend strictly by check, then
+ *                mask. A mask has an odd number of ones, all below the check's degree, which is its count;
+ *                bit k is the check's k-th member, from 0.
  *
  * Each call is total: any bytes, numbers and lengths may be handed in, and what is wrong with them is
  * answered by number, 0 for nothing. The caller owes only what C itself asks: a pointer is aligned and
@@ -8,39 +24,7 @@
  *
  * There is no global state and no allocation. Calls may run at the same time on different buffers, and
  * may share buffers that none of them writes. Each call needs less than 64 KiB of stack. Of the C library
- * the archive needs memcpy and memset, and nothing else.
- *
- * Formats (file numbers are little-endian; U is 4096):
- *   code         n and m (16 bits each: bits, checks), then m entries of start and count (16 bits each),
- *                then the bodies: bit numbers, 16 bits each, strictly ascending within a check.
- *                E is the sum of counts. 4 + 4m + 2E bytes. n and m are 1 to 2048, a count 1 to 32,
- *                E at most 8192, and each bit stands in 1 to 32 checks.
- *   frame        n numbers from -8191 to 8191.
- *   word         n bytes, each 0 or 1.
- *   spins        n numbers from -U to U; +U is bit 0, -U is bit 1.
- *   certificate  q and scale S (16 bits each), then q entries of check number (16 bits) and multiplier
- *                (32 bits), then q masks (32 bits). 4 + 10q bytes. q is 0 to 4096, S 1 to 1023, a
- *                multiplier 1 to 16777215. Entries ascend strictly by check, then mask. A mask has an
- *                odd number of ones, all below the check's degree; bit k is the check's k-th member.
- *
- * Refusals because of what was handed in:
- *    1 code under 4 bytes              2 n or m out of range         3 a count out of range
- *    4 a start wrong or E above 8192   5 code length wrong           6 a member not below n, or not ascending
- *    7 a bit in too few or too many checks                           8 frame not n long
- *    9 frame number out of range      10 certificate length wrong or q too large
- *   11 scale                          12 entry's check or multiplier
- *   13 mask                           14 entry order                15 word's length or a byte
- *   16 spins' length or a spin        17 check number not below m, or rounds wanted above 1024
- * Refusals because of how the run stands:
- *   41 a lent buffer too short
- *   42 run already certified or spent
- *   43 rounds done above 1024, or 1024 in a running run, a copy outside -U..U, an offset beyond
- *      8192 x rounds done, or a status that is none of JUGNAYAP_RUNNING, _CERTIFIED and _SPENT
- * Document 01's 44, a round's multiplier above 16777215, is never answered: it is proved that no run that
- * passes 43 meets one, as 43 keeps every multiplier at 8388608 or below.
- *
- * Of several the first is answered, in the order that the call states. "1 to 7" stands for 1, 2, 5 if
- * the contents don't fit, 3, 4, 5, 6, 7. */
+ * memcpy and memset are needed, and nothing else. */
 #ifndef JUGNAYAP_H
 #define JUGNAYAP_H
 
@@ -50,6 +34,67 @@
 #ifdef __cplusplus
 extern "C" {
 #endif
+
+/* The version of this header. jugnayap_version() is that of the library that the program runs with. */
+#define JUGNAYAP_VERSION_MAJOR 0
+#define JUGNAYAP_VERSION_MINOR 1
+#define JUGNAYAP_VERSION_PATCH 0
+#define JUGNAYAP_VERSION_STRING "0.1.0"
+#define JUGNAYAP_VERSION \
+    (JUGNAYAP_VERSION_MAJOR * 10000 + JUGNAYAP_VERSION_MINOR * 100 + JUGNAYAP_VERSION_PATCH)
+
+#define JUGNAYAP_UNIT 4096               /* U */
+#define JUGNAYAP_MAX_BITS 2048           /* n, from 1 */
+#define JUGNAYAP_MAX_CHECKS 2048         /* m, from 1 */
+#define JUGNAYAP_MAX_DEGREE 32           /* members of a check, and checks of a bit, from 1 */
+#define JUGNAYAP_MAX_EDGES 8192          /* E */
+#define JUGNAYAP_MAX_FRAME 8191          /* a frame number, from -8191 */
+#define JUGNAYAP_MAX_ROUNDS 1024         /* of a run */
+#define JUGNAYAP_MAX_ENTRIES 4096        /* a certificate's q, from 0 */
+#define JUGNAYAP_MAX_SCALE 1023          /* its scale, from 1 */
+#define JUGNAYAP_MAX_MULTIPLIER 16777215 /* an entry's multiplier, from 1 */
+
+/* Lengths in bytes: of a code; of the certificate buffer that jugnayap_rounds needs, which is that of a
+ * certificate with an entry for each check; and the longest such buffer. */
+#define JUGNAYAP_CODE_LENGTH(checks, edges) (4 + 4 * (checks) + 2 * (edges))
+#define JUGNAYAP_CERTIFICATE_LENGTH(checks) (4 + 10 * (checks))
+#define JUGNAYAP_MAX_CERTIFICATE JUGNAYAP_CERTIFICATE_LENGTH(JUGNAYAP_MAX_CHECKS)
+
+/* The length of a certificate that stands in a buffer of any length: q is in its first two bytes. */
+static inline size_t jugnayap_certificate_length(const uint8_t *certificate)
+{
+    size_t entries = certificate[0] + 256u * certificate[1];
+    return JUGNAYAP_CERTIFICATE_LENGTH(entries);
+}
+
+/* Refusals. Of several the first is answered, in the order that the call states, where "the code's" are
+ * HEADER_SHORT, SIZE_RANGE, LENGTH_WRONG if the m entries don't fit, COUNT_RANGE, START_WRONG, LENGTH_WRONG,
+ * MEMBER_WRONG, BIT_DEGREE. */
+enum JugnayapRefusal {
+    /* because of what was handed in */
+    JUGNAYAP_REFUSED_HEADER_SHORT = 1,       /* code under 4 bytes */
+    JUGNAYAP_REFUSED_SIZE_RANGE = 2,         /* n or m out of range */
+    JUGNAYAP_REFUSED_COUNT_RANGE = 3,        /* a count out of range */
+    JUGNAYAP_REFUSED_START_WRONG = 4,        /* a start wrong, or E above JUGNAYAP_MAX_EDGES */
+    JUGNAYAP_REFUSED_LENGTH_WRONG = 5,       /* code not as long as its contents say */
+    JUGNAYAP_REFUSED_MEMBER_WRONG = 6,       /* a member not below n, or not ascending */
+    JUGNAYAP_REFUSED_BIT_DEGREE = 7,         /* a bit in no check, or in too many */
+    JUGNAYAP_REFUSED_FRAME_LENGTH = 8,       /* frame not n long */
+    JUGNAYAP_REFUSED_FRAME_RANGE = 9,        /* a frame number out of range */
+    JUGNAYAP_REFUSED_CERTIFICATE_WRONG = 10, /* certificate's length wrong, or q too large */
+    JUGNAYAP_REFUSED_SCALE_RANGE = 11,       /* scale out of range */
+    JUGNAYAP_REFUSED_ENTRY_RANGE = 12,       /* an entry's check or multiplier out of range */
+    JUGNAYAP_REFUSED_MASK_WRONG = 13,        /* an even number of ones, or one that is no member */
+    JUGNAYAP_REFUSED_ENTRY_ORDER = 14,       /* an entry not above the one before */
+    JUGNAYAP_REFUSED_WORD_WRONG = 15,        /* word not n long, or a byte above 1 */
+    JUGNAYAP_REFUSED_POINT_WRONG = 16,       /* not n spins, or one outside -U..U */
+    JUGNAYAP_REFUSED_ASKED_TOO_MUCH = 17,    /* check not below m, or rounds above JUGNAYAP_MAX_ROUNDS */
+    /* because of how the run stands */
+    JUGNAYAP_REFUSED_BUFFER_SHORT = 41,      /* a lent buffer too short */
+    JUGNAYAP_REFUSED_RUN_ENDED = 42,         /* run already certified or spent */
+    JUGNAYAP_REFUSED_RUN_DAMAGED = 43        /* 1024 rounds or more in a running run, a copy outside -U..U, an
+                                                offset beyond 8192 x rounds done, or an unknown status */
+};
 
 /* In each answer `number` is 0, or the refusal's number; the fields after it are then 0, but for `run`
  * where jugnayap_rounds says otherwise. So test `number` first: a refused verdict has kind 0 and value 0,
@@ -99,12 +144,15 @@ typedef struct {
     JugnayapRun run;
 } JugnayapCalled;
 
-/* Checks a code file. Refusals: 1 to 7. */
+/* The library's version, as JUGNAYAP_VERSION counts it. */
+uint32_t jugnayap_version(void);
+
+/* Checks a code. Refusals: the code's. */
 JugnayapTable jugnayap_check_table(const uint8_t *code, size_t code_len);
 
 /* The cut search: the violated odd set V of the check's members at these spins, as a mask, or none. None
  * is answered exactly if no odd V is violated; at most one ever is.
- * Refusals: 1 to 7, 16, 17 (check). */
+ * Refusals: the code's, POINT_WRONG, ASKED_TOO_MUCH (check). */
 JugnayapCut jugnayap_search_cut(const uint8_t *code, size_t code_len,
                                 const int32_t *spins, size_t spins_len,
                                 size_t check);
@@ -112,41 +160,41 @@ JugnayapCut jugnayap_search_cut(const uint8_t *code, size_t code_len,
 /* Judges a word and anybody's certificate: the first check that the word breaks; if there is none,
  * passed for gap 0, else the gap, which is then positive. A word that passes has the best agreement of
  * all codewords, and of all points of the relaxation.
- * The certificate is exactly 4 + 10q bytes long. The buffer in which jugnayap_rounds wrote it may be
- * longer: q is the number in its first two bytes.
- * Refusals: 1 to 7, 8, 9, 15, 10, 11, then entry by entry 12, 13, 14. */
+ * The certificate's length is exact: jugnayap_certificate_length, where its buffer may be longer.
+ * Refusals: the code's, FRAME_LENGTH, FRAME_RANGE, WORD_WRONG, CERTIFICATE_WRONG, SCALE_RANGE, then entry by
+ * entry ENTRY_RANGE, MASK_WRONG, ENTRY_ORDER. */
 JugnayapVerdict jugnayap_judge(const uint8_t *code, size_t code_len,
                                const int16_t *frame, size_t frame_len,
                                const uint8_t *word, size_t word_len,
                                const uint8_t *certificate, size_t certificate_len);
 
 /* The agreement of a word with a frame: the sum of the frame's numbers, added where the bit is 0 and
- * subtracted where it is 1. Refusals: 1 to 7, 8, 9, 15. */
+ * subtracted where it is 1. Refusals: the code's, FRAME_LENGTH, FRAME_RANGE, WORD_WRONG. */
 JugnayapAgreement jugnayap_agreement(const uint8_t *code, size_t code_len,
                                      const int16_t *frame, size_t frame_len,
                                      const uint8_t *word, size_t word_len);
 
 /* Starts a run: zeroes the first E copies and offsets, and gives the fresh record {0, JUGNAYAP_RUNNING}.
- * Refusals: 1 to 7, 41 (copies E, offsets E). A refused start changes neither buffer.
+ * Refusals: the code's, BUFFER_SHORT (copies E, offsets E). A refused start changes neither buffer.
  * Elements past the first E never change. */
 JugnayapCalled jugnayap_start(const uint8_t *code, size_t code_len,
                               int32_t *copies, size_t copies_len,
                               int32_t *offsets, size_t offsets_len);
 
-/* Does the rounds wanted, 0 to 1024, or fewer if the run ends: certified by a word that meets all checks
- * and has gap 0, or spent after 1024 rounds in all without one. `run` is the record after the call, and
- * its status the answer.
+/* Does the rounds wanted, 0 to JUGNAYAP_MAX_ROUNDS, or fewer if the run ends: certified by a word that meets
+ * all checks and has gap 0, or spent after JUGNAYAP_MAX_ROUNDS in all without one. `run` is the record after
+ * the call, and its status the answer.
  *
- * Lengths needed: spins n; copies, offsets E; multipliers, masks m; word n; certificate 4 + 10m. What is
- * past them never changes.
+ * Lengths needed: spins n; copies, offsets E; multipliers, masks m; word n; certificate
+ * JUGNAYAP_CERTIFICATE_LENGTH(m). What is past them never changes.
  *
  * A call that does a round leaves that of the last one: each bit's spin, each edge's copy and offset (in
  * the order of the bodies), each check's multiplier and mask, both 0 for no cut. Only a call that
  * certifies writes word and certificate, the latter 4 + 10q bytes with q the cuts of the last round, in
  * check order, scale 1; what is past them stays. 0 rounds change nothing.
  *
- * Refusals: 1 to 7, 8, 9, 17 (wanted), 41, 42, 43. A refused call gives `run` back as handed in and
- * changes no buffer. */
+ * Refusals: the code's, FRAME_LENGTH, FRAME_RANGE, ASKED_TOO_MUCH (wanted), BUFFER_SHORT, RUN_ENDED,
+ * RUN_DAMAGED. A refused call gives `run` back as handed in and changes no buffer. */
 JugnayapCalled jugnayap_rounds(const uint8_t *code, size_t code_len,
                                const int16_t *frame, size_t frame_len,
                                JugnayapRun run, uint32_t wanted,

@@ -1,4 +1,4 @@
-/* Comparing, for fields.c and buffers.c: each difference is printed, and counted for the exit status. */
+/* Comparing, for fields.c, buffers.c and header.c: each difference is printed, and counted for the exit status. */
 #ifndef SAME_H
 #define SAME_H
 

@@ -1,74 +1,84 @@
-"""Between alist, the text that tools for sparse parity-check codes exchange, and document 01's
-code file.
+"""Between alist, the text that tools for sparse parity-check codes exchange, and the code file.
 
     python3 tools/alist.py to-code IN.alist OUT.code
     python3 tools/alist.py to-alist IN.code OUT.alist
 
 An alist has N columns (bits) and M rows (checks), numbered from 1: a line N M; a line of the
-greatest column and row weights; the N column weights; the M row weights; per column a line of
-its rows; per row a line of its columns. Lines of numbers may be padded with 0 to the greatest
-weight. What is refused is told in one line on standard error, with status 1, and nothing is
-written.
+greatest column and row weights; a line of the N column weights; a line of the M row weights; per
+column a line of its rows; per row a line of its columns. Both halves must say the same table,
+and the code file's limits hold (docs/FORMATS.md).
+
+Accepted beside that: lists in any order; zeros after a list's numbers, as many as there are;
+blank lines anywhere; comments, from `#`, `%` or `//` to the end of the line; a byte-order mark;
+Windows line ends. A list is never spread over lines, and a line never has two.
+
+IN and OUT may be `-`, standard input and output. What is refused is told in one line on standard
+error that names the file's own line, with status 1, and nothing is written.
 """
 
 import argparse
+import re
 from collections import namedtuple
 from itertools import accumulate
-from pathlib import Path
 
 import codefile
 import plain
 from limits import BITS_LIMIT, CHECKS_LIMIT, DEGREE_LIMIT, EDGES_LIMIT
 from plain import Refused
 
-# A side of the table: what a line is called, what its numbers are called, and which of document
-# 01's limits holds for its weights.
+COMMENT = re.compile(rb"#|%|//")
+
+# A side of the table: what a line is called, what its numbers are called, and which of the code
+# file's limits holds for its weights.
 Side = namedtuple("Side", "name listed limit")
 COLUMN = Side("column", "row", f"a bit stands in 1 to {DEGREE_LIMIT} checks")
 ROW = Side("row", "column", f"a check has 1 to {DEGREE_LIMIT} members")
 
+# The numbers of a column or row, without padding, and where they stand.
+Listed = namedtuple("Listed", "line numbers")
+
 
 class Reader:
-    """The lines of an alist, taken one after the other."""
+    """The lines of an alist that say something, taken one after the other."""
 
-    def __init__(self, data):
-        self.lines = plain.text_lines(data)
+    def __init__(self, stream):
+        self.lines = ((number, text) for number, text in plain.lines(stream, COMMENT) if text)
         self.number = 0                     # of the line last taken, from 1
 
     def take(self, wanted):
         """The next line's numbers."""
-        self.number += 1
-        if self.number > len(self.lines):
+        self.number, text = next(self.lines, (self.number + 1, None))
+        if text is None:
             self.refuse(f"the file ends where {wanted} should stand")
-        return plain.whole_numbers(self.number, self.lines[self.number - 1])
+        return plain.whole_numbers(self.number, text)
 
     def refuse(self, reason, line=None):
         raise Refused(f"line {line or self.number}: {reason}")
 
     def refuse_more(self):
-        for number, line in enumerate(self.lines[self.number:], self.number + 1):
-            if line.strip(plain.BLANKS):
-                self.refuse("text after the last row", number)
+        for number, _ in self.lines:
+            self.refuse("text after the last row", number)
 
 
 # --- alist to table --------------------------------------------------------------------------
 
-def read(data):
+def read(stream):
     """The table of an alist, or a refusal that names the line."""
-    reader = Reader(data)
+    reader = Reader(stream)
     columns, rows = read_sizes(reader)
     greatest = read_pair(reader, "the greatest column weight and the greatest row weight")
+    greatest_line = reader.number
     column_weights = read_weights(reader, COLUMN, columns)
     row_weights = read_weights(reader, ROW, rows)
-    refuse_greatest(reader, greatest, column_weights, row_weights)
+    refuse_greatest(reader, greatest_line, greatest, column_weights, row_weights)
     refuse_edges(reader, column_weights, row_weights)
-    rows_of_columns = [read_list(reader, COLUMN, number, weight, greatest[0], rows)
+    rows_of_columns = [read_list(reader, COLUMN, number, weight, rows)
                        for number, weight in enumerate(column_weights, 1)]
-    columns_of_rows = [read_list(reader, ROW, number, weight, greatest[1], columns)
+    columns_of_rows = [read_list(reader, ROW, number, weight, columns)
                        for number, weight in enumerate(row_weights, 1)]
     reader.refuse_more()
     refuse_disagreement(reader, rows_of_columns, columns_of_rows)
-    return columns, [sorted(column - 1 for column in members) for members in columns_of_rows]
+    return columns, [sorted(column - 1 for column in row.numbers) for row in columns_of_rows]
 
 
 def read_pair(reader, wanted):
@@ -85,7 +95,7 @@ def read_sizes(reader):
     for name, number, limit, kind in zip("NM", numbers, (BITS_LIMIT, CHECKS_LIMIT),
                                          ("bits", "checks")):
         if not 1 <= number <= limit:
-            reader.refuse(f"{name} is {number}; document 01 has 1 to {limit} {kind}")
+            reader.refuse(f"{name} is {number}; a code file has 1 to {limit} {kind}")
     return numbers
 
 
@@ -95,15 +105,15 @@ def read_weights(reader, side, count):
         reader.refuse(f"{plain.counted(len(weights), f'{side.name} weight')}, {count} wanted")
     for number, weight in enumerate(weights, 1):
         if not 1 <= weight <= DEGREE_LIMIT:
-            reader.refuse(f"{side.name} {number} has weight {weight}; in document 01 {side.limit}")
+            reader.refuse(f"{side.name} {number} has weight {weight}; in a code file {side.limit}")
     return weights
 
 
-def refuse_greatest(reader, stated, column_weights, row_weights):
+def refuse_greatest(reader, line, stated, column_weights, row_weights):
     for side, number, weights in zip((COLUMN, ROW), stated, (column_weights, row_weights)):
         if number != max(weights):
             reader.refuse(f"{number} stated for the greatest {side.name} weight, "
-                          f"which is {max(weights)}", line=2)
+                          f"which is {max(weights)}", line)
 
 
 def refuse_edges(reader, column_weights, row_weights):
@@ -115,41 +125,39 @@ def refuse_edges(reader, column_weights, row_weights):
         sums = enumerate(accumulate(row_weights), 1)
         row = next(number for number, total in sums if total > EDGES_LIMIT)
         reader.refuse(f"{edges} edges, too many from row {row} on; "
-                      f"document 01 has at most {EDGES_LIMIT}")
+                      f"a code file has at most {EDGES_LIMIT}")
 
 
-def read_list(reader, side, number, weight, greatest, highest):
-    """The numbers of one column or row, without padding."""
-    line = f"{side.name} {number}"
-    numbers = reader.take(f"the list of {line}")
-    if len(numbers) not in (weight, greatest):
-        padded = "" if weight == greatest else f", or {greatest} with padding"
-        values = " (values of a non-binary alist?)" if len(numbers) in (
-            2 * weight, 2 * greatest) else ""
-        reader.refuse(f"{plain.counted(len(numbers), 'number')} for {line}, "
-                      f"{weight} wanted{padded}{values}")
-    if any(numbers[weight:]):
-        reader.refuse(f"{line} has weight {weight}, but more than {weight} numbers beside 0")
+def read_list(reader, side, number, weight, highest):
+    """One column or row; zeros may follow its numbers."""
+    name = f"{side.name} {number}"
+    numbers = reader.take(f"the list of {name}")
+    found = sum(item != 0 for item in numbers)
+    if found != weight:
+        values = " (values of a non-binary alist?)" if found == 2 * weight else ""
+        reader.refuse(f"{plain.counted(found, 'number')} beside 0 for {name}, "
+                      f"{weight} wanted{values}")
     listed = numbers[:weight]
     for place, item in enumerate(listed):
+        if item == 0:
+            reader.refuse(f"0 before the last number of {name}")
         if not 1 <= item <= highest:
-            reader.refuse(f"{line} lists {side.listed} {item}, 1 to {highest} wanted")
+            reader.refuse(f"{name} lists {side.listed} {item}, 1 to {highest} wanted")
         if item in listed[:place]:
-            reader.refuse(f"{line} lists {side.listed} {item} twice")
-    return listed
+            reader.refuse(f"{name} lists {side.listed} {item} twice")
+    return Listed(reader.number, listed)
 
 
 def refuse_disagreement(reader, rows_of_columns, columns_of_rows):
     """The weights add up alike on both sides, so nothing missing in the columns is nothing
     missing in the rows."""
-    first_column_line, first_row_line = 5, 5 + len(rows_of_columns)
-    in_column = [set(rows) for rows in rows_of_columns]
-    for row, members in enumerate(columns_of_rows, 1):
+    in_column = [set(column.numbers) for column in rows_of_columns]
+    for row, (line, members) in enumerate(columns_of_rows, 1):
         for column in members:
             if row not in in_column[column - 1]:
                 reader.refuse(f"row {row} lists column {column}, but column {column} (line "
-                              f"{first_column_line + column - 1}) does not list row {row}",
-                              line=first_row_line + row - 1)
+                              f"{rows_of_columns[column - 1].line}) does not list row {row}",
+                              line)
 
 
 # --- table to alist --------------------------------------------------------------------------
@@ -173,21 +181,21 @@ def write(table):
 
 # --- program ---------------------------------------------------------------------------------
 
-def convert(direction, source, target):
-    with plain.naming(source):
-        data = Path(source).read_bytes()
-        result = codefile.write(read(data)) if direction == "to-code" else write(
-            codefile.read(data))
-    Path(target).write_bytes(result)
+def convert(given):
+    with plain.reading(given.source) as stream:
+        result = (codefile.write(read(stream)) if given.direction == "to-code"
+                  else write(codefile.read(stream.read())))
+    plain.write(given.target, result)
 
 
 def main():
-    parser = argparse.ArgumentParser(description="alist to document 01's code file, and back")
+    parser = argparse.ArgumentParser(description="alist to code file, and back",
+                                     epilog="- is standard input or output.")
     parser.add_argument("direction", choices=["to-code", "to-alist"])
     parser.add_argument("source", metavar="IN")
     parser.add_argument("target", metavar="OUT")
     given = parser.parse_args()
-    plain.run("alist", lambda: convert(given.direction, given.source, given.target))
+    plain.run("alist", lambda: convert(given))
 
 
 if __name__ == "__main__":

@@ -1,4 +1,4 @@
-"""Document 01's code file, read and written.
+"""The code file, read and written (docs/FORMATS.md).
 
 A table is a pair (n, checks); a check is an ascending list of bit numbers, from 0.
 """
@@ -39,7 +39,7 @@ def numbers_at(data, position, count):
 
 
 def read(data):
-    """The table of a code file, or a refusal 1 to 7 in document 01's order."""
+    """The table of a code file, or a refusal 1 to 7, the first in the format's order."""
     n, m = read_sizes(data)
     counts = read_counts(data, m)
     edges = sum(counts)

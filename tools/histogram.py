@@ -1,11 +1,9 @@
-"""Counts of values in equal steps, few enough to be shown."""
+"""Counts of values in bins that double: 0, 1, 2, 3-4, 5-8, 9-16 and so on."""
 
-from collections import Counter, namedtuple
-from itertools import count
+from collections import namedtuple
+from itertools import count, takewhile
 
-MOST_STEPS = 11           # rounds in hundreds; four-digit labels fit side by side
-
-Step = namedtuple("Step", "low high frames")        # low and high both included
+Bin = namedtuple("Bin", "low high frames")          # low and high both included
 
 
 def nice(enough):
@@ -14,16 +12,25 @@ def nice(enough):
     return next(number for number in numbers if enough(number))
 
 
-def steps(values, first):
-    """The steps from the least to the greatest value; steps are laid out from `first` on."""
-    if not values:
-        return []
-    low, high = min(values) - first, max(values) - first
-    width = nice(lambda width: high // width - low // width < MOST_STEPS)
-    found = Counter((value - first) // width for value in values)
-    return [Step(first + place * width, first + (place + 1) * width - 1, found[place])
-            for place in range(low // width, high // width + 1)]
+def bins(frames_by_value, least, greatest):
+    """All bins from the least to the greatest value that can occur, empty ones too, so that
+    pictures of different reports have the same bins."""
+    powers = takewhile(lambda high: high < greatest, (2 ** power for power in count()))
+    highs = [0] * (least == 0) + [*powers, greatest]
+    lows = [least] + [high + 1 for high in highs[:-1]]
+    return [Bin(low, high, sum(frames for value, frames in frames_by_value.items()
+                               if low <= value <= high)) for low, high in zip(lows, highs)]
 
 
-def label(step):
-    return str(step.low) if step.low == step.high else f"{step.low}-{step.high}"
+def label(one):
+    return str(one.low) if one.low == one.high else f"{one.low}-{one.high}"
+
+
+def percentage(part, whole):
+    """A part of the whole, never rounded to nothing or to all."""
+    if part in (0, whole):
+        return "0 %" if part == 0 else "100 %"
+    tenths = (2000 * part + whole) // (2 * whole)
+    if tenths == 0 or tenths == 1000:
+        return "<0.1 %" if tenths == 0 else ">99.9 %"
+    return f"{tenths // 10}.{tenths % 10} %"

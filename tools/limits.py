@@ -1,4 +1,5 @@
-"""Document 01's limits and the refusals that the tools speak of, each in one place."""
+"""The code file's and the frames' limits, and the refusals that the tools speak of, each in one
+place (docs/FORMATS.md has them all)."""
 
 BITS_LIMIT = 2048
 CHECKS_LIMIT = 2048

@@ -9,17 +9,19 @@ the files are the same on every machine. This is the only tool that uses referen
 """
 
 import argparse
+import io
 import sys
 from collections import namedtuple
 from pathlib import Path
 
 import alist
 import codefile
-import desks
 import frames
 import plain
-import report_text
+import sample_codes
+import sort_frames
 from limits import FRAME_LIMIT
+from report_text import Certified, Report
 
 ROOT = Path(__file__).resolve().parent.parent
 # Behind the tools' own folder, whose modules have other names.
@@ -39,19 +41,13 @@ Sample = namedtuple("Sample", "name table seed gain noise spoilt short")
 Sent = namedtuple("Sent", "word frame")
 
 
-# --- codes -----------------------------------------------------------------------------------
-
-def array_table(size, layers):
-    """The array code: check size x j + a has the members size x i + (a + i x j) mod size."""
-    return size * size, [sorted(size * i + (a + i * j) % size for i in range(size))
-                         for j in range(layers) for a in range(size)]
-
-
 SAMPLES = [
     Sample("hamming", make_tables.hamming(), 7, 1000, [(40, 800)], {}, 0),
-    Sample("array", array_table(13, 3), 13, 1000, [(36, 550)], {20: FRAME_LIMIT + 1}, 337),
+    Sample("array", sample_codes.array(13, 3), 13, 1000, [(36, 550)], {20: FRAME_LIMIT + 1}, 337),
     Sample("regular", make_tables.regular_table(Prng(504), 504, 3, 6), 36, 2000,
            [(20, 700), (1, 950), (3, 600)], {22: -32768}, 1),
+    Sample("ccsds", sample_codes.ccsds(), 128, 3000, [(12, 750)], {}, 0),
+    Sample("wifi", sample_codes.wifi(), 648, 3000, [(9, 700), (3, 650)], {}, 0),
 ]
 
 
@@ -89,12 +85,12 @@ def frame_bytes(sample, sent):
 
 # --- files -----------------------------------------------------------------------------------
 
-def known_wrong(report, sent):
+def known_wrong(expected, sent):
     """Certified frames whose word agrees better than the sent one: it is another one."""
     def agreement(word, frame):
         return sum(-number if bit else number for bit, number in zip(word, frame))
-    return [number for number, ending in report.certified.items()
-            if ending.agreement > agreement(*sent[number])]
+    return [number for number, ending in enumerate(Report(io.BytesIO(expected)).endings())
+            if isinstance(ending, Certified) and ending.agreement > agreement(*sent[number])]
 
 
 def files(sample):
@@ -103,17 +99,16 @@ def files(sample):
     code, sent = codefile.write(sample.table), sent_frames(sample)
     data = frame_bytes(sample, sent)
     expected = frame_report(code + data).encode("ascii")
-    report = report_text.read(expected)
-    wrong = known_wrong(report, sent)
+    wrong = known_wrong(expected, sent)
+    found = sort_frames.sort_frames(Report(io.BytesIO(expected)), set(wrong) if wrong else None)
     made = {"code.code": code, "code.alist": alist.write(sample.table), "report.txt": expected}
-    if report.refused:
+    if found.refused:
         made["frames.bin"] = data
     else:
         made["frames.txt"] = frames.to_text(n, data)
     if wrong:
         made["wrong.txt"] = "".join(f"{frame}\n" for frame in wrong).encode("ascii")
-    sorted_frames = desks.sort_frames(report, set(wrong) if wrong else None)
-    made["desks.svg"] = desks.svg(report, sorted_frames).encode("utf-8")
+    made["report.svg"] = sort_frames.svg(found, sort_frames.TITLE).encode("utf-8")
     return made
 
 

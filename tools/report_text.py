@@ -1,23 +1,23 @@
-"""The frame report's text, read line by line. Document 01, 'The frame report'."""
+"""The frame report's text, read line by line, however long it is (docs/FORMATS.md)."""
 
 import re
-from dataclasses import dataclass, field
+from typing import NamedTuple
 
 import plain
 from limits import (BITS_LIMIT, CHECKS_LIMIT, CODE_FILE_REFUSALS, EDGES_LIMIT, FRAME_LIMIT,
                     FRAME_REFUSALS, ROUNDS_LIMIT, SHORT_FRAME)
 from plain import Refused
 
-NUMBER = r"(0|[1-9][0-9]{0,8})"
-CODE_LINE = re.compile(f"bits {NUMBER} checks {NUMBER} edges {NUMBER}")
-REFUSED_LINE = re.compile(f"refused {NUMBER}")
-FRAME_LINE = re.compile(f"frame {NUMBER} (.*)")
-CERTIFIED = re.compile(f"certified {NUMBER} (-?{NUMBER}) {NUMBER}")
-SPENT = re.compile(f"spent {ROUNDS_LIMIT}")
+NUMBER = r"(?:0|[1-9][0-9]{0,8})"
+CODE_LINE = re.compile(f"bits ({NUMBER}) checks ({NUMBER}) edges ({NUMBER})")
+REFUSED_LINE = re.compile(f"refused ({NUMBER})")
+CERTIFIED = f"certified ({NUMBER}) (-?{NUMBER}) ({NUMBER})"
+FRAME_LINE = re.compile(
+    f"frame ({NUMBER}) (?:{CERTIFIED}|spent {ROUNDS_LIMIT}|refused ({NUMBER}))")
+ANY_ENDING = re.compile(f"frame {NUMBER} (.*)")
 
 
-@dataclass(frozen=True)
-class Certified:
+class Certified(NamedTuple):
     """A frame whose word comes with a certificate of so many cuts."""
 
     rounds: int
@@ -25,42 +25,52 @@ class Certified:
     cuts: int
 
 
-@dataclass
+class Spent(NamedTuple):
+    """A frame whose rounds brought no certificate."""
+
+
+class RefusedFrame(NamedTuple):
+    """A frame that was not decoded, with the refusal's number."""
+
+    number: int
+
+
+SPENT = Spent()
+LAST = RefusedFrame(SHORT_FRAME)            # no frame follows a short one
+
+
 class Report:
-    """Frame numbers by what became of the frame; for a refused code file, its refusal alone."""
+    """The first line is read at once, the frames as they are asked for."""
 
-    code: tuple = None                                  # bits, checks, edges
-    code_refusal: int = None
-    certified: dict = field(default_factory=dict)       # frame number to Certified
-    spent: list = field(default_factory=list)
-    refused: dict = field(default_factory=dict)         # frame number to refusal number
+    def __init__(self, stream):
+        self.lines = plain.lines(stream)
+        _, first = next(self.lines, (1, None))
+        refuse_unless(first is not None, 1, "the report is empty")
+        self.code = self.code_refusal = None
+        refusal = REFUSED_LINE.fullmatch(first)
+        if refusal:
+            self.code_refusal = read_code_refusal(int(refusal[1]))
+            refuse_unless(next(self.lines, None) is None, 2, "text after a refused code file")
+        else:
+            self.code = read_code(first)
 
-    def frames(self):
-        return len(self.certified) + len(self.spent) + len(self.refused)
-
-
-def read(data):
-    """The report, or a refusal that names the line."""
-    lines = [line.rstrip(plain.BLANKS) for line in plain.text_lines(data)]
-    if not lines:
-        raise Refused("line 1: the report is empty")
-    report = read_first(lines[0])
-    if report.code_refusal is not None and len(lines) > 1:
-        raise Refused("line 2: text after a refused code file")
-    for line_number, line in enumerate(lines[1:], 2):
-        if SHORT_FRAME in report.refused.values():
-            raise Refused(f"line {line_number}: text after a short frame, which is the last")
-        read_frame(report, line_number, line)
-    return report
+    def endings(self):
+        """What became of each frame, in order; each line is refused as it is met."""
+        ending = None
+        for frame, (line_number, line) in enumerate(self.lines):
+            refuse_unless(ending != LAST, line_number,
+                          "text after a short frame, which is the last")
+            ending = read_ending(self.code, frame, line_number, line)
+            yield ending
 
 
-def read_first(line):
-    refusal = REFUSED_LINE.fullmatch(line)
-    if refusal:
-        number = int(refusal[1])
-        refuse_unless(number in CODE_FILE_REFUSALS, 1,
-                      f"a code file is never refused with {number}")
-        return Report(code_refusal=number)
+def read_code_refusal(number):
+    refuse_unless(number in CODE_FILE_REFUSALS, 1, f"a code file is never refused with {number}")
+    return number
+
+
+def read_code(line):
+    """Bits, checks and edges."""
     match = CODE_LINE.fullmatch(line)
     refuse_unless(match, 1, f"{plain.quoted(line)} is neither 'bits N checks M edges E' "
                             "nor 'refused N'")
@@ -68,37 +78,39 @@ def read_first(line):
     for name, number, limit in zip(("bits", "checks", "edges"), code,
                                    (BITS_LIMIT, CHECKS_LIMIT, EDGES_LIMIT)):
         refuse_range(1, name, number, 1, limit)
-    return Report(code=code)
+    return code
 
 
-def read_frame(report, line_number, line):
+def read_ending(code, frame, line_number, line):
     match = FRAME_LINE.fullmatch(line)
-    refuse_unless(match, line_number, f"{plain.quoted(line)} is no frame's line")
-    frame, ending = int(match[1]), match[2]
-    refuse_unless(frame == report.frames(), line_number,
-                  f"frame {frame} where frame {report.frames()} should stand")
-    certified, refusal = CERTIFIED.fullmatch(ending), REFUSED_LINE.fullmatch(ending)
-    if certified:
-        report.certified[frame] = read_certified(report.code, line_number, certified)
-    elif refusal:
-        number = int(refusal[1])
-        refuse_unless(number in FRAME_REFUSALS, line_number,
-                      f"a frame is never refused with {number}")
-        report.refused[frame] = number
-    else:
-        refuse_unless(SPENT.fullmatch(ending), line_number,
-                      f"{plain.quoted(ending)} is no frame's ending")
-        report.spent.append(frame)
+    if not match:
+        refuse_line(line_number, line)
+    stated, rounds, agreement, cuts, refusal = match.groups()
+    if int(stated) != frame:
+        raise Refused(f"line {line_number}: frame {stated} where frame {frame} should stand")
+    if rounds is not None:
+        ending = Certified(int(rounds), int(agreement), int(cuts))
+        refuse_certified(code, line_number, ending)
+        return ending
+    if refusal is None:
+        return SPENT
+    refuse_unless(int(refusal) in FRAME_REFUSALS, line_number,
+                  f"a frame is never refused with {refusal}")
+    return RefusedFrame(int(refusal))
 
 
-def read_certified(code, line_number, match):
+def refuse_line(line_number, line):
+    ending = ANY_ENDING.fullmatch(line)
+    refuse_unless(ending, line_number, f"{plain.quoted(line)} is no frame's line")
+    raise Refused(f"line {line_number}: {plain.quoted(ending[1])} is no frame's ending")
+
+
+def refuse_certified(code, line_number, ending):
     bits, checks, _ = code
-    ending = Certified(int(match[1]), int(match[2]), int(match[4]))
-    refuse_range(line_number, "rounds", ending.rounds, 1, ROUNDS_LIMIT)
     most = FRAME_LIMIT * bits
+    refuse_range(line_number, "rounds", ending.rounds, 1, ROUNDS_LIMIT)
     refuse_range(line_number, "agreement", ending.agreement, -most, most)
     refuse_range(line_number, "cuts", ending.cuts, 0, checks)
-    return ending
 
 
 def refuse_unless(condition, line_number, reason):
@@ -107,4 +119,5 @@ def refuse_unless(condition, line_number, reason):
 
 
 def refuse_range(line_number, name, number, low, high):
-    refuse_unless(low <= number <= high, line_number, f"{name} {number}, {low} to {high} wanted")
+    if not low <= number <= high:
+        raise Refused(f"line {line_number}: {name} {number}, {low} to {high} wanted")

@@ -1,5 +1,6 @@
 """The code file: read back as written, and refusals 1 to 7 with their places."""
 
+import io
 import unittest
 
 import alist
@@ -57,7 +58,7 @@ def answer(data):
 
 
 class CodeFile(unittest.TestCase):
-    def test_document_01s_file(self):
+    def test_bytes(self):
         self.assertEqual(codefile.write(THREE_BITS),
                          bytes.fromhex("03 00 01 00 00 00 03 00 00 00 01 00 02 00"))
 
@@ -81,7 +82,8 @@ class CodeFile(unittest.TestCase):
     def test_stored_files_through_alist(self):
         for data in stored_files():
             if answer(data).startswith("bits"):
-                self.assertEqual(codefile.write(alist.read(alist.write(codefile.read(data)))), data)
+                text = io.BytesIO(alist.write(codefile.read(data)))
+                self.assertEqual(codefile.write(alist.read(text)), data)
 
 
 if __name__ == "__main__":

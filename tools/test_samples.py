@@ -1,5 +1,6 @@
 """The samples: their files fit together, and run_samples tells right from wrong."""
 
+import io
 import subprocess
 import sys
 import tempfile
@@ -9,14 +10,18 @@ from pathlib import Path
 
 import alist
 import codefile
-import desks
 import frames
-import report_text
+import sort_frames
+from codewords import Codewords, meets_all
 from limits import FRAME_LIMIT
+from report_text import Certified, RefusedFrame, Report
 from testing import SAMPLES, TOOLS
 
 FOLDERS = sorted(path for path in SAMPLES.iterdir() if path.is_dir())
 ARRAY_SIZE, ARRAY_LAYERS = 13, 3
+
+# Ones of a codeword of least weight of the CCSDS code.
+CCSDS_LEAST = [7, 10, 24, 48, 65, 66, 72, 78, 83, 98, 100, 112, 117, 118]
 
 # A report program that knows the samples by their code files. The word it is given is put in
 # the place of another in what it answers.
@@ -35,13 +40,26 @@ def table_of(folder):
 
 
 def report_of(folder):
-    return report_text.read((folder / "report.txt").read_bytes())
+    """Code and endings."""
+    report = Report(io.BytesIO((folder / "report.txt").read_bytes()))
+    return report.code, list(report.endings())
+
+
+def wrong_of(folder):
+    """The frames known to be wrong, or None."""
+    path = folder / "wrong.txt"
+    return sort_frames.read_wrong(io.BytesIO(path.read_bytes())) if path.exists() else None
+
+
+def sorted_of(folder):
+    report = Report(io.BytesIO((folder / "report.txt").read_bytes()))
+    return sort_frames.sort_frames(report, wrong_of(folder))
 
 
 def frame_bytes(folder):
     n, _ = table_of(folder)
     if (folder / "frames.txt").exists():
-        return frames.to_binary(n, (folder / "frames.txt").read_bytes())
+        return frames.to_binary(n, io.BytesIO((folder / "frames.txt").read_bytes()))
     return (folder / "frames.bin").read_bytes()
 
 
@@ -59,57 +77,90 @@ def expected_refusals(n, data):
     return refused
 
 
-class Files(unittest.TestCase):
-    def test_the_three_are_there(self):
-        self.assertEqual([folder.name for folder in FOLDERS], ["array", "hamming", "regular"])
+class Codes(unittest.TestCase):
+    def test_all_are_there(self):
+        self.assertEqual([folder.name for folder in FOLDERS],
+                         ["array", "ccsds", "hamming", "regular", "wifi"])
 
     def test_alist_and_code_file_are_the_same_table(self):
         for folder in FOLDERS:
             text = (folder / "code.alist").read_bytes()
-            self.assertEqual(alist.read(text), table_of(folder))
+            self.assertEqual(alist.read(io.BytesIO(text)), table_of(folder))
             self.assertEqual(alist.write(table_of(folder)), text)
 
-    def test_shapes(self):
+    def shape(self, name):
+        """n, m, rank, degrees of checks and degrees of bits."""
+        n, checks = table_of(SAMPLES / name)
+        in_checks = Counter(bit for members in checks for bit in members)
+        return (n, len(checks), Codewords((n, checks)).rank(),
+                Counter(len(members) for members in checks), Counter(in_checks.values()))
+
+    def test_array(self):
         n, checks = table_of(SAMPLES / "array")
         self.assertEqual(n, ARRAY_SIZE ** 2)
         self.assertEqual(checks, [[ARRAY_SIZE * i + (a + i * j) % ARRAY_SIZE
                                    for i in range(ARRAY_SIZE)]
                                   for j in range(ARRAY_LAYERS) for a in range(ARRAY_SIZE)])
-        n, checks = table_of(SAMPLES / "hamming")
-        self.assertEqual((n, checks), (7, [[0, 2, 4, 6], [1, 2, 5, 6], [3, 4, 5, 6]]))
-        n, checks = table_of(SAMPLES / "regular")
-        in_checks = Counter(bit for members in checks for bit in members)
-        self.assertEqual((n, {len(members) for members in checks}, set(in_checks.values())),
-                         (504, {6}, {3}))
 
+    def test_hamming_and_regular(self):
+        self.assertEqual(table_of(SAMPLES / "hamming"),
+                         (7, [[0, 2, 4, 6], [1, 2, 5, 6], [3, 4, 5, 6]]))
+        n, m, _, of_checks, of_bits = self.shape("regular")
+        self.assertEqual((n, m, of_checks, of_bits), (504, 252, {6: 252}, {3: 504}))
+
+    def test_ccsds(self):
+        self.assertEqual(self.shape("ccsds"), (128, 64, 64, {8: 64}, {3: 64, 5: 64}))
+        # The code's least distance is 14; turning all blocks alike gives another codeword.
+        for turn in range(16):
+            ones = [bit // 16 * 16 + (bit + turn) % 16 for bit in CCSDS_LEAST]
+            word = sum(1 << bit for bit in ones)
+            self.assertEqual(word.bit_count(), 14)
+            self.assertTrue(meets_all(table_of(SAMPLES / "ccsds"), word))
+
+    def test_wifi(self):
+        self.assertEqual(self.shape("wifi"), (648, 324, 324, {7: 216, 8: 108},
+                                              {2: 297, 3: 270, 12: 81}))
+        # The first and the last row of the first block row, and the dual diagonal's end.
+        _, checks = table_of(SAMPLES / "wifi")
+        self.assertEqual(checks[0], [0, 108, 135, 216, 297, 325, 351])
+        self.assertEqual(checks[26], [26, 134, 161, 242, 323, 324, 377])
+        self.assertEqual(checks[323][-2:], [324, 647])
+
+
+class Files(unittest.TestCase):
     def test_reports_fit_codes_and_frames(self):
         for folder in FOLDERS:
-            (n, checks), report, data = table_of(folder), report_of(folder), frame_bytes(folder)
-            self.assertEqual(report.code, (n, len(checks), sum(map(len, checks))))
-            self.assertEqual(report.frames(), -(-len(data) // (2 * n)))
-            self.assertEqual(report.refused, expected_refusals(n, data))
+            (n, checks), data = table_of(folder), frame_bytes(folder)
+            code, endings = report_of(folder)
+            self.assertEqual(code, (n, len(checks), sum(map(len, checks))))
+            self.assertEqual(len(endings), -(-len(data) // (2 * n)))
+            refused = {frame: ending.number for frame, ending in enumerate(endings)
+                       if isinstance(ending, RefusedFrame)}
+            self.assertEqual(refused, expected_refusals(n, data))
 
     def test_every_ending_occurs(self):
-        reports = [report_of(folder) for folder in FOLDERS]
-        self.assertTrue(all(report.certified and report.spent for report in reports))
-        refusals = {number for report in reports for number in report.refused.values()}
-        self.assertEqual(refusals, {8, 9})
+        found = [sorted_of(folder) for folder in FOLDERS]
+        self.assertTrue(all(one.certified() and one.spent for one in found))
+        self.assertEqual({number for one in found for number in one.refusals}, {8, 9})
 
     def test_frames_known_to_be_wrong_are_certified(self):
-        found = 0
+        lists = [(folder, wrong_of(folder)) for folder in FOLDERS if wrong_of(folder) is not None]
+        self.assertGreater(len(lists), 0)
+        for folder, wrong in lists:
+            _, endings = report_of(folder)
+            self.assertTrue(wrong)
+            self.assertTrue(all(isinstance(endings[frame], Certified) for frame in wrong))
+
+    def test_pictures(self):
         for folder in FOLDERS:
-            if (folder / "wrong.txt").exists():
-                report = report_of(folder)
-                wrong = desks.read_wrong((folder / "wrong.txt").read_bytes(), report.frames())
-                self.assertTrue(wrong and wrong <= set(report.certified))
-                found += 1
-        self.assertGreater(found, 0)
+            self.assertEqual((folder / "report.svg").read_text("utf-8"),
+                             sort_frames.svg(sorted_of(folder), sort_frames.TITLE))
 
     def test_the_readme_counts(self):
         readme = (SAMPLES / "README.md").read_text()
         for folder in FOLDERS:
-            report = report_of(folder)
-            counts = [len(report.certified), len(report.spent), len(report.refused)]
+            found = sorted_of(folder)
+            counts = [found.certified(), len(found.spent), len(found.refused)]
             row = [line for line in readme.split("\n") if line.startswith(f"| `{folder.name}` |")]
             self.assertEqual(len(row), 1)
             self.assertTrue(row[0].endswith(" | " + " | ".join(map(str, counts)) + " |"), row[0])
@@ -133,7 +184,7 @@ class RunSamples(unittest.TestCase):
         self.assertEqual(output.count("For the code people"), len(FOLDERS))
 
     def test_wrong(self):
-        # Refusal 9 occurs in two of the three.
+        # Refusal 9 occurs in two of them.
         status, output = self.run_with("refused 9", "spent 1024")
         self.assertEqual((status, output.count(": the report differs\n")), (1, 2))
 

@@ -128,6 +128,11 @@ fn verdict(raw: &ffi::Verdict) -> Verdict {
 // SAFETY, for every call below: pointer and length come from one slice that outlives the call, and no
 // two lent slices overlap, as the borrow checker sees to.
 
+/// The version of the proved library: major times 10,000, plus minor times 100, plus patch.
+pub fn version() -> u32 {
+    unsafe { ffi::jugnayap_version() }
+}
+
 /// Checks a code file. Refusals: 1 to 7.
 pub fn check_table(code: &[u8]) -> Result<Sizes, Refusal> {
     let raw = unsafe { ffi::jugnayap_check_table(code.as_ptr(), code.len()) };

@@ -36,6 +36,7 @@ pub struct Agreement {
 }
 
 extern "C" {
+    pub fn jugnayap_version() -> u32;
     pub fn jugnayap_check_table(code: *const u8, code_len: usize) -> Table;
     pub fn jugnayap_search_cut(
         code: *const u8,

@@ -2,16 +2,15 @@
 use mathlib.Core.Path.{_≡_, refl, _∙_, ap}
 use mathlib.Core.Bool.{Bool, true, false, not, _&&_}
 use mathlib.Core.List.{List, [], _∷_}
-use Prim.Native.Nat.{ℕ, zero, suc, _+_, _<_, _≤_}
-use lib.ListN.{length, drop, drop-of-length-le}
+use Prim.Native.Nat.{ℕ, zero, suc}
+use lib.ListN.{length}
 use lib.IntN.{ℤ, pos, negsuc}
 use Rattle.rules.specs.Table.{at, bit}
 use Rattle.rules.specs.Parity.{meets}
 use Rattle.rules.specs.Cut.{isNeg, negatives, keep}
 use Rattle.rules.specs.Round.{bitOf, join, candidate, isZero}
-use Rattle.rules.proofs.StoreLaws.{drop-next}
 use Rattle.decoder.specs.Closing.{metBy}
-use Rattle.decoder.specs.Candidate.{noZero}
+use Rattle.spin.specs.Spin.{noZero}
 
 -- ---- the word with ones at negative spins
 pub negatives-at : (ss : List ℤ) (i : ℕ) → bit (negatives ss) i ≡ isNeg (at ss i)
@@ -37,10 +36,3 @@ met-none s cs e = ap (λ o. metBy o cs) (candidate-is s ∙ ap (λ b. keep b (ne
 
 pub met-some : (s : List ℤ) (cs : List (List ℕ)) → noZero s ≡ true → metBy (candidate (length s) (at s)) cs ≡ meets (negatives s) cs
 met-some s cs e = ap (λ o. metBy o cs) (candidate-is s ∙ ap (λ b. keep b (negatives s)) e)
-
--- ---- one spin more
-pub no-zero-more : (s : List ℤ) (i : ℕ) → i < length s → noZero (drop i s) ≡ not (isZero (at s i)) && noZero (drop (i + 1) s)
-no-zero-more s i h = ap noZero (drop-next s i (pos 0) h)
-
-pub no-zero-end : (s : List ℤ) (i : ℕ) → length s ≤ i → noZero (drop i s) ≡ true
-no-zero-end s i h = ap noZero (drop-of-length-le s h)

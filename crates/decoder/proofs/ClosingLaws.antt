@@ -29,7 +29,7 @@ use Rattle.rules.proofs.WrittenPasses.{AllProper}
 use Rattle.cut.proofs.MaskLaws.{odd-some}
 use Rattle.writing.specs.Written.{cutsFrom, contentsFrom, bodiesFrom, certificateFrom}
 use Rattle.decoder.specs.Closing.{withRow, rowsFrom}
-use Rattle.decoder.specs.Candidate.{noZero}
+use Rattle.spin.specs.Spin.{noZero}
 use Rattle.decoder.proofs.CandidateLaws.{candidate-is}
 
 -- ---- an odd set has a mask that is not 0

@@ -14,15 +14,16 @@ use Rattle.rules.specs.Refusal.{Answer, refused, gives, then, must, bufferShort
 use Rattle.rules.specs.Table.{Table}
 use Rattle.rules.specs.Parity.{plus, turns, Codeword}
 use Rattle.rules.specs.CodeFile.{codeFile}
-use Rattle.rules.specs.Buffers.{Buffers, lent, Lengths, lengthsOf, partOf, overAll, zeroed, startLent, fitsStart}
+use Rattle.rules.specs.Buffers.{Buffers, Lengths, lengthsOf, partOf, overAll, zeroed, startLent, fitsStart}
 use Rattle.rules.specs.Run.{Progress, Run, Called, call, Started, startBy, start, fresh}
 use Rattle.rules.specs.Calls.{Call, lend, giveBack, lentCall, callList, startOn, startedRun, wantedIn}
 use Rattle.rules.specs.Demand3.{Best, FreshStart, AllLent, listFrom, CertifiesOn, SamePlaces, RoundsDone, Demand3}
 use Rattle.rules.proofs.AnswerLaws.{refused≢gives, gives-inj}
 use Rattle.rules.proofs.Fresh.{started-back}
 use Rattle.rules.proofs.Demand3.{demand3}
-use Rattle.run.specs.Reply.{progressOf, startedOf}
+use Rattle.run.specs.Reply.{startedOf}
 use Rattle.decoder.specs.Reply.{outcomeOf}
+use Rattle.decoder.specs.Lent.{runIn}
 use Rattle.run.proofs.start as st
 use Rattle.run.proofs.start.Kinds as st-kinds
 use Rattle.run.proofs.start.Reads as st-reads
@@ -70,20 +71,16 @@ roundsWanted x = x .args .1 .1 .1 .0
 abbrev pub roundsRun : RoundsCall → Run
 roundsRun x =
     let b = x .args .1 .1 .1 .1 in
-    record {
-      progress = progressOf (x .args .1 .1 .0);
-      buffers = lent (now (b .0)) (now (b .1 .0)) (now (b .1 .1 .0)) (now (b .1 .1 .1 .0)) (now (b .1 .1 .1 .1 .0)) (now (b .1 .1 .1 .1 .1 .0)) (now (b .1 .1 .1 .1 .1 .1 .0));
-    }
+    runIn (x .args .1 .1 .0)
+    (now (b .0)) (now (b .1 .0)) (now (b .1 .1 .0)) (now (b .1 .1 .1 .0)) (now (b .1 .1 .1 .1 .0)) (now (b .1 .1 .1 .1 .1 .0)) (now (b .1 .1 .1 .1 .1 .1 .0))
 
 abbrev pub roundsGave : RoundsCall → Called
 roundsGave x =
     let b = x .exit .1 .1 .1 .1 in
     record {
       answer = outcomeOf (x .result .outcome);
-      run = record {
-        progress = progressOf (x .result .run);
-        buffers = lent (now (b .0)) (now (b .1 .0)) (now (b .1 .1 .0)) (now (b .1 .1 .1 .0)) (now (b .1 .1 .1 .1 .0)) (now (b .1 .1 .1 .1 .1 .0)) (now (b .1 .1 .1 .1 .1 .1 .0));
-      };
+      run = runIn (x .result .run)
+          (now (b .0)) (now (b .1 .0)) (now (b .1 .1 .0)) (now (b .1 .1 .1 .0)) (now (b .1 .1 .1 .1 .0)) (now (b .1 .1 .1 .1 .1 .0)) (now (b .1 .1 .1 .1 .1 .1 .0));
     }
 
 -- what the contracts say, by document 01's definitions
@@ -94,22 +91,31 @@ pub rounds-says : (x : RoundsCall) → roundsGave x ≡ call (roundsFile x) (rou
 rounds-says x = x .holds
 
 -- ---- a list of calls in one run
--- each call is lent parts of the buffers; record and buffers are handed on as it left them
+-- o is the call x of a run that stands at r: it is lent parts of the buffers
+pub record Makes (file : List ℕ) (l : List ℤ) (x : Call) (r : Run) (o : RoundsCall) : Type 0 where
+  pub sameFile : roundsFile o ≡ file
+  pub sameFrame : roundsFrame o ≡ l
+  pub sameWanted : roundsWanted o ≡ x .wanted
+  pub sameRun : roundsRun o ≡ lend (x .lent) r
+
+-- what it comes to on the whole buffers
+abbrev pub backIn : Run → RoundsCall → Called
+backIn r o = giveBack (roundsGave o) r
+
+-- record and buffers are handed on as each call left them
 pub data Chain (file : List ℕ) (l : List ℤ) : List Call → Run → List Called → Type 0 where
   none : {r : Run} → Chain file l [] r []
   more : {calls : List Call} {r : Run} {ds : List Called} (x : Call) (o : RoundsCall)
-      → roundsFile o ≡ file → roundsFrame o ≡ l → roundsWanted o ≡ x .wanted → roundsRun o ≡ lend (x .lent) r
-      → Chain file l calls (giveBack (roundsGave o) r .run) ds → Chain file l (x ∷ calls) r (giveBack (roundsGave o) r ∷ ds)
+      → Makes file l x r o → Chain file l calls (backIn r o .run) ds → Chain file l (x ∷ calls) r (backIn r o ∷ ds)
 
 pub chain-is : {file : List ℕ} {l : List ℤ} {calls : List Call} {r : Run} {ds : List Called} → Chain file l calls r ds → ds ≡ callList file l calls r
 unfolding lentCall
 chain-is none = refl
-chain-is {file} {l} (more {calls} {r} {ds} x o ef el ew er h) =
+chain-is {file} {l} (more {calls} {r} {ds} x o m h) =
     ap₂ _∷_ one (chain-is h ∙ ap (λ d. callList file l calls (d .run)) one)
   where
-    one : giveBack (roundsGave o) r ≡ lentCall file l x r
-    one = ap (λ d. giveBack d r) (rounds-says o ∙ ap (λ g. call g (roundsFrame o) (roundsWanted o) (roundsRun o)) ef ∙ ap (λ g. call file g (roundsWanted o) (roundsRun o)) el
-        ∙ ap₂ (λ v q. call file l v q) ew er)
+    one : backIn r o ≡ lentCall file l x r
+    one = ap (λ d. giveBack d r) (rounds-says o ∙ ap₂ (λ g k. call g k (roundsWanted o) (roundsRun o)) (m .sameFile) (m .sameFrame) ∙ ap₂ (call file l) (m .sameWanted) (m .sameRun))
 
 -- of the buffers that a start zeroes so much, of the others nothing
 abbrev pub forStart : Lengths → Lengths
@@ -150,30 +156,44 @@ module _ {file : List ℕ} {l : List ℤ} {calls : List Call} {b : Buffers} {ds 
         ∙ ap (λ x. callList file l calls (record { progress = fresh; buffers = x })) (started-back file t b fresh-start)
 
 -- ---- demand 3: the list on the frame comes to `da`, the same list on the negated frame to `db`
+pub record CodeTwins (file : List ℕ) (t : Table) (l : List ℤ) (c : List Bool) (calls : List Call) (a b : Buffers) (da db : List Called) : Type 0 where
+  pub isFile : codeFile file ≡ gives t
+  pub codeword : Codeword t c
+  pub run : CodeRun file l calls a da
+  pub twin : CodeRun file (turns c l) calls b db
+
+-- every list on the frame certifies w after k rounds, with multipliers bs, once its calls not refused want together at least that many
+abbrev pub AllCertify : List ℕ → Table → List ℤ → List Bool → ℕ → List ℕ → Type 0
+AllCertify file t l w k bs = (calls : List Call) (b : Buffers) (ds : List Called) → CodeRun file l calls b ds → k ≤ wantedIn calls ds → CertifiesOn t w k bs ds
+
 pub record CodeDemand3 (file : List ℕ) (t : Table) (l : List ℤ) (c : List Bool) (calls : List Call) (a : Buffers) (da db : List Called) : Type 0 where
   pub best : (w : List Bool) (k : ℕ) (bs : List ℕ) → CertifiesOn t w k bs da → Best t l w
   pub done : RoundsDone t l calls (startedRun file a) da
   pub twin : SamePlaces t c da db
-  pub others : (w : List Bool) (k : ℕ) (bs : List ℕ) → CertifiesOn t w k bs da
-      → (calls : List Call) (d : Buffers) (ds : List Called) → CodeRun file (turns c l) calls d ds
-      → k ≤ wantedIn calls ds → CertifiesOn t (plus c w) k bs ds
+  pub others : (w : List Bool) (k : ℕ) (bs : List ℕ) → CertifiesOn t w k bs da → AllCertify file t (turns c l) (plus c w) k bs
 
-pub code-demand3 : (file : List ℕ) (t : Table) (l : List ℤ) (c : List Bool) (calls : List Call) (a b : Buffers) (da db : List Called)
-    → codeFile file ≡ gives t → Codeword t c → CodeRun file l calls a da → CodeRun file (turns c l) calls b db → CodeDemand3 file t l c calls a da db
-code-demand3 file t l c calls a b da db e cw ha hb = record {
-  best = λ w k bs h. whole .best w k bs (subst (CertifiesOn t w k bs) (run-is ha t e) h);
-  done = subst (RoundsDone t l calls (startedRun file a)) (sym (run-is ha t e)) (whole .done);
-  twin = subst (λ x. SamePlaces t c x db) (sym (run-is ha t e)) (subst (SamePlaces t c (listFrom file l calls a)) (sym (run-is hb t e)) (whole .twin));
-  others = λ w k bs h xs d ds hd g.
-      subst (CertifiesOn t (plus c w) k bs) (sym (run-is hd t e))
-      (whole .others w k bs (subst (CertifiesOn t w k bs) (run-is ha t e) h) d (fresh-start hd t e) xs (hd .lent) (subst (λ x. k ≤ wantedIn xs x) (run-is hd t e) g));
+-- of every table, frame, codeword and list
+abbrev pub MeetsDemand3 : Type 0
+MeetsDemand3 = (file : List ℕ) (t : Table) (l : List ℤ) (c : List Bool) (calls : List Call) (a b : Buffers) (da db : List Called)
+    → CodeTwins file t l c calls a b da db → CodeDemand3 file t l c calls a da db
+
+pub code-demand3 : MeetsDemand3
+code-demand3 file t l c calls a b da db h = record {
+  best = λ w k bs e. whole .best w k bs (subst (CertifiesOn t w k bs) run e);
+  done = subst (RoundsDone t l calls (startedRun file a)) (sym run) (whole .done);
+  twin = subst (λ x. SamePlaces t c x db) (sym run) (subst (SamePlaces t c (listFrom file l calls a)) (sym (run-is (h .twin) t (h .isFile))) (whole .twin));
+  others = λ w k bs e xs d ds hd g.
+      let same = run-is hd t (h .isFile) in
+      subst (CertifiesOn t (plus c w) k bs) (sym same)
+      (whole .others w k bs (subst (CertifiesOn t w k bs) run e) d (fresh-start hd t (h .isFile)) xs (hd .lent) (subst (λ x. k ≤ wantedIn xs x) same g));
 }
   where
+    run : da ≡ listFrom file l calls a
+    run = run-is (h .run) t (h .isFile)
+
     whole : Demand3 file t l c calls a b
-    whole = demand3 file t l c calls a b (fresh-start ha t e) (fresh-start hb t e) cw (ha .lent) (hb .lent)
+    whole = demand3 file t l c calls a b (fresh-start (h .run) t (h .isFile)) (fresh-start (h .twin) t (h .isFile)) (h .codeword) (h .run .lent) (h .twin .lent)
 
 -- beside the proofs of the two functions: demand 3 and they cannot come apart
-pub proved : {M : Type 1} → st-statement M × (rd-statement M
-    × ((file : List ℕ) (t : Table) (l : List ℤ) (c : List Bool) (calls : List Call) (a b : Buffers) (da db : List Called)
-    → codeFile file ≡ gives t → Codeword t c → CodeRun file l calls a da → CodeRun file (turns c l) calls b db → CodeDemand3 file t l c calls a da db))
+pub proved : {M : Type 1} → st-statement M × (rd-statement M × MeetsDemand3)
 proved = (start-met, (rounds-met, code-demand3))

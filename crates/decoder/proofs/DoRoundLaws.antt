@@ -9,7 +9,7 @@ use lib.ListN.{length}
 use lib.IntN.{ℤ}
 use Rattle.integers.specs.Linear.{Within}
 use Rattle.integers.specs.Sum.{AllWithin}
-use Rattle.rules.specs.Limits.{unit, roundLimit, offsetPerRound, offsetLimit, stepLimit}
+use Rattle.rules.specs.Limits.{unit, roundLimit, offsetPerRound, offsetLimit, stepLimit, maxBitDegree}
 use Rattle.rules.specs.Table.{Table, at, edges, edgesOf, degreeOf}
 use Rattle.rules.specs.Cut.{negatives, keep}
 use Rattle.rules.specs.Step.{Entry}
@@ -98,7 +98,7 @@ module _ {l : List ℤ} {ss ms ds : List ℕ} {r : Run} (g : Given (length l) l 
     offsets = offsets-few;
     room = g .room;
     degrees = g .degrees;
-    standing = λ i k. subst (λ es. (1 ≤ degreeOf i es) × (degreeOf i es ≤ 32)) (sym (g .holds .members)) (g .holds .sound .standing i k);
+    standing = λ i k. subst (λ es. (1 ≤ degreeOf i es) × (degreeOf i es ≤ maxBitDegree)) (sym (g .holds .members)) (g .holds .sound .standing i k);
   })
 
   -- after step 1

@@ -8,6 +8,7 @@ use native.Mathlib.Omega.{arith}
 use lib.ListN.{length, getD, take, drop, set}
 use lib.Seq.{length-take-le, take-add, drop-drop, take-at, drop-at}
 use Rattle.rules.specs.Buffers.{over}
+use Rattle.decoder.specs.Parts.{part, splice}
 
 -- the first i of ts, and the rest of xs
 pub fill : {A : Type 0} → ℕ → List A → List A → List A
@@ -62,8 +63,9 @@ fill-is (suc i) (t ∷ ts) [] h k = absurd (omega arith)
 fill-is (suc i) (t ∷ ts) (x ∷ xs) h k = ap (λ r. t ∷ r) (fill-is i ts xs (le-of-suc-le-suc h) (le-of-suc-le-suc k))
 
 -- the part from a to e, which is what ts has there
-pub fill-part : {A : Type 0} (a e : ℕ) (ts xs now p : List A) → length ts ≡ length xs → a ≤ e → e ≤ length xs → p ≡ take (e - a) (drop a ts) → now ≡ fill a ts xs
-    → take a now ++ (p ++ drop (e - a) (drop a now)) ≡ fill e ts xs
+pub fill-part : {A : Type 0} (a e : ℕ) (ts xs now p : List A) → length ts ≡ length xs → a ≤ e → e ≤ length xs
+    → p ≡ part a e ts → now ≡ fill a ts xs → splice a e p now ≡ fill e ts xs
+unfolding part splice
 fill-part a e ts xs now p same h k w q =
     let front : length (take a ts) ≡ a = length-take-le a ts (omega arith) in
     let back : a + (e - a) ≡ e = omega arith in

@@ -17,7 +17,6 @@ pub mod StepLaws
 pub mod PassLaws
 pub mod PassLoopLaws
 pub mod CandidateLaws
-pub mod SpinOfLaws
 pub mod GapLaws
 pub mod ClosingLaws
 pub mod RoundLaws

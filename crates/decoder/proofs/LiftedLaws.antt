@@ -10,84 +10,84 @@ use native.Mathlib.Numerals.{add-one}
 use native.Mathlib.Nat.{div-add-mod', mod-lt, div-mul-le-self, mul-le-mul-left, mul-comm, add-mul, lt-of-not-le}
 use lib.IntN.{ℤ, pos, negsuc, negℤ, _+ℤ_}
 use lib.Signed.{_≤ℤ_, _<ℤ_, ltZ}
-use Rattle.rules.specs.Limits.{stepLimit}
+use Rattle.rules.specs.Limits.{stepLimit, unit}
 use Rattle.integers.specs.Linear.{lin, arithZ, _⩽_, Within, up, dn, lt-out, le-out, lt-ltZ, le-ltZ}
 use Rattle.integers.specs.Clip.{clipZ, clip-low, clip-high, clip-mid, Place, below, above, inside, place, clip-neg}
 use Rattle.rules.specs.Parity.{side, left}
 use Rattle.rules.specs.Step.{move, moves, short}
 use Rattle.cut.specs.Heights.{height, heightsOf}
-use Rattle.decoder.specs.Lifted.{lifted, lifting, tally, sumAt, countAt, LeastAt}
+use Rattle.decoder.specs.Lifted.{lifted, lifting, tally, sumAt, countAt, LeastAt, reach}
 
--- ---- a member's share of the left side is what is lifted, at most 8192
-share-low : (x : ℤ) → x <ℤ negℤ (pos 4096) → pos 4096 +ℤ negℤ (pos 4096) ≡ pos (min (up (pos 4096 +ℤ x)) 8192)
-share-low x h = ap pos (zero-up (pos 4096 +ℤ x) (simp lin (omega arithZ)))
+-- ---- a member's share of the left side is what is lifted, at most 2U
+share-low : (x : ℤ) → x <ℤ negℤ (pos unit) → pos unit +ℤ negℤ (pos unit) ≡ pos (min (up (pos unit +ℤ x)) reach)
+share-low x h = ap pos (zero-up (pos unit +ℤ x) (simp lin (omega arithZ)))
   where
-    zero-up : (z : ℤ) → z <ℤ pos 0 → 0 ≡ min (up z) 8192
+    zero-up : (z : ℤ) → z <ℤ pos 0 → 0 ≡ min (up z) reach
     zero-up (pos n) h = absurd (omega arithZ)
     zero-up (negsuc n) h = omega arith
 
-share-high : (x : ℤ) → pos 4096 <ℤ x → pos 4096 +ℤ pos 4096 ≡ pos (min (up (pos 4096 +ℤ x)) 8192)
-share-high x h = ap pos (top (pos 4096 +ℤ x) (simp lin (omega arithZ)))
+share-high : (x : ℤ) → pos unit <ℤ x → pos unit +ℤ pos unit ≡ pos (min (up (pos unit +ℤ x)) reach)
+share-high x h = ap pos (top (pos unit +ℤ x) (simp lin (omega arithZ)))
   where
-    top : (z : ℤ) → pos 8192 <ℤ z → 8192 ≡ min (up z) 8192
+    top : (z : ℤ) → pos reach <ℤ z → reach ≡ min (up z) reach
     top (pos n) h = omega (arith, lt-out h)
     top (negsuc n) h = absurd (omega arithZ)
 
-share-mid : (x : ℤ) → Within 4096 x → pos 4096 +ℤ x ≡ pos (min (up (pos 4096 +ℤ x)) 8192)
-share-mid x h = mid (pos 4096 +ℤ x) (simp lin (omega arithZ)) (simp lin (omega arithZ))
+share-mid : (x : ℤ) → Within unit x → pos unit +ℤ x ≡ pos (min (up (pos unit +ℤ x)) reach)
+share-mid x h = mid (pos unit +ℤ x) (simp lin (omega arithZ)) (simp lin (omega arithZ))
   where
-    mid : (z : ℤ) → pos 0 ≤ℤ z → z ≤ℤ pos 8192 → z ≡ pos (min (up z) 8192)
+    mid : (z : ℤ) → pos 0 ≤ℤ z → z ≤ℤ pos reach → z ≡ pos (min (up z) reach)
     mid (pos n) h k = ap pos (omega (arith, le-out k))
     mid (negsuc n) h k = absurd (omega arithZ)
 
-share-clip : (x : ℤ) → pos 4096 +ℤ clipZ 4096 x ≡ pos (min (up (pos 4096 +ℤ x)) 8192)
-share-clip x = go (place 4096 x)
+share-clip : (x : ℤ) → pos unit +ℤ clipZ unit x ≡ pos (min (up (pos unit +ℤ x)) reach)
+share-clip x = go (place unit x)
   where
-    go : Place 4096 x → pos 4096 +ℤ clipZ 4096 x ≡ pos (min (up (pos 4096 +ℤ x)) 8192)
-    go (below h) = ap (λ z. pos 4096 +ℤ z) (clip-low 4096 x h) ∙ share-low x h
-    go (above h) = ap (λ z. pos 4096 +ℤ z) (clip-high 4096 x h) ∙ share-high x h
-    go (inside h) = ap (λ z. pos 4096 +ℤ z) (clip-mid 4096 x h) ∙ share-mid x h
+    go : Place unit x → pos unit +ℤ clipZ unit x ≡ pos (min (up (pos unit +ℤ x)) reach)
+    go (below h) = ap (λ z. pos unit +ℤ z) (clip-low unit x h) ∙ share-low x h
+    go (above h) = ap (λ z. pos unit +ℤ z) (clip-high unit x h) ∙ share-high x h
+    go (inside h) = ap (λ z. pos unit +ℤ z) (clip-mid unit x h) ∙ share-mid x h
 
-join-up : (v : ℤ) (b : ℕ) → pos 4096 +ℤ (v +ℤ pos b) ≡ (pos 4096 +ℤ v) +ℤ pos b
+join-up : (v : ℤ) (b : ℕ) → pos unit +ℤ (v +ℤ pos b) ≡ (pos unit +ℤ v) +ℤ pos b
 join-up v b = simp lin (omega arithZ)
 
-join-down : (v : ℤ) (b : ℕ) → pos 4096 +ℤ negℤ (v +ℤ negℤ (pos b)) ≡ (pos 4096 +ℤ negℤ v) +ℤ pos b
+join-down : (v : ℤ) (b : ℕ) → pos unit +ℤ negℤ (v +ℤ negℤ (pos b)) ≡ (pos unit +ℤ negℤ v) +ℤ pos b
 join-down v b = simp lin (omega arithZ)
 
-share-is : (b : ℕ) (t : Bool) (v : ℤ) → pos 4096 +ℤ side t (move 4096 b t v) ≡ pos (min (lifted b (height t v)) 8192)
-share-is b true v = share-clip (v +ℤ pos b) ∙ ap (λ z. pos (min (up z) 8192)) (join-up v b)
-share-is b false v = ap (λ z. pos 4096 +ℤ z) (sym (clip-neg 4096 (v +ℤ negℤ (pos b)))) ∙ share-clip (negℤ (v +ℤ negℤ (pos b))) ∙ ap (λ z. pos (min (up z) 8192)) (join-down v b)
+share-is : (b : ℕ) (t : Bool) (v : ℤ) → pos unit +ℤ side t (move unit b t v) ≡ pos (min (lifted b (height t v)) reach)
+share-is b true v = share-clip (v +ℤ pos b) ∙ ap (λ z. pos (min (up z) reach)) (join-up v b)
+share-is b false v = ap (λ z. pos unit +ℤ z) (sym (clip-neg unit (v +ℤ negℤ (pos b)))) ∙ share-clip (negℤ (v +ℤ negℤ (pos b))) ∙ ap (λ z. pos (min (up z) reach)) (join-down v b)
 
-left-is : (b : ℕ) (ts : List Bool) (vs : List ℤ) → left 4096 ts (moves 4096 b ts vs) ≡ pos (tally (λ h. min (lifted b h) 8192) (heightsOf ts vs))
+left-is : (b : ℕ) (ts : List Bool) (vs : List ℤ) → left unit ts (moves unit b ts vs) ≡ pos (tally (λ h. min (lifted b h) reach) (heightsOf ts vs))
 left-is b [] vs = refl
 left-is b (t ∷ ts) [] = refl
 left-is b (t ∷ ts) (v ∷ vs) = ap₂ _+ℤ_ (share-is b t v) (left-is b ts vs)
 
--- ---- capped or not, the sum reaches 8192 alike
-cap-le : (b : ℕ) (hs : List ℤ) → tally (λ h. min (lifted b h) 8192) hs ≤ tally (lifted b) hs
+-- ---- capped or not, the sum reaches 2U alike
+cap-le : (b : ℕ) (hs : List ℤ) → tally (λ h. min (lifted b h) reach) hs ≤ tally (lifted b) hs
 cap-le b [] = omega arith
-cap-le b (h ∷ hs) = step (lifted b h) (tally (λ h. min (lifted b h) 8192) hs) (tally (lifted b) hs) (cap-le b hs)
+cap-le b (h ∷ hs) = step (lifted b h) (tally (λ h. min (lifted b h) reach) hs) (tally (lifted b) hs) (cap-le b hs)
   where
-    step : (a x y : ℕ) → x ≤ y → min a 8192 + x ≤ a + y
+    step : (a x y : ℕ) → x ≤ y → min a reach + x ≤ a + y
     step a x y h = omega arith
 
-cap-reach : (b : ℕ) (hs : List ℤ) → min (tally (lifted b) hs) 8192 ≤ tally (λ h. min (lifted b h) 8192) hs
+cap-reach : (b : ℕ) (hs : List ℤ) → min (tally (lifted b) hs) reach ≤ tally (λ h. min (lifted b h) reach) hs
 cap-reach b [] = omega arith
-cap-reach b (h ∷ hs) = step (lifted b h) (tally (λ h. min (lifted b h) 8192) hs) (tally (lifted b) hs) (cap-reach b hs)
+cap-reach b (h ∷ hs) = step (lifted b h) (tally (λ h. min (lifted b h) reach) hs) (tally (lifted b) hs) (cap-reach b hs)
   where
-    step : (a x y : ℕ) → min y 8192 ≤ x → min (a + y) 8192 ≤ min a 8192 + x
+    step : (a x y : ℕ) → min y reach ≤ x → min (a + y) reach ≤ min a reach + x
     step a x y h = omega arith
 
-is-short : (n m : ℕ) → n ≤ m → m < 8192 → ltZ (pos n) (pos 8192) ≡ true
-is-short n m h k = lt-ltZ (pos n) (pos 8192) (plain n (omega arith))
+is-short : (n m : ℕ) → n ≤ m → m < reach → ltZ (pos n) (pos reach) ≡ true
+is-short n m h k = lt-ltZ (pos n) (pos reach) (plain n (omega arith))
   where
-    plain : (n : ℕ) → n < 8192 → pos n <ℤ pos 8192
+    plain : (n : ℕ) → n < reach → pos n <ℤ pos reach
     plain n = simp lin (omega arithZ)
 
-is-met : (n m : ℕ) → min m 8192 ≤ n → 8192 ≤ m → ltZ (pos n) (pos 8192) ≡ false
-is-met n m h k = le-ltZ (pos n) (pos 8192) (plain n (omega arith))
+is-met : (n m : ℕ) → min m reach ≤ n → reach ≤ m → ltZ (pos n) (pos reach) ≡ false
+is-met n m h k = le-ltZ (pos n) (pos reach) (plain n (omega arith))
   where
-    plain : (n : ℕ) → 8192 ≤ n → pos 8192 ⩽ pos n
+    plain : (n : ℕ) → reach ≤ n → pos reach ⩽ pos n
     plain n = simp lin (omega arithZ)
 
 -- the inequality at a step b, and the sum at it
@@ -96,21 +96,21 @@ module _ (b : ℕ) (ts : List Bool) (vs : List ℤ) where
   hs = heightsOf ts vs
 
   abbrev capped : ℕ
-  capped = tally (λ h. min (lifted b h) 8192) hs
+  capped = tally (λ h. min (lifted b h) reach) hs
 
-  pub short-of : sumAt hs b < 8192 → short 4096 ts vs b ≡ true
+  pub short-of : sumAt hs b < reach → short unit ts vs b ≡ true
   unfolding sumAt
-  short-of h = ap (λ z. ltZ z (pos 8192)) (left-is b ts vs) ∙ is-short capped (tally (lifted b) hs) (cap-le b hs) h
+  short-of h = ap (λ z. ltZ z (pos reach)) (left-is b ts vs) ∙ is-short capped (tally (lifted b) hs) (cap-le b hs) h
 
-  pub met-of : 8192 ≤ sumAt hs b → short 4096 ts vs b ≡ false
+  pub met-of : reach ≤ sumAt hs b → short unit ts vs b ≡ false
   unfolding sumAt
-  met-of h = ap (λ z. ltZ z (pos 8192)) (left-is b ts vs) ∙ is-met capped (tally (lifted b) hs) (cap-reach b hs) h
+  met-of h = ap (λ z. ltZ z (pos reach)) (left-is b ts vs) ∙ is-met capped (tally (lifted b) hs) (cap-reach b hs) h
 
   -- and back
-  pub of-short : short 4096 ts vs b ≡ true → sumAt hs b < 8192
-  of-short e = go (decLe 8192 (sumAt hs b))
+  pub of-short : short unit ts vs b ≡ true → sumAt hs b < reach
+  of-short e = go (decLe reach (sumAt hs b))
     where
-      go : Dec (8192 ≤ sumAt hs b) → sumAt hs b < 8192
+      go : Dec (reach ≤ sumAt hs b) → sumAt hs b < reach
       go (yes h) = absurd (true≢false (sym e ∙ met-of h))
       go (no f) = lt-of-not-le f
 
@@ -171,7 +171,7 @@ lifting-some b (x ∷ hs) h = go (decLe 1 (tally (lifted b) hs)) (lifting-some b
     go (yes p) ih = later (lifting b x) (tally (lifting b) hs) (ih p)
     go (no f) ih = here (lifted b x) (tally (lifted b) hs) (tally (lifting b) hs) h f
 
-pub count-some : (hs : List ℤ) (b : ℕ) → 8192 ≤ sumAt hs b → 0 < countAt hs b
+pub count-some : (hs : List ℤ) (b : ℕ) → reach ≤ sumAt hs b → 0 < countAt hs b
 unfolding sumAt countAt
 count-some hs b h = lifting-some b hs (omega arith)
 
@@ -183,14 +183,14 @@ module _ (hs : List ℤ) where
   abbrev count : ℕ → ℕ
   count b = tally (lifting b) hs
 
-  pub next-step : (b d : ℕ) → 8192 ≤ sumAt hs b → sumAt hs 0 < 8192 → d ≡ (sumAt hs b - 8192) / countAt hs b → (d < b) × (8192 ≤ sumAt hs (b - d))
+  pub next-step : (b d : ℕ) → reach ≤ sumAt hs b → sumAt hs 0 < reach → d ≡ (sumAt hs b - reach) / countAt hs b → (d < b) × (reach ≤ sumAt hs (b - d))
   unfolding sumAt countAt
   next-step b d h z e = (under, after (sum b) (sum (b - d)) (count b * d) h paid down)
     where
-      paid : count b * d ≤ sum b - 8192
-      paid = subst (λ n. n ≤ sum b - 8192) (ap (λ n. n * count b) (sym e) ∙ mul-comm d (count b)) (div-mul-le-self (sum b - 8192) (count b))
+      paid : count b * d ≤ sum b - reach
+      paid = subst (λ n. n ≤ sum b - reach) (ap (λ n. n * count b) (sym e) ∙ mul-comm d (count b)) (div-mul-le-self (sum b - reach) (count b))
 
-      after : (f g n : ℕ) → 8192 ≤ f → n ≤ f - 8192 → f ≤ g + n → 8192 ≤ g
+      after : (f g n : ℕ) → reach ≤ f → n ≤ f - reach → f ≤ g + n → reach ≤ g
       after f g n h k l = omega arith
 
       never : b ≤ d → ⊥
@@ -199,7 +199,7 @@ module _ (hs : List ℤ) where
           plain : (n : ℕ) → 0 + n ≡ n
           plain n = omega arith
 
-          past : (f g n m : ℕ) → 8192 ≤ f → g < 8192 → f ≤ g + n → n ≤ m → m ≤ f - 8192 → ⊥
+          past : (f g n m : ℕ) → reach ≤ f → g < reach → f ≤ g + n → n ≤ m → m ≤ f - reach → ⊥
           past f g n m h z l k p = omega arith
 
       under : d < b
@@ -218,21 +218,21 @@ module _ (hs : List ℤ) where
           back : d < b → b - d + d ≡ b
           back l = omega arith
 
-  last-step : (b d : ℕ) → 8192 ≤ sum (b + 1) → d ≡ (sum (b + 1) - 8192) / count (b + 1) → d ≡ 0 → sum b < 8192
-  last-step b d h e z = end (sum (b + 1)) (sum b) (count (b + 1)) h (sum-one b hs) (few (sum (b + 1) - 8192) (count (b + 1)) (lifting-some (b + 1) hs (omega arith)) (sym e ∙ z))
+  last-step : (b d : ℕ) → reach ≤ sum (b + 1) → d ≡ (sum (b + 1) - reach) / count (b + 1) → d ≡ 0 → sum b < reach
+  last-step b d h e z = end (sum (b + 1)) (sum b) (count (b + 1)) h (sum-one b hs) (few (sum (b + 1) - reach) (count (b + 1)) (lifting-some (b + 1) hs (omega arith)) (sym e ∙ z))
     where
-      end : (f g n : ℕ) → 8192 ≤ f → f ≡ g + n → f - 8192 < n → g < 8192
+      end : (f g n : ℕ) → reach ≤ f → f ≡ g + n → f - reach < n → g < reach
       end f g n h e l = omega arith
 
       few : (x n : ℕ) → 0 < n → x / n ≡ 0 → x < n
       few x n h q = subst (λ y. y < n) (ap (λ k. k * n + x % n) (sym q) ∙ div-add-mod' x n) (omega (arith, mod-lt x h))
 
-  pub least-found : (b d : ℕ) → 8192 ≤ sumAt hs b → b ≤ stepLimit → d ≡ (sumAt hs b - 8192) / countAt hs b → d ≡ 0 → LeastAt hs b
+  pub least-found : (b d : ℕ) → reach ≤ sumAt hs b → b ≤ stepLimit → d ≡ (sumAt hs b - reach) / countAt hs b → d ≡ 0 → LeastAt hs b
   unfolding sumAt countAt
   least-found b d h k e q = record { met = h; last = under; bounded = k }
     where
       at-next : (a : ℕ) → b ≡ suc a → b ≡ a + 1
       at-next a p = p ∙ sym (add-one a)
 
-      under : (a : ℕ) → b ≡ suc a → sum a < 8192
-      under a p = last-step a d (subst (λ n. 8192 ≤ sum n) (at-next a p) h) (subst (λ n. d ≡ (sum n - 8192) / count n) (at-next a p) e) q
+      under : (a : ℕ) → b ≡ suc a → sum a < reach
+      under a p = last-step a d (subst (λ n. reach ≤ sum n) (at-next a p) h) (subst (λ n. d ≡ (sum n - reach) / count n) (at-next a p) e) q

@@ -10,12 +10,12 @@ use lib.IntN.{ℤ, pos, _+ℤ_, _-ℤ_}
 use mir.Syntax.{w32}
 use mir.Val.{SFits, toZ}
 use mir.Facts.{toZ-pos}
-use Rattle.rules.specs.Limits.{offsetLimit, stepLimit, valueLimit}
+use Rattle.rules.specs.Limits.{offsetLimit, stepLimit, valueLimit, unit}
 use Rattle.integers.specs.Linear.{lin, arithZ, Within}
 use Rattle.rules.specs.Table.{at}
 use Rattle.rules.specs.Mask.{setOf}
-use Rattle.rules.specs.Step.{move, moves, minus}
-use Rattle.decoder.specs.Stepped.{MoveFits}
+use Rattle.rules.specs.Step.{move}
+use Rattle.decoder.specs.Stepped.{newCopies, newOffsets, MoveFits}
 use Rattle.decoder.proofs.FillLaws.{fill, fill-none, fill-length, fill-at, fill-more, fill-all}
 use Rattle.decoder.proofs.PlaceLaws.{minus-length, minus-at}
 use Rattle.decoder.proofs.MaskLaws.{set-at, set-alike}
@@ -30,20 +30,13 @@ up-fits v b = simp lin (omega arithZ)
 pub down-fits : (v : ℤ) (b : ℕ) → Within valueLimit v → b ≤ stepLimit → SFits w32 (v -ℤ pos b)
 down-fits v b = simp lin (omega arithZ)
 
-pub value-fits : (x y : ℤ) → Within 4096 x → Within offsetLimit y → SFits w32 (x +ℤ y)
+pub value-fits : (x y : ℤ) → Within unit x → Within offsetLimit y → SFits w32 (x +ℤ y)
 value-fits x y = simp lin (omega arithZ)
 
-pub offset-fits : (v z : ℤ) → Within valueLimit v → Within 4096 z → SFits w32 (v -ℤ z)
+pub offset-fits : (v z : ℤ) → Within valueLimit v → Within unit z → SFits w32 (v -ℤ z)
 offset-fits v z = simp lin (omega arithZ)
 
--- ---- the copies and offsets that a multiplier b and a mask m leave of the values v
-abbrev pub newCopies : ℕ → ℕ → List ℤ → List ℤ
-newCopies b m v = moves 4096 b (setOf (length v) m) v
-
-abbrev pub newOffsets : ℕ → ℕ → List ℤ → List ℤ
-newOffsets b m v = minus v (newCopies b m v)
-
--- how the loop stands: i places are done
+-- ---- how the loop stands: i places are done
 pub record Moving (b m : ℕ) (z₀ v : List ℤ) (i : ℕ) (z y : List ℤ) : Type 0 where
   pub few : i ≤ length v
   pub copies : z ≡ fill i (newCopies b m v) z₀
@@ -54,7 +47,7 @@ moving-first b m z₀ v = record { few = omega arith; copies = sym (fill-none (n
 
 module _ (b m : ℕ) (z₀ v : List ℤ) (f : MoveFits b z₀ v) where
   copies-same : length (newCopies b m v) ≡ length z₀
-  copies-same = moves-length 4096 b (setOf (length v) m) v (set-alike v m) ∙ sym (f .copiesLong)
+  copies-same = moves-length unit b (setOf (length v) m) v (set-alike v m) ∙ sym (f .copiesLong)
 
   offsets-same : length (newOffsets b m v) ≡ length v
   offsets-same = minus-length v (newCopies b m v) (sym (copies-same ∙ f .copiesLong))
@@ -70,7 +63,7 @@ module _ (b m : ℕ) (z₀ v : List ℤ) (f : MoveFits b z₀ v) where
     pub moving-at : at y i ≡ at v i
     moving-at = ap (λ l. at l i) (g .offsets) ∙ fill-at i (newOffsets b m v) v (pos 0)
 
-    pub moving-next : (t : Bool) (x w : ℤ) → i < length v → t ≡ eqb (m / 2 ^ i % 2) 1 → x ≡ move 4096 b t (at v i) → w ≡ at v i -ℤ x → Moving b m z₀ v (i + 1) (set z i x) (set y i w)
+    pub moving-next : (t : Bool) (x w : ℤ) → i < length v → t ≡ eqb (m / 2 ^ i % 2) 1 → x ≡ move unit b t (at v i) → w ≡ at v i -ℤ x → Moving b m z₀ v (i + 1) (set z i x) (set y i w)
     moving-next t x w h d e k = record {
       few = omega arith;
       copies = fill-more i (newCopies b m v) z₀ z x (pos 0) (omega (arith, copies-same, f .copiesLong)) copy (g .copies);
@@ -79,7 +72,7 @@ module _ (b m : ℕ) (z₀ v : List ℤ) (f : MoveFits b z₀ v) where
     }
       where
         copy : x ≡ at (newCopies b m v) i
-        copy = e ∙ ap (λ s. move 4096 b s (at v i)) (d ∙ sym (set-at (length v) m i h)) ∙ sym (moves-at 4096 b (setOf (length v) m) v i (set-alike v m) h)
+        copy = e ∙ ap (λ s. move unit b s (at v i)) (d ∙ sym (set-at (length v) m i h)) ∙ sym (moves-at unit b (setOf (length v) m) v i (set-alike v m) h)
 
     pub moving-last : length v ≤ i → (z ≡ newCopies b m v) × (y ≡ newOffsets b m v)
     moving-last h = (

@@ -13,7 +13,7 @@ use lib.IntN.{ℤ, pos, negsuc, negℤ, natAbs, _+ℤ_, _-ℤ_}
 use lib.Signed.{_≤ℤ_, _<ℤ_, ltZ}
 use mir.Syntax.{w32}
 use mir.Val.{SFits}
-use Rattle.rules.specs.Limits.{offsetLimit, priceLimit, stepLimit, valueLimit}
+use Rattle.rules.specs.Limits.{offsetLimit, priceLimit, stepLimit, valueLimit, maxDegree, unit}
 use Rattle.integers.specs.Linear.{lin, arithZ, _⩽_, Within, up, le-out, lt-ltZ}
 use Rattle.integers.specs.Product.{natAbs-≤}
 use Rattle.integers.specs.Sum.{AllWithin}
@@ -22,7 +22,7 @@ use Rattle.rules.specs.Step.{clips, moves, short, multiplier}
 use Rattle.rules.proofs.CutRule.{Cuts}
 use Rattle.rules.proofs.Multiplier.{moves-zero, multiplier-least, multiplier-unique}
 use Rattle.cut.specs.Heights.{height, heightsOf, highest}
-use Rattle.decoder.specs.Lifted.{lifted, lifting, tally, sumAt, countAt, sumZ, Rising, LeastAt}
+use Rattle.decoder.specs.Lifted.{lifted, lifting, tally, sumAt, countAt, sumZ, Rising, LeastAt, lack, lackLimit, reach}
 use Rattle.decoder.proofs.MultiplierSumLaws.{sum-within}
 use Rattle.decoder.proofs.LiftedLaws.{short-of, met-of, of-short}
 
@@ -124,27 +124,27 @@ heights-few (t ∷ ts) (v ∷ vs) = next (length (heightsOf ts vs)) (length vs) 
     next a b h = omega arith
 
 -- ---- a cut's heights rise, and the least step at which they reach 2U is the multiplier
-under-top : (z : ℤ) (n : ℕ) → up (z +ℤ pos 0) ≤ n → n < 8192 → z ⩽ pos 8192
+under-top : (z : ℤ) (n : ℕ) → up (z +ℤ pos 0) ≤ n → n < reach → z ⩽ pos reach
 under-top (pos m) n h k = simp lin (omega arithZ)
 under-top (negsuc m) n h k = simp lin (omega arithZ)
 
-reached : (z : ℤ) → z ⩽ pos 8192 → 8192 ≤ up (z +ℤ pos (natAbs (pos 8192 -ℤ z)))
-reached z h = subst (λ x. 8192 ≤ up x) (sym (back z (pos 8192 -ℤ z) refl (simp lin (omega arithZ)))) (omega arith)
+reached : (z : ℤ) → z ⩽ pos reach → reach ≤ up (z +ℤ pos (natAbs (pos reach -ℤ z)))
+reached z h = subst (λ x. reach ≤ up x) (sym (back z (pos reach -ℤ z) refl (simp lin (omega arithZ)))) (omega arith)
   where
-    plain : (z : ℤ) (n : ℕ) → pos n ≡ pos 8192 -ℤ z → z +ℤ pos n ≡ pos 8192
+    plain : (z : ℤ) (n : ℕ) → pos n ≡ pos reach -ℤ z → z +ℤ pos n ≡ pos reach
     plain z n = simp lin (omega arithZ)
 
-    back : (z d : ℤ) → d ≡ pos 8192 -ℤ z → pos 0 ⩽ d → z +ℤ pos (natAbs d) ≡ pos 8192
+    back : (z d : ℤ) → d ≡ pos reach -ℤ z → pos 0 ⩽ d → z +ℤ pos (natAbs d) ≡ pos reach
     back z (pos n) e h = plain z n e
     back z (negsuc n) e h = absurd (omega arithZ)
 
-module _ (ts : List Bool) (vs : List ℤ) (few : length vs ≤ 32) (small : AllWithin valueLimit vs) (alike : Alike ts vs) (c : Cuts 4096 ts (clips 4096 vs)) where
+module _ (ts : List Bool) (vs : List ℤ) (few : length vs ≤ maxDegree) (small : AllWithin valueLimit vs) (alike : Alike ts vs) (c : Cuts unit ts (clips unit vs)) where
   abbrev hs : List ℤ
   hs = heightsOf ts vs
 
-  at-zero : sumAt hs 0 < 8192
-  at-zero = of-short 0 ts vs (lt-ltZ (left 4096 ts (moves 4096 0 ts vs)) (pos 8192)
-      (subst (λ z. left 4096 ts z <ℤ pos 8192) (sym (moves-zero 4096 ts vs alike)) (c .under)))
+  at-zero : sumAt hs 0 < reach
+  at-zero = of-short 0 ts vs (lt-ltZ (left unit ts (moves unit 0 ts vs)) (pos reach)
+      (subst (λ z. left unit ts z <ℤ pos reach) (sym (moves-zero unit ts vs alike)) (c .under)))
 
   member : In (highest hs) hs
   member = go ts vs alike (c .isOdd) small
@@ -158,31 +158,31 @@ module _ (ts : List Bool) (vs : List ℤ) (few : length vs ≤ 32) (small : AllW
   unfolding sumAt
   rising = record {
     some = nonempty hs member;
-    few = subst (λ n. n ≤ 32) (sym (heights-length ts vs alike)) few;
+    few = subst (λ n. n ≤ maxDegree) (sym (heights-length ts vs alike)) few;
     small = heights-small ts vs small;
     short = at-zero;
     low = in-low (highest hs) ts vs small member;
     high = most;
-    met = later (in-sum (natAbs (pos 8192 -ℤ highest hs)) (highest hs) hs member) (reached (highest hs) most);
+    met = later (in-sum (natAbs (pos reach -ℤ highest hs)) (highest hs) hs member) (reached (highest hs) most);
   }
     where
       nonempty : (hs : List ℤ) → In (highest hs) hs → 0 < length hs
       nonempty [] i = absurd i
       nonempty (h ∷ hs) i = omega arith
 
-      most : highest hs ⩽ pos 8192
+      most : highest hs ⩽ pos reach
       most = under-top (highest hs) (tally (lifted 0) hs) (in-sum 0 (highest hs) hs member) at-zero
 
-      later : {a b : ℕ} → a ≤ b → 8192 ≤ a → 8192 ≤ b
+      later : {a b : ℕ} → a ≤ b → reach ≤ a → reach ≤ b
       later h k = omega arith
 
-  pub least-is : (b : ℕ) → LeastAt hs b → b ≡ multiplier 4096 ts vs
+  pub least-is : (b : ℕ) → LeastAt hs b → b ≡ multiplier unit ts vs
   least-is zero l = absurd (none (sumAt hs 0) (l .met) at-zero)
     where
-      none : (n : ℕ) → 8192 ≤ n → n < 8192 → ⊥
+      none : (n : ℕ) → reach ≤ n → n < reach → ⊥
       none n h k = omega arith
-  least-is (suc b) l = multiplier-unique 4096 valueLimit ts vs b
-      (multiplier-least 4096 valueLimit ts vs (c .isOdd) alike small (omega arith) (c .under))
+  least-is (suc b) l = multiplier-unique unit valueLimit ts vs b
+      (multiplier-least unit valueLimit ts vs (c .isOdd) alike small (omega arith) (c .under))
       (short-of b ts vs (l .last b refl)) (met-of (suc b) ts vs (l .met))
 
 -- ---- where the search starts: all heights lifted to 2U together
@@ -198,16 +198,16 @@ all-lifted a [] = simp lin (omega arithZ)
 all-lifted a (h ∷ hs) = subst (λ k. (h +ℤ sumZ hs) +ℤ pos k ⩽ pos (lifted a h + tally (lifted a) hs)) (sym (suc-mul (length hs) a))
     (lift-more h (sumZ hs) a (length hs * a) (lifted a h) (tally (lifted a) hs) (up-least (h +ℤ pos a)) (all-lifted a hs))
 
-enough : (s : ℤ) (t k n : ℕ) → pos t ≡ pos 8192 -ℤ s → t ≤ k → s +ℤ pos k ⩽ pos n → 8192 ≤ n
+enough : (s : ℤ) (t k n : ℕ) → pos t ≡ pos reach -ℤ s → t ≤ k → s +ℤ pos k ⩽ pos n → reach ≤ n
 enough s t k n e h l = omega (arith, le-out (plain s t k n e h l))
   where
-    plain : (s : ℤ) (t k n : ℕ) → pos t ≡ pos 8192 -ℤ s → t ≤ k → s +ℤ pos k ⩽ pos n → pos 8192 ⩽ pos n
+    plain : (s : ℤ) (t k n : ℕ) → pos t ≡ pos reach -ℤ s → t ≤ k → s +ℤ pos k ⩽ pos n → pos reach ⩽ pos n
     plain s t k n = simp lin (omega arithZ)
 
 rounded-up : (t d : ℕ) → 0 < d → t ≤ d * ((t + (d - 1)) / d)
 rounded-up t d h = subst (λ n. t ≤ n) (mul-comm ((t + (d - 1)) / d) d) (omega (arith, lt-div-mul-add {a = t + (d - 1)} {b = d} h))
 
-pub level-met : (hs : List ℤ) (t : ℕ) → 0 < length hs → pos t ≡ pos 8192 -ℤ sumZ hs → 8192 ≤ sumAt hs ((t + (length hs - 1)) / length hs)
+pub level-met : (hs : List ℤ) (t : ℕ) → 0 < length hs → pos t ≡ lack hs → reach ≤ sumAt hs ((t + (length hs - 1)) / length hs)
 unfolding sumAt
 level-met hs t h e = enough (sumZ hs) t (length hs * ((t + (length hs - 1)) / length hs)) (tally (lifted ((t + (length hs - 1)) / length hs)) hs)
     e (rounded-up t (length hs) h) (all-lifted ((t + (length hs - 1)) / length hs) hs)
@@ -220,34 +220,34 @@ sum-under (h ∷ hs) = both h (sumZ hs) (lifted 0 h) (tally (lifted 0) hs) (up-l
     both : (h s : ℤ) (m n : ℕ) → h +ℤ pos 0 ⩽ pos m → s ⩽ pos n → h +ℤ s ⩽ pos (m + n)
     both h s m n = simp lin (omega arithZ)
 
-pub together-fits : (hs : List ℤ) → length hs ≤ 32 → AllWithin stepLimit hs → sumAt hs 0 < 8192
-    → SFits w32 (pos 8192 -ℤ sumZ hs) × (pos 0 ≤ℤ (pos 8192 -ℤ sumZ hs)) × (natAbs (pos 8192 -ℤ sumZ hs) ≤ 268443648)
+pub together-fits : (hs : List ℤ) → length hs ≤ maxDegree → AllWithin stepLimit hs → sumAt hs 0 < reach
+    → SFits w32 (lack hs) × (pos 0 ≤ℤ lack hs) × (natAbs (lack hs) ≤ lackLimit)
 unfolding sumAt
-together-fits hs h w k = (fits (sumZ hs) within, not-less (sumZ hs) (tally (lifted 0) hs) (sum-under hs) k, size (pos 8192 -ℤ sumZ hs) (reach (sumZ hs) within))
+together-fits hs h w k = (fits (sumZ hs) within, not-less (sumZ hs) (tally (lifted 0) hs) (sum-under hs) k, size (lack hs) (lacking (sumZ hs) within))
   where
-    wide : (n : ℕ) (z : ℤ) → n ≤ 32 → Within (stepLimit * n) z → Within priceLimit z
+    wide : (n : ℕ) (z : ℤ) → n ≤ maxDegree → Within (stepLimit * n) z → Within priceLimit z
     wide n z = simp lin (omega arithZ)
 
     within : Within priceLimit (sumZ hs)
     within = wide (length hs) (sumZ hs) h (sum-within stepLimit hs w)
 
-    fits : (z : ℤ) → Within priceLimit z → SFits w32 (pos 8192 -ℤ z)
+    fits : (z : ℤ) → Within priceLimit z → SFits w32 (pos reach -ℤ z)
     fits z = simp lin (omega arithZ)
 
-    reach : (z : ℤ) → Within priceLimit z → Within 268443648 (pos 8192 -ℤ z)
-    reach z = simp lin (omega arithZ)
+    lacking : (z : ℤ) → Within priceLimit z → Within lackLimit (pos reach -ℤ z)
+    lacking z = simp lin (omega arithZ)
 
-    size : (z : ℤ) → Within 268443648 z → natAbs z ≤ 268443648
-    size z = natAbs-≤ z 268443648
+    size : (z : ℤ) → Within lackLimit z → natAbs z ≤ lackLimit
+    size z = natAbs-≤ z lackLimit
 
-    not-less : (z : ℤ) (n : ℕ) → z ⩽ pos n → n < 8192 → pos 0 ≤ℤ (pos 8192 -ℤ z)
+    not-less : (z : ℤ) (n : ℕ) → z ⩽ pos n → n < reach → pos 0 ≤ℤ (pos reach -ℤ z)
     not-less z n = simp lin (omega arithZ)
 
 -- ---- machine words
-pub sum-next : (n : ℕ) (z h : ℤ) → n < 32 → Within (stepLimit * n) z → Within stepLimit h → SFits w32 (z +ℤ h) × Within (stepLimit * (n + 1)) (z +ℤ h)
+pub sum-next : (n : ℕ) (z h : ℤ) → n < maxDegree → Within (stepLimit * n) z → Within stepLimit h → SFits w32 (z +ℤ h) × Within (stepLimit * (n + 1)) (z +ℤ h)
 sum-next n z h k w x = (fits n z h k w x, within n z h w x)
   where
-    fits : (n : ℕ) (z h : ℤ) → n < 32 → Within (stepLimit * n) z → Within stepLimit h → SFits w32 (z +ℤ h)
+    fits : (n : ℕ) (z h : ℤ) → n < maxDegree → Within (stepLimit * n) z → Within stepLimit h → SFits w32 (z +ℤ h)
     fits n z h = simp lin (omega arithZ)
 
     within : (n : ℕ) (z h : ℤ) → Within (stepLimit * n) z → Within stepLimit h → Within (stepLimit * (n + 1)) (z +ℤ h)
@@ -256,11 +256,11 @@ sum-next n z h k w x = (fits n z h k w x, within n z h w x)
 pub lift-fits : (h : ℤ) (b : ℕ) → Within stepLimit h → b ≤ stepLimit → SFits w32 (h +ℤ pos b)
 lift-fits h b = simp lin (omega arithZ)
 
-pub start-fits : (x : ℤ) → negℤ (pos offsetLimit) ≤ℤ x → x ≤ℤ pos 8192 → SFits w32 (pos 8192 -ℤ x) × (pos 0 ≤ℤ (pos 8192 -ℤ x))
+pub start-fits : (x : ℤ) → negℤ (pos offsetLimit) ≤ℤ x → x ≤ℤ pos reach → SFits w32 (pos reach -ℤ x) × (pos 0 ≤ℤ (pos reach -ℤ x))
 start-fits x h k = (simp lin (omega arithZ), simp lin (omega arithZ))
 
-pub start-most : (x : ℤ) → negℤ (pos offsetLimit) ≤ℤ x → x ≤ℤ pos 8192 → natAbs (pos 8192 -ℤ x) ≤ stepLimit
-start-most x h k = size (pos 8192 -ℤ x) (simp lin (omega arithZ)) (simp lin (omega arithZ))
+pub start-most : (x : ℤ) → negℤ (pos offsetLimit) ≤ℤ x → x ≤ℤ pos reach → natAbs (pos reach -ℤ x) ≤ stepLimit
+start-most x h k = size (pos reach -ℤ x) (simp lin (omega arithZ)) (simp lin (omega arithZ))
   where
     size : (z : ℤ) → pos 0 ≤ℤ z → z ≤ℤ pos stepLimit → natAbs z ≤ stepLimit
     size (pos n) h k = omega (arith, le-out k)

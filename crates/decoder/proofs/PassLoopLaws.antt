@@ -7,7 +7,7 @@ use lib.ListN.{length, getD, take, drop, length-drop}
 use lib.Seq.{length-take-le}
 use lib.IntN.{ℤ}
 use Rattle.integers.specs.Sum.{AllWithin}
-use Rattle.rules.specs.Limits.{unit, offsetLimit}
+use Rattle.rules.specs.Limits.{unit, offsetLimit, maxDegree}
 use Rattle.rules.specs.Table.{at}
 use Rattle.rules.specs.Sound.{Below}
 use Rattle.rules.specs.Step.{Step, step}
@@ -16,8 +16,8 @@ use Rattle.rules.proofs.Pass.{AllLaid, pass-laid, copies-length, offsets-length
 use Rattle.rules.proofs.RoundSizes.{multipliers-length, masks-length}
 use Rattle.table.specs.Layout.{checksFrom, edgesBefore}
 use Rattle.decoder.specs.Stepped.{Stepped, steppedBy, steppedOn, stepped}
-use Rattle.decoder.specs.Passed.{Passed, passed, PassFits}
-use Rattle.decoder.specs.Parts.{part, splice, placed, onePassed, OneFits}
+use Rattle.decoder.specs.Passed.{Passed, passedTo, passed, PassFits}
+use Rattle.decoder.specs.Parts.{part, placed, onePassed, OneFits}
 use Rattle.decoder.proofs.FillLaws.{fill, fill-none, fill-length, fill-rest, fill-more, fill-part, fill-all}
 use Rattle.decoder.proofs.PlaceLaws.{take-within}
 use Rattle.decoder.proofs.StepListLaws.{values-take}
@@ -32,9 +32,8 @@ pub record Passing (f : ℕ → ℤ) (ss ms : List ℕ) (q₀ q : Passed) (j : �
   pub multipliers : q .multipliers ≡ fill j (passed f (checksFrom ss ms) (q₀ .offsets) .multipliers) (q₀ .multipliers)
   pub masks : q .masks ≡ fill j (passed f (checksFrom ss ms) (q₀ .offsets) .masks) (q₀ .masks)
 
-pub passed-eq : {a a' b b' : List ℤ} {c c' d d' : List ℕ} → a ≡ a' → b ≡ b' → c ≡ c' → d ≡ d'
-    → _≡_ {A = Passed} (record { copies = a; offsets = b; multipliers = c; masks = d }) (record { copies = a'; offsets = b'; multipliers = c'; masks = d' })
-passed-eq p q r s = λ i. record { copies = p i; offsets = q i; multipliers = r i; masks = s i }
+pub passed-eq : {a a' b b' : List ℤ} {c c' d d' : List ℕ} → a ≡ a' → b ≡ b' → c ≡ c' → d ≡ d' → passedTo a b c d ≡ passedTo a' b' c' d'
+passed-eq p q r s = λ i. passedTo (p i) (q i) (r i) (s i)
 
 part-length : {A : Type 0} (a e : ℕ) (l : List A) → e ≤ length l → length (part a e l) ≡ e - a
 unfolding part
@@ -51,7 +50,7 @@ module _ {n : ℕ} {ss ms : List ℕ} {s z y : List ℤ} {bs ks : List ℕ} (fit
   goal = passed (at s) (checksFrom ss ms) y
 
   abbrev first : Passed
-  first = record { copies = z; offsets = y; multipliers = bs; masks = ks }
+  first = passedTo z y bs ks
 
   abbrev from : ℕ → ℕ
   from j = getD ss j 0
@@ -152,7 +151,7 @@ module _ {n : ℕ} {ss ms : List ℕ} {s z y : List ℤ} {bs ks : List ℕ} (fit
         multiplierThere = omega (arith, multipliers-long);
         maskThere = omega (arith, masks-long);
         step = record {
-          few = subst (λ l. length l ≤ 32) (sym members-are) (part-degree n ss ms (fits .holds) j h .1);
+          few = subst (λ l. length l ≤ maxDegree) (sym members-are) (part-degree n ss ms (fits .holds) j h .1);
           below = subst (λ l. Below (length s) l) (sym members-are) (subst (λ k. Below k (getD cs j [])) (sym (fits .size)) (part-below n ss ms (fits .holds) j h));
           copiesLong = part-length (from j) (from (j + 1)) (q .copies) (omega (arith, end-in, copies-long)) ∙ sym (part-length (from j) (from (j + 1)) ms end-in);
           offsetsLong = part-length (from j) (from (j + 1)) (q .offsets) (omega (arith, end-in, offsets-long)) ∙ sym (part-length (from j) (from (j + 1)) ms end-in);
@@ -173,11 +172,12 @@ module _ {n : ℕ} {ss ms : List ℕ} {s z y : List ℤ} {bs ks : List ℕ} (fit
       stepped-is = ap (λ v. steppedBy (step unit v)) values-are
 
       -- the part of a list from start j to start j + 1
-      here : (l p : List ℤ) → take (length (getD cs j [])) (drop (edgesBefore j cs) l) ≡ p → p ≡ take (from (j + 1) - from j) (drop (from j) l)
+      here : (l p : List ℤ) → take (length (getD cs j [])) (drop (edgesBefore j cs) l) ≡ p → p ≡ part (from j) (from (j + 1)) l
+      unfolding part
       here l p e = sym e ∙ ap₂ (λ k a. take k (drop a l)) (sym width) (sym (start-is n ss ms (fits .holds) j (g .few)))
 
       passing-placed : Passing (at s) ss ms first (placed j (from j) (from (j + 1)) (steppedBy (stepAt unit (at s) cs y j)) q) (j + 1)
-      unfolding splice passed
+      unfolding passed
       passing-placed = record {
         few = omega arith;
         copies = fill-part (from j) (from (j + 1)) (goal .copies) z (q .copies) _ copies-same ordered (omega (arith, end-in, fits .copiesLong))

@@ -2,14 +2,14 @@
 use mathlib.Core.Path.{_≡_, refl, sym, _∙_, ap, ap₂, subst}
 use mathlib.Core.Bool.{Bool, true, false}
 use mathlib.Core.List.{List, _++_}
-use mathlib.Core.Option.{some, none}
+use mathlib.Core.Option.{some}
 use Prim.Native.Nat.{ℕ, _+_, _*_, _≤_, _<_}
 use native.Mathlib.Omega.{arith}
 use lib.ListN.{length, take, drop, getD, take-append-drop}
 use lib.Seq.{length-take-le}
 use lib.IntN.{ℤ}
 use Rattle.integers.specs.Sum.{AllWithin}
-use Rattle.rules.specs.Limits.{unit, frameLimit, maxBits, maxChecks, offsetPerRound, certificateLength}
+use Rattle.rules.specs.Limits.{unit, maxBits, maxChecks, offsetPerRound, certificateLength}
 use Rattle.rules.specs.Table.{Table, edgesOf, degreeOf}
 use Rattle.rules.specs.Cut.{negatives, keep}
 use Rattle.rules.specs.Round.{Round}
@@ -25,44 +25,32 @@ use Rattle.rules.proofs.RoundSizes.{Sized, round-sized, state-part}
 use Rattle.rules.proofs.Runs.{coming, Kept, iterate-kept, held-start, iterate-held, running≢certified, spent≢certified}
 use Rattle.rules.proofs.Lends.{iterate-lend}
 use Rattle.writing.specs.Written.{certificateFrom}
-use Rattle.table.specs.Layout.{tableOf, Holds}
 use Rattle.run.specs.Ending.{closing}
 use Rattle.decoder.specs.Rounds.{Given, looped, filled, roundsFrom, Steady, Ready}
-use Rattle.decoder.specs.Finished.{Ending, finished, FinishFits, PartsFit}
+use Rattle.decoder.specs.Finished.{Ending, endedTo, finished, FinishFits, frontTable, PartsFit}
 use Rattle.decoder.proofs.ClosingLaws.{certificate-from}
 use Rattle.decoder.proofs.RoundLaws.{foundIn, round-closed}
 use Rattle.decoder.proofs.IterateLaws.{iterate-looped, filled-sizes}
-
--- ---- what the rounds are given
-pub given-all : (n : ℕ) (l : List ℤ) (ss ms ds : List ℕ) → Holds n ss ms → length l ≡ n → AllWithin frameLimit l → length ds ≡ maxBits
-    → ((i : ℕ) → i < maxBits → getD ds i 0 ≡ degreeOf i ms) → Given (length l) l ss ms ds
-given-all n l ss ms ds h e w d f = subst (λ k. Given k l ss ms ds) (sym e) (record {
-  holds = h;
-  size = e;
-  frame = w;
-  room = omega (arith, h .sound .bits .1);
-  degrees = λ i k. f i (omega (arith, h .sound .bits .1));
-})
 
 pub room-after : {a b n : ℕ} → a ≡ b → n ≤ b → n ≤ a
 room-after e h = omega (arith, e, h)
 
 -- ---- the end of a call, by how the run stands
 module _ (v : Status) (s : List ℤ) (bs ks w c : List ℕ) where
-  pub finish-running : v ≡ running → record { word = w; certificate = c } ≡ finished v s bs ks (record { word = w; certificate = c })
-  finish-running e = ap (λ x. finished x s bs ks (record { word = w; certificate = c })) (sym e)
+  pub finish-running : v ≡ running → endedTo w c ≡ finished v s bs ks (endedTo w c)
+  finish-running e = ap (λ x. finished x s bs ks (endedTo w c)) (sym e)
 
-  pub finish-spent : v ≡ spent → record { word = w; certificate = c } ≡ finished v s bs ks (record { word = w; certificate = c })
-  finish-spent e = ap (λ x. finished x s bs ks (record { word = w; certificate = c })) (sym e)
+  pub finish-spent : v ≡ spent → endedTo w c ≡ finished v s bs ks (endedTo w c)
+  finish-spent e = ap (λ x. finished x s bs ks (endedTo w c)) (sym e)
 
   pub finish-certified : (w' c' : List ℕ) → v ≡ certified → w' ≡ over (bytesOf (negatives s)) w → c' ≡ over (certificateFrom bs ks) c
-      → record { word = w'; certificate = c' } ≡ finished v s bs ks (record { word = w; certificate = c })
-  finish-certified w' c' e f g = ap₂ (λ x y. record { word = x; certificate = y }) f g ∙ ap (λ x. finished x s bs ks (record { word = w; certificate = c })) (sym e)
+      → endedTo w' c' ≡ finished v s bs ks (endedTo w c)
+  finish-certified w' c' e f g = ap₂ endedTo f g ∙ ap (λ x. finished x s bs ks (endedTo w c)) (sym e)
 
 -- ---- the call
 module _ {n m e : ℕ} {l : List ℤ} {ss ms : List ℕ} {r : Run} (h : PartsFit n m e l ss ms r) where
   abbrev t : Table
-  t = tableOf n (take (m + 1) ss) (take e ms)
+  t = frontTable n m e ss ms
 
   edges-long : edgesOf t ≡ e
   edges-long = ap length (sym (h .holds .members)) ∙ length-take-le e ms (h .membersRoom)
@@ -90,9 +78,19 @@ module _ {n m e : ℕ} {l : List ℤ} {ss ms : List ℕ} {r : Run} (h : PartsFit
       here : stateIn t (partOf (needsBy n m e) (r .buffers)) ≡ stateIn t (r .buffers)
       here = state-part t (needsBy n m e) (r .buffers) part-needs
 
+  -- ---- what the rounds are given: the table, the frame and the degrees
+  pub given-all : {ds : List ℕ} → length ds ≡ maxBits → ((i : ℕ) → i < maxBits → getD ds i 0 ≡ degreeOf i (take e ms)) → Given (length l) l (take (m + 1) ss) (take e ms) ds
+  given-all {ds} d f = subst (λ k. Given k l (take (m + 1) ss) (take e ms) ds) (sym (h .size)) (record {
+    holds = h .holds;
+    size = h .size;
+    frame = h .frame;
+    room = omega (arith, h .holds .sound .bits .1);
+    degrees = λ i k. f i (omega (arith, h .holds .sound .bits .1));
+  })
+
   -- the run on the parts that are needed
   pub parts-ready : Ready l (take (m + 1) ss) (take e ms) (looped (lend (needsBy n m e) r))
-  parts-ready = subst (λ k. Steady (tableOf k (take (m + 1) ss) (take e ms)) (looped (lend (needsBy n m e) r))) (sym (h .size)) (record {
+  parts-ready = subst (λ k. Steady (frontTable k m e ss ms) (looped (lend (needsBy n m e) r))) (sym (h .size)) (record {
     runs = h .runs;
     sizes = filled-sizes t (lend (needsBy n m e) r) part-sizes;
     safe = record { copies = part-safe .copies; offsets = part-safe .offsets; early = part-safe .early };
@@ -105,7 +103,7 @@ module _ {n m e : ℕ} {l : List ℤ} {ss ms : List ℕ} {r : Run} (h : PartsFit
 
     rounds-are : x ≡ looped (lend (needsBy n m e) end)
     unfolding roundsFrom
-    rounds-are = f ∙ ap (λ k. looped (iterate (tableOf k (take (m + 1) ss) (take e ms)) l wanted (filled (tableOf k (take (m + 1) ss) (take e ms)) (looped (lend (needsBy n m e) r))))) (h .size)
+    rounds-are = f ∙ ap (λ k. looped (iterate (frontTable k m e ss ms) l wanted (filled (frontTable k m e ss ms) (looped (lend (needsBy n m e) r))))) (h .size)
         ∙ iterate-looped t l wanted (filled t (lend (needsBy n m e) r)) ∙ sym (iterate-looped t l wanted (lend (needsBy n m e) r)) ∙ ap looped (iterate-lend t l (needsBy n m e) part-needs wanted r)
 
     past : AllPast (needs t) (end .buffers) (r .buffers)
@@ -122,6 +120,12 @@ module _ {n m e : ℕ} {l : List ℤ} {ss ms : List ℕ} {r : Run} (h : PartsFit
     abbrev spinsNow : List ℤ
     spinsNow = x .buffers .spins ++ drop n (r .buffers .spins)
 
+    abbrev copiesNow : List ℤ
+    copiesNow = x .buffers .copies ++ drop e (r .buffers .copies)
+
+    abbrev offsetsNow : List ℤ
+    offsetsNow = x .buffers .offsets ++ drop e (r .buffers .offsets)
+
     abbrev multipliersNow : List ℕ
     multipliersNow = x .buffers .multipliers ++ drop m (r .buffers .multipliers)
 
@@ -131,10 +135,10 @@ module _ {n m e : ℕ} {l : List ℤ} {ss ms : List ℕ} {r : Run} (h : PartsFit
     spins-back : spinsNow ≡ end .buffers .spins
     spins-back = back spins (x .buffers .spins) (ap (λ q. q .buffers .spins) rounds-are)
 
-    copies-back : x .buffers .copies ++ drop e (r .buffers .copies) ≡ end .buffers .copies
+    copies-back : copiesNow ≡ end .buffers .copies
     copies-back = back copies (x .buffers .copies) (ap (λ q. q .buffers .copies) rounds-are)
 
-    offsets-back : x .buffers .offsets ++ drop e (r .buffers .offsets) ≡ end .buffers .offsets
+    offsets-back : offsetsNow ≡ end .buffers .offsets
     offsets-back = back offsets (x .buffers .offsets) (ap (λ q. q .buffers .offsets) rounds-are)
 
     multipliers-back : multipliersNow ≡ end .buffers .multipliers
@@ -166,17 +170,17 @@ module _ {n m e : ℕ} {l : List ℤ} {ss ms : List ℕ} {r : Run} (h : PartsFit
     kept = iterate-kept t l wanted r (h .runs)
 
     abbrev new : Ending
-    new = record { word = end .buffers .word; certificate = end .buffers .certificate }
+    new = endedTo (end .buffers .word) (end .buffers .certificate)
 
     abbrev old : Ending
-    old = record { word = r .buffers .word; certificate = r .buffers .certificate }
+    old = endedTo (r .buffers .word) (r .buffers .certificate)
 
     -- what a call that stands so leaves in word and certificate
     abbrev ended : Status → Ending
     ended v = finished v (take n spinsNow) (take m multipliersNow) (take m masksNow) old
 
     untouched : (end .progress .status ≡ certified → ⊥) → old ≡ new
-    untouched f = let u = kept .stays f in ap₂ (λ w c. record { word = w; certificate = c }) (sym (u .word)) (sym (u .certificate))
+    untouched f = let u = kept .stays f in ap₂ endedTo (sym (u .word)) (sym (u .certificate))
 
     module _ (c : end .progress .status ≡ certified) where
       last : Run
@@ -221,7 +225,7 @@ module _ {n m e : ℕ} {l : List ℤ} {ss ms : List ℕ} {r : Run} (h : PartsFit
 
       wrote : ended certified ≡ new
       unfolding last
-      wrote = ap₂ (λ w c. record { word = w; certificate = c })
+      wrote = ap₂ endedTo
           (ap₂ (λ w o. over (bytesOf w) o) last-word (sym (kept .before c .word)) ∙ ap (λ o. overBy (wordLeft o) (last .buffers .word)) (sym by) ∙ ap (λ x. x .buffers .word) (sym is))
           (ap₂ over last-certificate (sym (kept .before c .certificate))
           ∙ ap (λ o. overBy (certificateLeft o (d .entries)) (last .buffers .certificate)) (sym by) ∙ ap (λ x. x .buffers .certificate) (sym is))
@@ -234,12 +238,11 @@ module _ {n m e : ℕ} {l : List ℤ} {ss ms : List ℕ} {r : Run} (h : PartsFit
         go certified e = wrote e
         go spent e = untouched (λ c. spent≢certified (sym e ∙ c))
 
-    pub performed : {g : Ending} → g ≡ ended (x .progress .status) → record {
-      progress = x .progress;
-      buffers = lent spinsNow (x .buffers .copies ++ drop e (r .buffers .copies)) (x .buffers .offsets ++ drop e (r .buffers .offsets)) multipliersNow masksNow
-          (g .word) (g .certificate);
-    }
-        ≡ iterate (tableOf n (take (m + 1) ss) (take e ms)) l wanted r
+    -- the whole run as the call leaves it, with g for word and certificate
+    abbrev leaving : Ending → Run
+    leaving g = record { progress = x .progress; buffers = lent spinsNow copiesNow offsetsNow multipliersNow masksNow (g .word) (g .certificate) }
+
+    pub performed : {g : Ending} → g ≡ ended (x .progress .status) → leaving g ≡ end
     performed j = λ i. record {
       progress = rounds-are i .progress;
       buffers = lent (spins-back i) (copies-back i) (offsets-back i) (multipliers-back i) (masks-back i) ((j ∙ ended-right) i .word) ((j ∙ ended-right) i .certificate);

@@ -13,7 +13,7 @@ use Rattle.rules.specs.Table.{Table, edges, at}
 use Rattle.rules.specs.Parity.{meets}
 use Rattle.rules.specs.Cut.{negatives, keep}
 use Rattle.rules.specs.Step.{Entry}
-use Rattle.rules.specs.Bound.{rowsOf, gap}
+use Rattle.rules.specs.Bound.{Row, rowsOf, gap}
 use Rattle.rules.specs.Round.{State, spin, pass, entriesIn, candidate, isZero, certify, firstOf, Round, round}
 use Rattle.rules.specs.Buffers.{multipliersOf, masksOf}
 use Rattle.rules.proofs.WrittenPasses.{AllProper}
@@ -68,27 +68,34 @@ closing-keep : (m : Bool) (g : ℤ) → closing (keep m g) ≡ m && isZero g
 closing-keep true g = refl
 closing-keep false g = refl
 
-closed-law : (t : Table) (l : List ℤ) (g : ℕ → ℤ) (es : List Entry) → AllProper (t .checks) es
-    → keep (closing (found l (t .checks) (firstOf (t .bits) g) (multipliersOf es) (masksOf es))) (negatives (firstOf (t .bits) g)) ≡ certify t l (rowsOf (t .checks) es) (candidate (t .bits) g)
-unfolding found
-closed-law t l g es p =
-    ap (λ x. keep x (negatives s)) (closing-keep (metBy (candidate (length s) (at s)) (t .checks)) (gap (length s) 1 l (rowsFrom (t .checks) (multipliersOf es) (masksOf es)) (negatives s)))
-    ∙ ap (λ n. keep (metBy (candidate n (at s)) (t .checks) && isZero (gap n 1 l (rowsFrom (t .checks) (multipliersOf es) (masksOf es)) (negatives s))) (negatives s)) (first-length (t .bits) g)
-    ∙ ap₂ (λ o rs. keep (metBy o (t .checks) && isZero (gap (t .bits) 1 l rs (negatives s))) (negatives s)) same (rows-from (t .checks) es p) ∙ go (candidate (t .bits) g) refl
-  where
-    s : List ℤ
-    s = firstOf (t .bits) g
+-- g the spins, es what the checks add
+module _ (t : Table) (l : List ℤ) (g : ℕ → ℤ) (es : List Entry) (p : AllProper (t .checks) es) where
+  abbrev s : List ℤ
+  s = firstOf (t .bits) g
 
-    same : candidate (t .bits) (at s) ≡ candidate (t .bits) g
-    same = candidate-same (t .bits) g (at s) (first-at (t .bits) g)
+  abbrev rows : List Row
+  rows = rowsOf (t .checks) es
 
-    go : (o : Option (List Bool)) → candidate (t .bits) g ≡ o
-        → keep (metBy o (t .checks) && isZero (gap (t .bits) 1 l (rowsOf (t .checks) es) (negatives s))) (negatives s) ≡ certify t l (rowsOf (t .checks) es) o
-    go none e = refl
-    go (some w) e = ap (λ v. keep (meets w (t .checks) && isZero (gap (t .bits) 1 l (rowsOf (t .checks) es) v)) v) (sym word)
-      where
-        word : w ≡ negatives s
-        word = candidate-negatives s w (ap (λ m. candidate m (at s)) (first-length (t .bits) g) ∙ same ∙ e)
+  -- the word with ones at negative spins, where o is the candidate
+  abbrev kept : ℕ → Option (List Bool) → List Row → Option (List Bool)
+  kept n o rs = keep (metBy o (t .checks) && isZero (gap n 1 l rs (negatives s))) (negatives s)
+
+  same : candidate (t .bits) (at s) ≡ candidate (t .bits) g
+  same = candidate-same (t .bits) g (at s) (first-at (t .bits) g)
+
+  kept-is : (o : Option (List Bool)) → candidate (t .bits) g ≡ o → kept (t .bits) o rows ≡ certify t l rows o
+  kept-is none e = refl
+  kept-is (some w) e = ap (λ v. keep (meets w (t .checks) && isZero (gap (t .bits) 1 l rows v)) v) (sym word)
+    where
+      word : w ≡ negatives s
+      word = candidate-negatives s w (ap (λ m. candidate m (at s)) (first-length (t .bits) g) ∙ same ∙ e)
+
+  closed-law : keep (closing (found l (t .checks) s (multipliersOf es) (masksOf es))) (negatives s) ≡ certify t l rows (candidate (t .bits) g)
+  unfolding found
+  closed-law =
+      let from = rowsFrom (t .checks) (multipliersOf es) (masksOf es) in
+      ap (λ x. keep x (negatives s)) (closing-keep (metBy (candidate (length s) (at s)) (t .checks)) (gap (length s) 1 l from (negatives s)))
+      ∙ ap (λ n. kept n (candidate n (at s)) from) (first-length (t .bits) g) ∙ ap₂ (kept (t .bits)) same (rows-from (t .checks) es p) ∙ kept-is (candidate (t .bits) g) refl
 
 -- what the round finds, of its own spins, multipliers and masks
 abbrev pub foundIn : Table → List ℤ → Round → Option ℤ

@@ -8,7 +8,7 @@ use native.Mathlib.Omega.{arith}
 use lib.ListN.{length, take, drop, drop-of-length-le}
 use lib.IntN.{ℤ}
 use Rattle.integers.specs.Sum.{AllWithin}
-use Rattle.rules.specs.Limits.{unit, offsetLimit, stepLimit, valueLimit}
+use Rattle.rules.specs.Limits.{unit, offsetLimit, stepLimit, valueLimit, maxDegree}
 use Rattle.rules.specs.Table.{at}
 use Rattle.rules.specs.Mask.{setOf}
 use Rattle.rules.specs.Cut.{cut}
@@ -27,16 +27,14 @@ use Rattle.cut.specs.Heights.{heightsOf, highest, sideBy, seenOn, seen}
 use Rattle.cut.proofs.MaskLaws.{mask-none, mask-some}
 use Rattle.cut.proofs.SeeLaws.{seen-whole}
 use Rattle.decoder.specs.Lifted.{Rising, LeastAt, MultiplierOf}
-use Rattle.decoder.specs.Stepped.{Stepped, steppedBy, steppedOn, stepped, StepFits, MoveFits}
+use Rattle.decoder.specs.Stepped.{steppedTo, steppedBy, steppedOn, stepped, newCopies, newOffsets, StepFits, MoveFits}
 use Rattle.decoder.proofs.MaskLaws.{set-alike}
 use Rattle.decoder.proofs.ExactLaws.{over-exact, take-exact}
 use Rattle.decoder.proofs.MultiplierLaws.{heights-length, heights-few, rising, least-is}
 use Rattle.decoder.proofs.StepListLaws.{values-length}
-use Rattle.decoder.proofs.MoveAllLaws.{newCopies, newOffsets}
 
-stepped-eq : {a a' b b' : List ℤ} {c c' d d' : ℕ} → a ≡ a' → b ≡ b' → c ≡ c' → d ≡ d'
-    → _≡_ {A = Stepped} (record { copies = a; offsets = b; multiplier = c; mask = d }) (record { copies = a'; offsets = b'; multiplier = c'; mask = d' })
-stepped-eq p q r s = λ i. record { copies = p i; offsets = q i; multiplier = r i; mask = s i }
+stepped-eq : {a a' b b' : List ℤ} {c c' d d' : ℕ} → a ≡ a' → b ≡ b' → c ≡ c' → d ≡ d' → steppedTo a b c d ≡ steppedTo a' b' c' d'
+stepped-eq p q r s = λ i. steppedTo (p i) (q i) (r i) (s i)
 
 -- ---- v the values, m the mask of their cut
 module _ (v : List ℤ) (m : ℕ) (e : m ≡ cutMask (cut unit (clips unit v))) where
@@ -54,21 +52,21 @@ module _ (v : List ℤ) (m : ℕ) (e : m ≡ cutMask (cut unit (clips unit v))) 
   unfolding steppedOn step
   multiplier-some f = sym (ap (λ o. multiplierOf (stepBy unit v o .entry)) (some-cut f))
 
-  step-is : (b : ℕ) (z y : List ℤ) → b ≡ steppedOn v .multiplier → z ≡ newCopies b m v → y ≡ newOffsets b m v → (record { copies = z; offsets = y; multiplier = b; mask = m }) ≡ steppedOn v
+  step-is : (b : ℕ) (z y : List ℤ) → b ≡ steppedOn v .multiplier → z ≡ newCopies b m v → y ≡ newOffsets b m v → steppedTo z y b m ≡ steppedOn v
   unfolding steppedOn step
   step-is b z y eb ez ey = go (ℕ-discrete m 0)
     where
       clipped : b ≡ 0 → newCopies b m v ≡ clips unit v
       clipped q = ap (λ n. newCopies n m v) q ∙ moves-zero unit (setOf (length v) m) v (set-alike v m)
 
-      go : Dec (m ≡ 0) → (record { copies = z; offsets = y; multiplier = b; mask = m }) ≡ steppedBy (stepBy unit v (cut unit (clips unit v)))
+      go : Dec (m ≡ 0) → steppedTo z y b m ≡ steppedBy (stepBy unit v (cut unit (clips unit v)))
       go (yes q) = stepped-eq (ez ∙ clipped (eb ∙ sym (multiplier-none q))) (ey ∙ ap (minus v) (clipped (eb ∙ sym (multiplier-none q)))) (eb ∙ sym (multiplier-none q)) q
           ∙ sym (ap (λ o. steppedBy (stepBy unit v o)) (no-cut q))
       go (no f) = let b = eb ∙ sym (multiplier-some f) in stepped-eq (ez ∙ ap (λ n. newCopies n m v) b) (ey ∙ ap (λ n. newOffsets n m v) b) b (e ∙ ap cutMask (some-cut f))
           ∙ sym (ap (λ o. steppedBy (stepBy unit v o)) (some-cut f))
 
 -- ---- the heights hs that the cut search leaves of the values v in the place of z, with the greatest of them
-module _ (v z hs : List ℤ) (k m : ℕ) (top : ℤ) (few : length v ≤ 32) (same : length z ≡ length v) (e : (record { number = k; mask = m; top = top; heights = hs }) ≡ seen v z) where
+module _ (v z hs : List ℤ) (k m : ℕ) (top : ℤ) (few : length v ≤ maxDegree) (same : length z ≡ length v) (e : (record { number = k; mask = m; top = top; heights = hs }) ≡ seen v z) where
   whole : (record { number = k; mask = m; top = top; heights = hs }) ≡ seenOn v z
   whole = e ∙ sym (seen-whole v z few (omega arith))
 
@@ -122,11 +120,11 @@ module _ (s : List ℤ) (ms : List ℕ) (z y l : List ℤ) (fits : StepFits s ms
   long : length l ≡ length ms
   long = ap length e ∙ values-length (at s) ms y
 
-  few : length l ≤ 32
-  few = subst (λ n. n ≤ 32) (sym long) (fits .few)
+  few : length l ≤ maxDegree
+  few = subst (λ n. n ≤ maxDegree) (sym long) (fits .few)
 
   small : AllWithin valueLimit l
-  small = subst (AllWithin valueLimit) (sym e) (values-within 4096 offsetLimit (at s) ms y (within-at 4096 s (fits .spins)) (fits .offsets))
+  small = subst (AllWithin valueLimit) (sym e) (values-within unit offsetLimit (at s) ms y (within-at unit s (fits .spins)) (fits .offsets))
 
   same : length z ≡ length l
   same = fits .copiesLong ∙ sym long
@@ -139,7 +137,7 @@ module _ (s : List ℤ) (ms : List ℕ) (z y l : List ℤ) (fits : StepFits s ms
       pub move-asks : MoveFits b hs l
       move-asks = record { bounded = multiplier-is l z hs k m top few same em b small least .1; few = few; small = small; copiesLong = heights-long l z hs k m top few same em ∙ same }
 
-      pub step-left : (z' y' : List ℤ) → (z' ≡ newCopies b m l) × (y' ≡ newOffsets b m l) → (record { copies = z'; offsets = y'; multiplier = b; mask = m }) ≡ stepped (at s) ms y
+      pub step-left : (z' y' : List ℤ) → (z' ≡ newCopies b m l) × (y' ≡ newOffsets b m l) → steppedTo z' y' b m ≡ stepped (at s) ms y
       unfolding stepped
       step-left z' y' q = step-is l m (mask-is l z hs k m top few same em) b z' y' (multiplier-is l z hs k m top few same em b small least .0) (q .0) (q .1) ∙ ap steppedOn e
 
@@ -158,8 +156,8 @@ module _ (n : ℕ) (s : List ℤ) (ms : List ℕ) (z y : List ℤ) (e : length m
   part-asks = subst (λ x. StepFits s x (take n z) (take n y)) (sym all-members)
       (subst (λ x. StepFits s ms x (take n y)) (sym all-copies) (subst (λ x. StepFits s ms z x) (sym all-offsets) f))
 
-  pub part-left : (z' y' : List ℤ) (b m : ℕ) → (record { copies = z'; offsets = y'; multiplier = b; mask = m }) ≡ stepped (at s) (take n ms) (take n y)
-      → (record { copies = z' ++ drop n z; offsets = y' ++ drop n y; multiplier = b; mask = m }) ≡ stepped (at s) ms y
+  pub part-left : (z' y' : List ℤ) (b m : ℕ) → steppedTo z' y' b m ≡ stepped (at s) (take n ms) (take n y)
+      → steppedTo (z' ++ drop n z) (y' ++ drop n y) b m ≡ stepped (at s) ms y
   part-left z' y' b m h = stepped-eq (none-after z' z (f .copiesLong)) (none-after y' y (f .offsetsLong)) refl refl ∙ h ∙ ap₂ (stepped (at s)) all-members all-offsets
     where
       none-after : (x l : List ℤ) → length l ≡ length ms → x ++ drop n l ≡ x

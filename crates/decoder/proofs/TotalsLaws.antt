@@ -10,7 +10,7 @@ use mir.Val.{SFits}
 use Rattle.integers.specs.Linear.{lin, arithZ, Within}
 use Rattle.integers.specs.Clip.{clipZ}
 use Rattle.integers.specs.Sum.{AllWithin}
-use Rattle.rules.specs.Limits.{unit, maxBits, offsetLimit, valueLimit}
+use Rattle.rules.specs.Limits.{unit, maxBits, offsetLimit, valueLimit, frameLimit, maxBitDegree}
 use Rattle.rules.specs.Table.{degreeOf, at}
 use Rattle.rules.specs.Sound.{Below}
 use Rattle.rules.specs.Step.{minus}
@@ -24,15 +24,16 @@ use Rattle.rules.proofs.Optimal.{within-at}
 use Rattle.rules.proofs.Pass.{append-within, drop-within}
 use Rattle.rules.proofs.Steps.{minus-within}
 use Rattle.decoder.specs.Spins.{SpinsFit}
-use Rattle.decoder.specs.Totals.{Gathered, EdgesFit, TotalsFit, spinOf, spinAt}
+use Rattle.decoder.specs.Totals.{Gathered, EdgesFit, TotalsFit, spinAt}
+use Rattle.spin.specs.Spin.{spinOf}
 use Rattle.decoder.proofs.PlaceLaws.{minus-length, minus-at, first-same}
 use Rattle.decoder.proofs.AddEdgesLaws.{degree-take, gather-within}
 
 -- ---- an edge's weight, and the total with it
-difference-fits : (z y : ℤ) → Within 4096 z → Within offsetLimit y → SFits w32 (z -ℤ y)
+difference-fits : (z y : ℤ) → Within unit z → Within offsetLimit y → SFits w32 (z -ℤ y)
 difference-fits z y = simp lin (omega arithZ)
 
-sum-fits : (t a g w : ℤ) (d k : ℕ) → t ≡ a +ℤ g → Within 8191 a → Within (valueLimit * d) g → d ≤ k → k ≤ 32 → Within valueLimit w → SFits w32 (t +ℤ w)
+sum-fits : (t a g w : ℤ) (d k : ℕ) → t ≡ a +ℤ g → Within frameLimit a → Within (valueLimit * d) g → d ≤ k → k ≤ maxBitDegree → Within valueLimit w → SFits w32 (t +ℤ w)
 sum-fits t a g w d k = simp lin (omega arithZ)
 
 module _ (old : List ℤ) (ms : List ℕ) (z y : List ℤ) (fit : EdgesFit old ms z y) where
@@ -43,17 +44,17 @@ module _ (old : List ℤ) (ms : List ℕ) (z y : List ℤ) (fit : EdgesFit old m
   weight-at e h = minus-at z y e (omega (arith, fit .copiesLong)) (omega (arith, fit .offsetsLong))
 
   pub weight-fits : (e : ℕ) → SFits w32 (at z e -ℤ at y e)
-  weight-fits e = difference-fits (at z e) (at y e) (within-at 4096 z (fit .copies) e) (within-at offsetLimit y (fit .offsets) e)
+  weight-fits e = difference-fits (at z e) (at y e) (within-at unit z (fit .copies) e) (within-at offsetLimit y (fit .offsets) e)
 
   weights-within : AllWithin valueLimit (minus z y)
-  weights-within = minus-within 4096 offsetLimit z y (fit .copies) (fit .offsets)
+  weights-within = minus-within unit offsetLimit z y (fit .copies) (fit .offsets)
 
   pub total-fits : (new : List ℤ) (e : ℕ) → e < length ms → Gathered old new (take e ms) (minus z y) → SFits w32 (at new (getD ms e 0) +ℤ at (minus z y) e)
   total-fits new e h g =
       let x = getD ms e 0 in
       sum-fits (at new x) (at old x) (gather x (take e ms) (minus z y)) (at (minus z y) e) (degreeOf x (take e ms)) (degreeOf x ms)
       (g .sums x (below-at (length old) ms e h (fit .below)))
-      (within-at 8191 old (fit .frame) x)
+      (within-at frameLimit old (fit .frame) x)
       (gather-within valueLimit x (take e ms) (minus z y) weights-within)
       (degree-take x e ms)
       (fit .standing e h)
@@ -69,7 +70,7 @@ module _ (n : ℕ) (l : List ℤ) (ms ds : List ℕ) (z y : List ℤ) (fit : Spi
 
   pub edges-fit : EdgesFit (over l zeros) ms z y
   edges-fit = record {
-    frame = append-within 8191 l (drop (length l) zeros) (fit .frame) (drop-within 8191 (length l) zeros (zeros-within 8191 maxBits));
+    frame = append-within frameLimit l (drop (length l) zeros) (fit .frame) (drop-within frameLimit (length l) zeros (zeros-within frameLimit maxBits));
     below = subst (λ k. Below k ms) (sym start-long) (below-more n maxBits ms (fit .few) (fit .below));
     copiesLong = fit .copiesLong;
     offsetsLong = fit .offsetsLong;
@@ -83,7 +84,6 @@ module _ (n : ℕ) (l : List ℤ) (ms ds : List ℕ) (z y : List ℤ) (fit : Spi
     totals-fit = record {
       totals = omega (arith, g .long, start-long, fit .few);
       degrees = fit .room;
-      standing = λ i h. omega (arith, fit .degrees i h, fit .standing i h .0);
     }
 
     total-is : (i : ℕ) → i < n → at t i ≡ total ms l (record { copies = z; offsets = y }) i

@@ -4,9 +4,9 @@ pub mod Lifted
 pub mod Stepped
 pub mod Parts
 pub mod Passed
-pub mod Candidate
 pub mod Closing
 pub mod Found
 pub mod Rounds
 pub mod Finished
 pub mod Reply
+pub mod Lent

@@ -2,13 +2,21 @@
 -- reach 2U together (document 01, "One round", step 2). Definitions only. Assumes nothing.
 use mathlib.Core.Path.{_≡_}
 use mathlib.Core.List.{List, [], _∷_}
-use Prim.Native.Nat.{ℕ, suc, _+_, _≤_, _<_, min}
+use Prim.Native.Nat.{ℕ, suc, _+_, _*_, _≤_, _<_, min}
 use lib.ListN.{length}
 use lib.IntN.{ℤ, pos, negℤ, natAbs, _+ℤ_, _-ℤ_}
 use lib.Signed.{_≤ℤ_}
-use Rattle.rules.specs.Limits.{offsetLimit, stepLimit}
+use Rattle.rules.specs.Limits.{unit, maxDegree, offsetLimit, stepLimit, priceLimit}
 use Rattle.integers.specs.Linear.{up}
 use Rattle.integers.specs.Sum.{AllWithin}
+
+-- "at least 2U"
+abbrev pub reach : ℕ
+reach = 2 * unit
+
+-- the most that a check's heights lack together
+abbrev pub lackLimit : ℕ
+lackLimit = reach + priceLimit
 
 -- a height and b, and 0 for what is negative
 abbrev pub lifted : ℕ → ℤ → ℕ
@@ -34,20 +42,24 @@ abbrev pub sumZ : List ℤ → ℤ
 sumZ [] = pos 0
 sumZ (h ∷ hs) = h +ℤ sumZ hs
 
+-- what they lack of 2U together
+abbrev pub lack : List ℤ → ℤ
+lack hs = pos reach -ℤ sumZ hs
+
 -- the heights of a cut, and the greatest of them: lifted to 2U alone, that one meets the inequality
 pub record Rising (hs : List ℤ) (top : ℤ) : Type 0 where
   pub some : 0 < length hs
-  pub few : length hs ≤ 32
+  pub few : length hs ≤ maxDegree
   pub small : AllWithin stepLimit hs
-  pub short : sumAt hs 0 < 8192
+  pub short : sumAt hs 0 < reach
   pub low : negℤ (pos offsetLimit) ≤ℤ top
-  pub high : top ≤ℤ pos 8192
-  pub met : 8192 ≤ sumAt hs (natAbs (pos 8192 -ℤ top))
+  pub high : top ≤ℤ pos reach
+  pub met : reach ≤ sumAt hs (natAbs (pos reach -ℤ top))
 
 -- b is the least step at which the heights reach 2U
 pub record LeastAt (hs : List ℤ) (b : ℕ) : Type 0 where
-  pub met : 8192 ≤ sumAt hs b
-  pub last : (a : ℕ) → b ≡ suc a → sumAt hs a < 8192
+  pub met : reach ≤ sumAt hs b
+  pub last : (a : ℕ) → b ≡ suc a → sumAt hs a < reach
   pub bounded : b ≤ stepLimit
 
 -- the multiplier of a mask, 0 of none

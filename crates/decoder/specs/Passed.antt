@@ -17,17 +17,16 @@ pub record Passed : Type 0 where
   pub multipliers : List ℕ
   pub masks : List ℕ
 
+-- in the order of a call's parameters
+abbrev pub passedTo : List ℤ → List ℤ → List ℕ → List ℕ → Passed
+passedTo z y b k = record { copies = z; offsets = y; multipliers = b; masks = k }
+
 abbrev pub passedBy : List Step → Passed
-passedBy ss = record {
-  copies = copiesIn ss;
-  offsets = offsetsIn ss;
-  multipliers = multipliersOf (entriesIn ss);
-  masks = masksOf (entriesIn ss);
-}
+passedBy ss = passedTo (copiesIn ss) (offsetsIn ss) (multipliersOf (entriesIn ss)) (masksOf (entriesIn ss))
 
 -- what a round's pass leaves
 abbrev pub passedOf : Round → Passed
-passedOf d = record { copies = d .state .copies; offsets = d .state .offsets; multipliers = multipliersOf (d .entries); masks = masksOf (d .entries) }
+passedOf d = passedTo (d .state .copies) (d .state .offsets) (multipliersOf (d .entries)) (masksOf (d .entries))
 
 -- f the spins, cs the checks, ys the offsets
 unfoldable pub passed : (ℕ → ℤ) → List (List ℕ) → List ℤ → Passed
@@ -36,7 +35,7 @@ passed f cs ys = passedBy (pass unit f cs ys)
 pub record PassFits (n : ℕ) (ss ms : List ℕ) (s z y : List ℤ) (bs ks : List ℕ) : Type 0 where
   pub holds : Holds n ss ms
   pub size : length s ≡ n
-  pub spins : AllWithin 4096 s
+  pub spins : AllWithin unit s
   pub copiesLong : length z ≡ length ms
   pub offsetsLong : length y ≡ length ms
   pub offsets : AllWithin offsetLimit y

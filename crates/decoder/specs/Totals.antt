@@ -5,13 +5,12 @@ use mathlib.Core.List.{List}
 use Prim.Native.Nat.{ℕ, _≤_, _<_}
 use lib.ListN.{length, getD}
 use lib.IntN.{ℤ, _+ℤ_}
-use Rattle.integers.specs.Clip.{clipZ}
 use Rattle.integers.specs.Sum.{AllWithin}
 use Rattle.rules.specs.Limits.{unit, maxBitDegree, frameLimit, offsetLimit}
 use Rattle.rules.specs.Table.{degreeOf, at}
 use Rattle.rules.specs.Sound.{Below}
 use Rattle.rules.specs.Bound.{gather}
-use Rattle.rules.specs.Round.{divided}
+use Rattle.spin.specs.Spin.{spinOf}
 
 -- new is old with the weights ws of the edges at the members ms added, each at its member
 pub record Gathered (old new : List ℤ) (ms : List ℕ) (ws : List ℤ) : Type 0 where
@@ -32,11 +31,6 @@ pub record EdgesFit (t : List ℤ) (ms : List ℕ) (z y : List ℤ) : Type 0 whe
 pub record TotalsFit (n : ℕ) (t : List ℤ) (ds : List ℕ) : Type 0 where
   pub totals : n ≤ length t
   pub degrees : n ≤ length ds
-  pub standing : (i : ℕ) → i < n → 1 ≤ getD ds i 0
-
--- "the total divided by its number of edges, toward zero, then clipped"
-unfoldable pub spinOf : ℤ → ℕ → ℤ
-spinOf t d = clipZ unit (divided t d)
 
 -- bit i's spin, from the lists of totals and degrees
 unfoldable pub spinAt : List ℤ → List ℕ → ℕ → ℤ

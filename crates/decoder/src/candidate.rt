@@ -1,39 +1,15 @@
 // The candidate of a round (document 01, "One round", step 4): whether there is one, and whether it meets all checks.
 use super::common::COMMON_DEGREE;
+use spin::all_decided;
 ghost use mathlib.Core.Path.{_≡_};
-ghost use mathlib.Core.Bool.{not, _&&_};
 ghost use lib.ListN.{length};
 ghost use Rattle.rules.specs.Table.{at, bitsAt};
 ghost use Rattle.rules.specs.Sound.{Below};
 ghost use Rattle.rules.specs.Parity.{_⊕_, odd, meets};
 ghost use Rattle.rules.specs.Cut.{isNeg, negatives};
-ghost use Rattle.rules.specs.Round.{isZero, candidate};
+ghost use Rattle.rules.specs.Round.{candidate};
 ghost use Rattle.table.specs.Layout.{checksFrom, Holds};
 ghost use Rattle.decoder.specs.Closing.{metBy};
-ghost use Rattle.decoder.specs.Candidate.{noZero};
-
-// Whether all spins up to this one are decided.
-fn decided(all: bool, spin: i32) -> bool
-    ensures { λ r. ⌜ r ≡ (all && not (isZero spin)) ⌝ }
-{
-    if spin == 0 {
-        return false;
-    }
-    all
-}
-
-// "A zero spin means no candidate." Without an early end, so that several spins are tested at once.
-fn all_decided(spins: &[i32]) -> bool
-    ensures { λ r. ⌜ r ≡ noZero (now (spins .entry)) ⌝ }
-{
-    let mut all = true;
-    let mut i: usize = 0;
-    while i < spins.len() {
-        all = decided(all, spins[i]);
-        i += 1;
-    }
-    all
-}
 
 // The parity `odd` with the bit of one more spin.
 fn flipped(odd: bool, spin: i32) -> bool

@@ -12,7 +12,6 @@ ghost use Rattle.integers.specs.Product.{abs};
 ghost use Rattle.integers.specs.Sum.{sumTo};
 ghost use Rattle.rules.specs.Limits.{maxBits, maxDegree, maxMultiplier, frameSize, rowLimit, sizeLimit, boundLimit};
 ghost use Rattle.rules.specs.Table.{at};
-ghost use Rattle.rules.specs.Sound.{Below};
 ghost use Rattle.rules.specs.Parity.{turn, side, agreement};
 ghost use Rattle.rules.specs.Cut.{isNeg, negatives};
 ghost use Rattle.rules.specs.Scatter.{scatterRow, rowOf, priceOf, EachWithin, Put, AllPut};

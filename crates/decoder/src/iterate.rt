@@ -5,9 +5,9 @@ use run::Status;
 ghost use mathlib.Core.Path.{_≡_};
 ghost use Prim.Native.Nat.{_<_};
 ghost use lib.ListN.{length};
-ghost use Rattle.rules.specs.Buffers.{roundLent};
-ghost use Rattle.run.specs.Reply.{statusOf, progressOf};
+ghost use Rattle.run.specs.Reply.{statusOf};
 ghost use Rattle.decoder.specs.Rounds.{leftBy, Given, Ready, roundsFrom};
+ghost use Rattle.decoder.specs.Lent.{loopIn, LoopBecomes};
 
 // The rounds still wanted after a round, where k were wanted before it: none where the run has ended.
 pub(crate) fn left(status: Status, k: u32) -> u32
@@ -36,10 +36,8 @@ pub(crate) fn run_rounds(
     masks: &mut [u32],
 ) -> Record
     requires { ⌜ Given (length (now frame)) (now frame) (now starts) (now members) (now degrees) ⌝ }
-    requires { ⌜ Ready (now frame) (now starts) (now members) (record { progress = progressOf run; buffers = roundLent (now spins) (now copies) (now offsets) (now multipliers) (now masks) }) ⌝ }
-    ensures { λ r. ⌜ (record { progress = progressOf r; buffers = roundLent (now (spins .exit)) (now (copies .exit)) (now (offsets .exit)) (now (multipliers .exit)) (now (masks .exit)) })
-        ≡ roundsFrom wanted (now (frame .entry)) (now (starts .entry)) (now (members .entry))
-        (record { progress = progressOf run; buffers = roundLent (now (spins .entry)) (now (copies .entry)) (now (offsets .entry)) (now (multipliers .entry)) (now (masks .entry)) }) ⌝ }
+    requires { ⌜ Ready (now frame) (now starts) (now members) (loopIn run (now spins) (now copies) (now offsets) (now multipliers) (now masks)) ⌝ }
+    ensures { λ r. ⌜ LoopBecomes (roundsFrom wanted (now (frame .entry)) (now (starts .entry)) (now (members .entry))) run r spins copies offsets multipliers masks ⌝ }
 {
     let mut at = run;
     let mut k = wanted;

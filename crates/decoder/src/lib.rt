@@ -6,7 +6,6 @@ mod gap;
 mod iterate;
 mod mask;
 mod multiplier;
-mod numbers;
 mod pass;
 mod perform;
 mod round;
@@ -21,11 +20,8 @@ use perform::perform;
 use run::Admitted;
 use run::Lent;
 use run::Record;
-ghost use mathlib.Core.Path.{_≡_};
-ghost use Rattle.rules.specs.Buffers.{lent};
 ghost use Rattle.rules.specs.Run as rule;
-ghost use Rattle.run.specs.Reply.{progressOf};
-ghost use Rattle.decoder.specs.Reply.{outcomeOf};
+ghost use Rattle.decoder.specs.Lent.{CallBecomes};
 
 // The answer of a call for rounds: a refusal's number, or how the run stands.
 pub enum Outcome {
@@ -55,17 +51,7 @@ pub fn rounds(
     word: &mut [u8],
     certificate: &mut [u8],
 ) -> Called
-    ensures { λ r. ⌜ (record {
-      answer = outcomeOf (r .outcome);
-      run = record {
-        progress = progressOf (r .run);
-        buffers = lent (now (spins .exit)) (now (copies .exit)) (now (offsets .exit)) (now (multipliers .exit)) (now (masks .exit)) (now (word .exit)) (now (certificate .exit));
-      };
-    })
-        ≡ rule.call (now (code .entry)) (now (frame .entry)) wanted (record {
-          progress = progressOf run;
-          buffers = lent (now (spins .entry)) (now (copies .entry)) (now (offsets .entry)) (now (multipliers .entry)) (now (masks .entry)) (now (word .entry)) (now (certificate .entry));
-        }) ⌝ }
+    ensures { λ r. ⌜ CallBecomes (rule.call (now (code .entry)) (now (frame .entry)) wanted) run r spins copies offsets multipliers masks word certificate ⌝ }
 {
     let mut starts = [0u16; MAX_CHECKS + 1];
     let mut members = [0u16; MAX_EDGES];

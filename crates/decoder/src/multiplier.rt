@@ -7,8 +7,8 @@ ghost use Prim.Native.Nat.{_-_, _*_, _/_, _≤_, min};
 ghost use lib.ListN.{length};
 ghost use Rattle.integers.specs.Linear.{Within};
 ghost use Rattle.integers.specs.Sum.{AllWithin};
-ghost use Rattle.rules.specs.Limits.{unit, stepLimit};
-ghost use Rattle.decoder.specs.Lifted.{lifted, sumAt, countAt, sumZ, Rising, LeastAt};
+ghost use Rattle.rules.specs.Limits.{maxDegree, stepLimit};
+ghost use Rattle.decoder.specs.Lifted.{lifted, sumAt, countAt, sumZ, Rising, LeastAt, reach};
 
 // "At least 2U."
 const REACH: u32 = 2 * UNIT as u32;
@@ -37,7 +37,7 @@ fn one_if(a: u32) -> u32
 }
 
 fn slope_at(heights: &[i32], b: u32) -> Slope
-    requires { ⌜ (length (now heights) ≤ 32) × (b ≤ stepLimit) × AllWithin stepLimit (now heights) ⌝ }
+    requires { ⌜ (length (now heights) ≤ maxDegree) × (b ≤ stepLimit) × AllWithin stepLimit (now heights) ⌝ }
     ensures { λ r. ⌜ (r .sum ≡ sumAt (now (heights .entry)) b) × (r .count ≡ countAt (now (heights .entry)) b) ⌝ }
 {
     let mut sum: u32 = 0;
@@ -54,8 +54,8 @@ fn slope_at(heights: &[i32], b: u32) -> Slope
 
 // How far b can fall at once.
 fn fall(heights: &[i32], b: u32) -> u32
-    requires { ⌜ (length (now heights) ≤ 32) × (b ≤ stepLimit) × AllWithin stepLimit (now heights) × (2 * unit ≤ sumAt (now heights) b) ⌝ }
-    ensures { λ r. ⌜ r ≡ (sumAt (now (heights .entry)) b - 2 * unit) / countAt (now (heights .entry)) b ⌝ }
+    requires { ⌜ (length (now heights) ≤ maxDegree) × (b ≤ stepLimit) × AllWithin stepLimit (now heights) × (reach ≤ sumAt (now heights) b) ⌝ }
+    ensures { λ r. ⌜ r ≡ (sumAt (now (heights .entry)) b - reach) / countAt (now (heights .entry)) b ⌝ }
 {
     let slope = slope_at(heights, b);
     let sum = slope.sum;
@@ -64,7 +64,7 @@ fn fall(heights: &[i32], b: u32) -> u32
 }
 
 fn sum_of(heights: &[i32]) -> i32
-    requires { ⌜ (length (now heights) ≤ 32) × AllWithin stepLimit (now heights) ⌝ }
+    requires { ⌜ (length (now heights) ≤ maxDegree) × AllWithin stepLimit (now heights) ⌝ }
     ensures { λ r. ⌜ r ≡ sumZ (now (heights .entry)) ⌝ }
 {
     let mut sum: i32 = 0;
@@ -80,7 +80,7 @@ fn sum_of(heights: &[i32]) -> i32
 // lifts the greatest alone. Mostly it is the least already.
 fn first_step(heights: &[i32], top: i32) -> u32
     requires { ⌜ Rising (now heights) top ⌝ }
-    ensures { λ r. ⌜ (r ≤ stepLimit) × (2 * unit ≤ sumAt (now (heights .entry)) r) ⌝ }
+    ensures { λ r. ⌜ (r ≤ stepLimit) × (reach ≤ sumAt (now (heights .entry)) r) ⌝ }
 {
     let d = heights.len() as u32;
     let together = (2 * UNIT - sum_of(heights)) as u32;

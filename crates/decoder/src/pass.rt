@@ -1,12 +1,12 @@
 // The pass over all checks, in order.
 use super::step::step;
 use super::store::store;
-ghost use mathlib.Core.Path.{_≡_};
 ghost use lib.ListN.{length};
 ghost use Rattle.rules.specs.Table.{at};
 ghost use Rattle.table.specs.Layout.{checksFrom};
 ghost use Rattle.decoder.specs.Passed.{passed, PassFits};
 ghost use Rattle.decoder.specs.Parts.{onePassed, OneFits};
+ghost use Rattle.decoder.specs.Lent.{PassBecomes};
 
 // Check j, whose edges are those from a to e: its copies and offsets are handed on as that part.
 fn pass_one(
@@ -21,9 +21,7 @@ fn pass_one(
     masks: &mut [u32],
 )
     requires { ⌜ OneFits j a e (now spins) (now members) (now copies) (now offsets) (now multipliers) (now masks) ⌝ }
-    ensures { λ _. ⌜ (record { copies = now (copies .exit); offsets = now (offsets .exit); multipliers = now (multipliers .exit); masks = now (masks .exit) })
-        ≡ onePassed (at (now (spins .entry))) (now (members .entry)) j a e
-        (record { copies = now (copies .entry); offsets = now (offsets .entry); multipliers = now (multipliers .entry); masks = now (masks .entry) }) ⌝ }
+    ensures { λ _. ⌜ PassBecomes (onePassed (at (now (spins .entry))) (now (members .entry)) j a e) copies offsets multipliers masks ⌝ }
 {
     let entry = step(spins, &members[a..e], &mut copies[a..e], &mut offsets[a..e]);
     store(multipliers, j, entry.multiplier);
@@ -42,8 +40,8 @@ pub(crate) fn pass(
     masks: &mut [u32],
 )
     requires { ⌜ PassFits (length (now spins)) (now starts) (now members) (now spins) (now copies) (now offsets) (now multipliers) (now masks) ⌝ }
-    ensures { λ _. ⌜ (record { copies = now (copies .exit); offsets = now (offsets .exit); multipliers = now (multipliers .exit); masks = now (masks .exit) })
-        ≡ passed (at (now (spins .entry))) (checksFrom (now (starts .entry)) (now (members .entry))) (now (offsets .entry)) ⌝ }
+    ensures { λ _. ⌜ PassBecomes (λ p. passed (at (now (spins .entry))) (checksFrom (now (starts .entry)) (now (members .entry))) (p .offsets))
+        copies offsets multipliers masks ⌝ }
 {
     let mut j: usize = 0;
     let mut a: usize = 0;

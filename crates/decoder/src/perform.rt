@@ -7,15 +7,12 @@ use run::Status;
 use writing::write_certificate;
 use writing::write_word;
 ghost use mathlib.Core.Path.{_≡_};
-ghost use Prim.Native.Nat.{_+_};
-ghost use lib.ListN.{length, take};
 ghost use Rattle.rules.specs.Refusal.{gives};
-ghost use Rattle.rules.specs.Buffers.{lent};
 ghost use Rattle.rules.specs.Run.{iterate};
-ghost use Rattle.run.specs.Reply.{statusOf, progressOf};
-ghost use Rattle.table.specs.Layout.{tableOf};
-ghost use Rattle.decoder.specs.Finished.{FinishFits, finished, PartsFit};
+ghost use Rattle.run.specs.Reply.{statusOf};
+ghost use Rattle.decoder.specs.Finished.{finished, FinishFits, frontTable, PartsFit};
 ghost use Rattle.decoder.specs.Reply.{outcomeOf};
+ghost use Rattle.decoder.specs.Lent.{runIn, RunBecomes, EndBecomes};
 
 pub(crate) fn outcome_of(status: Status) -> Outcome
     ensures { λ r. ⌜ outcomeOf r ≡ gives (statusOf status) ⌝ }
@@ -38,8 +35,7 @@ pub(crate) fn finish(
     certificate: &mut [u8],
 )
     requires { ⌜ FinishFits (now spins) (now multipliers) (now masks) (now word) (now certificate) ⌝ }
-    ensures { λ _. ⌜ (record { word = now (word .exit); certificate = now (certificate .exit) })
-        ≡ finished (statusOf status) (now (spins .entry)) (now (multipliers .entry)) (now (masks .entry)) (record { word = now (word .entry); certificate = now (certificate .entry) }) ⌝ }
+    ensures { λ _. ⌜ EndBecomes (finished (statusOf status) (now (spins .entry)) (now (multipliers .entry)) (now (masks .entry))) word certificate ⌝ }
 {
     match status {
         Status::Running => {}
@@ -72,15 +68,9 @@ pub(crate) fn perform(
     certificate: &mut [u8],
 ) -> Record
     requires { ⌜ PartsFit n m e (now frame) (now starts) (now members)
-        (record { progress = progressOf run; buffers = lent (now spins) (now copies) (now offsets) (now multipliers) (now masks) (now word) (now certificate) }) ⌝ }
-    ensures { λ r. ⌜ (record {
-      progress = progressOf r;
-      buffers = lent (now (spins .exit)) (now (copies .exit)) (now (offsets .exit)) (now (multipliers .exit)) (now (masks .exit)) (now (word .exit)) (now (certificate .exit));
-    })
-        ≡ iterate (tableOf n (take (m + 1) (now (starts .entry))) (take e (now (members .entry)))) (now (frame .entry)) wanted (record {
-          progress = progressOf run;
-          buffers = lent (now (spins .entry)) (now (copies .entry)) (now (offsets .entry)) (now (multipliers .entry)) (now (masks .entry)) (now (word .entry)) (now (certificate .entry));
-        }) ⌝ }
+        (runIn run (now spins) (now copies) (now offsets) (now multipliers) (now masks) (now word) (now certificate)) ⌝ }
+    ensures { λ r. ⌜ RunBecomes (iterate (frontTable n m e (now (starts .entry)) (now (members .entry))) (now (frame .entry)) wanted)
+        run r spins copies offsets multipliers masks word certificate ⌝ }
 {
     let end = m + 1;
     let degrees = count_degrees(&members[..e]);

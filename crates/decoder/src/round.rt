@@ -8,13 +8,12 @@ use run::ending::Found;
 use run::ending::record_after;
 ghost use mathlib.Core.Path.{_≡_};
 ghost use lib.ListN.{length};
-ghost use Rattle.rules.specs.Buffers.{roundLent};
-ghost use Rattle.run.specs.Reply.{progressOf};
 ghost use Rattle.run.specs.Ending.{foundOf};
 ghost use Rattle.table.specs.Layout.{checksFrom};
 ghost use Rattle.decoder.specs.Closing.{GapFits};
 ghost use Rattle.decoder.specs.Found.{found};
 ghost use Rattle.decoder.specs.Rounds.{Given, Ready, roundsFrom};
+ghost use Rattle.decoder.specs.Lent.{loopIn, LoopBecomes};
 
 // Step 4: the candidate of the spins, held to the checks and to this round's multipliers.
 pub(crate) fn find_word(
@@ -48,10 +47,8 @@ pub(crate) fn do_round(
     masks: &mut [u32],
 ) -> Record
     requires { ⌜ Given (length (now frame)) (now frame) (now starts) (now members) (now degrees) ⌝ }
-    requires { ⌜ Ready (now frame) (now starts) (now members) (record { progress = progressOf run; buffers = roundLent (now spins) (now copies) (now offsets) (now multipliers) (now masks) }) ⌝ }
-    ensures { λ r. ⌜ (record { progress = progressOf r; buffers = roundLent (now (spins .exit)) (now (copies .exit)) (now (offsets .exit)) (now (multipliers .exit)) (now (masks .exit)) })
-        ≡ roundsFrom 1 (now (frame .entry)) (now (starts .entry)) (now (members .entry))
-        (record { progress = progressOf run; buffers = roundLent (now (spins .entry)) (now (copies .entry)) (now (offsets .entry)) (now (multipliers .entry)) (now (masks .entry)) }) ⌝ }
+    requires { ⌜ Ready (now frame) (now starts) (now members) (loopIn run (now spins) (now copies) (now offsets) (now multipliers) (now masks)) ⌝ }
+    ensures { λ r. ⌜ LoopBecomes (roundsFrom 1 (now (frame .entry)) (now (starts .entry)) (now (members .entry))) run r spins copies offsets multipliers masks ⌝ }
 {
     find_spins(frame, members, degrees, copies, offsets, spins);
     pass(starts, members, spins, copies, offsets, multipliers, masks);

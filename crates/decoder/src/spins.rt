@@ -1,8 +1,6 @@
 // The spins of a round (document 01, "One round", step 1).
-use super::numbers::clip_to;
-use super::numbers::divided;
 use limits::MAX_BITS;
-use limits::UNIT;
+use spin::spin_of;
 ghost use mathlib.Core.Path.{_≡_};
 ghost use Prim.Native.Nat.{_≤_};
 ghost use lib.ListN.{length};
@@ -11,10 +9,7 @@ ghost use Rattle.rules.specs.Buffers.{over};
 ghost use Rattle.rules.specs.Step.{minus};
 ghost use Rattle.rules.specs.Round.{spin, firstOf};
 ghost use Rattle.decoder.specs.Spins.{SpinsFit};
-ghost use Rattle.decoder.specs.Totals.{Gathered, EdgesFit, TotalsFit, spinOf, spinAt};
-
-// U as a size.
-const UNIT_SIZE: u32 = UNIT as u32;
+ghost use Rattle.decoder.specs.Totals.{Gathered, EdgesFit, TotalsFit, spinAt};
 
 // The frame numbers at the front of the totals.
 pub(crate) fn take_frame(frame: &[i16], totals: &mut [i32])
@@ -39,16 +34,6 @@ pub(crate) fn add_edges(members: &[u16], copies: &[i32], offsets: &[i32], totals
         totals[x] += copies[e] - offsets[e];
         e += 1;
     }
-}
-
-// "The total divided by its number of edges, toward zero, then clipped." A total clipped to U times
-// the number of edges has the same quotient, already clipped, and compiles to no branch.
-pub(crate) fn spin_of(total: i32, degree: u16) -> i32
-    requires { ⌜ 1 ≤ degree ⌝ }
-    ensures { λ r. ⌜ r ≡ spinOf total degree ⌝ }
-{
-    let most = UNIT_SIZE * degree as u32;
-    divided(clip_to(total, most as i32), degree as i32)
 }
 
 // Each bit's spin from its total.

@@ -13,11 +13,10 @@ ghost use Rattle.integers.specs.Sum.{AllWithin};
 ghost use Rattle.rules.specs.Limits.{unit, offsetLimit, stepLimit, valueLimit};
 ghost use Rattle.rules.specs.Table.{at};
 ghost use Rattle.rules.specs.Sound.{Below};
-ghost use Rattle.rules.specs.Mask.{setOf};
-ghost use Rattle.rules.specs.Step.{move, moves, minus};
+ghost use Rattle.rules.specs.Step.{move};
 ghost use Rattle.rules.specs.Round.{values};
 ghost use Rattle.decoder.specs.Lifted.{Rising, MultiplierOf};
-ghost use Rattle.decoder.specs.Stepped.{stepped, StepFits, MoveFits};
+ghost use Rattle.decoder.specs.Stepped.{steppedTo, stepped, newCopies, newOffsets, StepFits, MoveFits};
 
 // What a check adds to the round's multipliers and masks: 0 and 0 without a cut.
 pub struct Entry {
@@ -35,7 +34,7 @@ fn value(spin: i32, offset: i32) -> i32
 
 // The values of a check's members, in the offsets' place.
 fn add_spins(spins: &[i32], members: &[u16], offsets: &mut [i32])
-    requires { ⌜ (length (now offsets) ≡ length (now members)) × Below (length (now spins)) (now members) × AllWithin 4096 (now spins) × AllWithin offsetLimit (now offsets) ⌝ }
+    requires { ⌜ (length (now offsets) ≡ length (now members)) × Below (length (now spins)) (now members) × AllWithin unit (now spins) × AllWithin offsetLimit (now offsets) ⌝ }
     ensures { λ _. ⌜ now (offsets .exit) ≡ values (at (now (spins .entry))) (now (members .entry)) (now (offsets .entry)) ⌝ }
 {
     let mut i = 0;
@@ -71,8 +70,7 @@ fn moved(v: i32, t: bool, b: u32) -> i32
 // The new copies z, and y = v - z in the place of v.
 fn move_all(mask: u32, b: u32, copies: &mut [i32], offsets: &mut [i32])
     requires { ⌜ MoveFits b (now copies) (now offsets) ⌝ }
-    ensures { λ _. ⌜ (now (copies .exit) ≡ moves unit b (setOf (length (now (offsets .entry))) mask) (now (offsets .entry)))
-        × (now (offsets .exit) ≡ minus (now (offsets .entry)) (moves unit b (setOf (length (now (offsets .entry))) mask) (now (offsets .entry)))) ⌝ }
+    ensures { λ _. ⌜ (now (copies .exit) ≡ newCopies b mask (now (offsets .entry))) × (now (offsets .exit) ≡ newOffsets b mask (now (offsets .entry))) ⌝ }
 {
     let mut i = 0;
     while i < offsets.len() {
@@ -89,7 +87,7 @@ fn move_all(mask: u32, b: u32, copies: &mut [i32], offsets: &mut [i32])
 // multiplier is 0, and the new copies are v clipped. The heights stand in the copies' place until then.
 fn step_of(spins: &[i32], members: &[u16], copies: &mut [i32], offsets: &mut [i32]) -> Entry
     requires { ⌜ StepFits (now spins) (now members) (now copies) (now offsets) ⌝ }
-    ensures { λ r. ⌜ (record { copies = now (copies .exit); offsets = now (offsets .exit); multiplier = r .multiplier; mask = r .mask })
+    ensures { λ r. ⌜ steppedTo (now (copies .exit)) (now (offsets .exit)) (r .multiplier) (r .mask)
         ≡ stepped (at (now (spins .entry))) (now (members .entry)) (now (offsets .entry)) ⌝ }
 {
     add_spins(spins, members, offsets);
@@ -106,7 +104,7 @@ fn step_of(spins: &[i32], members: &[u16], copies: &mut [i32], offsets: &mut [i3
 // The same, with the common degree by itself.
 pub(crate) fn step(spins: &[i32], members: &[u16], copies: &mut [i32], offsets: &mut [i32]) -> Entry
     requires { ⌜ StepFits (now spins) (now members) (now copies) (now offsets) ⌝ }
-    ensures { λ r. ⌜ (record { copies = now (copies .exit); offsets = now (offsets .exit); multiplier = r .multiplier; mask = r .mask })
+    ensures { λ r. ⌜ steppedTo (now (copies .exit)) (now (offsets .exit)) (r .multiplier) (r .mask)
         ≡ stepped (at (now (spins .entry))) (now (members .entry)) (now (offsets .entry)) ⌝ }
 {
     if members.len() == COMMON_DEGREE {

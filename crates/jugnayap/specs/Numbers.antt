@@ -1,7 +1,7 @@
--- What the functions of the C interface return, made of rules' own replies and calls. Definitions only. Assumes nothing.
+-- What the functions of the C interface return: its version, and the rest made of rules' own replies and calls. Definitions only. Assumes nothing.
 use mathlib.Core.List.{List}
 use mathlib.Core.Option.{Option, some, none}
-use Prim.Native.Nat.{ℕ, zero, suc}
+use Prim.Native.Nat.{ℕ, zero, suc, _+_, _*_}
 use lib.ListN.{getD}
 use lib.IntN.{ℤ, pos, natAbs}
 use Rattle.rules.specs.Limits.{roundLimit}
@@ -14,6 +14,13 @@ use Rattle.jugnayap.specs.declared.JugnayapVerdict.{JugnayapVerdict}
 use Rattle.jugnayap.specs.declared.JugnayapAgreement.{JugnayapAgreement}
 use Rattle.jugnayap.specs.declared.JugnayapRun.{JugnayapRun}
 use Rattle.jugnayap.specs.declared.JugnayapCalled.{JugnayapCalled}
+
+-- ---- the version, 0.1.0, as one number that grows with it
+abbrev pub versionNumber : ℕ → ℕ → ℕ → ℕ
+versionNumber major minor patch = major * 10000 + minor * 100 + patch
+
+abbrev pub version : ℕ
+version = versionNumber 0 1 0
 
 -- ---- a reply as a struct: its number, then its values in their order, 0 where there is none
 abbrev pub signed : Reply → ℕ → ℤ

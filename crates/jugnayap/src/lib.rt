@@ -1,5 +1,5 @@
-// The C interface (c/jugnayap.h): each function calls the proved one of table, cut, judge, run or
-// decoder and gives its answer as numbers.
+// The C interface (c/jugnayap.h): its version, and functions that each call the proved one of table, cut,
+// judge, run or decoder and give its answer as numbers.
 mod numbers;
 
 use cut::Found;
@@ -16,7 +16,7 @@ ghost use Rattle.rules.specs.Cut.{cutReply};
 ghost use Rattle.rules.specs.Judge.{judgeReply, agreementOf, agreementValues};
 ghost use Rattle.rules.specs.Buffers.{lent, startLent};
 ghost use Rattle.rules.specs.Run as rule;
-ghost use Rattle.jugnayap.specs.Numbers.{tableFrom, cutFrom, verdictFrom, agreementFrom, progressAt, Left, startLeft, callLeft};
+ghost use Rattle.jugnayap.specs.Numbers.{version, tableFrom, cutFrom, verdictFrom, agreementFrom, progressAt, Left, startLeft, callLeft};
 
 // `number` is 0 or the refusal's number; a refused call has zeros in the other fields.
 #[repr(C)]
@@ -59,6 +59,16 @@ pub struct JugnayapRun {
 pub struct JugnayapCalled {
     pub number: u32,
     pub run: JugnayapRun,
+}
+
+// 0.1.0, as JUGNAYAP_VERSION counts it.
+const VERSION: u32 = 100;
+
+#[no_mangle]
+pub extern "C" fn jugnayap_version() -> u32
+    ensures { λ r. ⌜ r ≡ version ⌝ }
+{
+    VERSION
 }
 
 #[no_mangle]

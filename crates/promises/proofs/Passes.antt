@@ -1,6 +1,6 @@
 -- "And those the decoder writes pass" (document 00, demand 2), of the code: about every call of `rounds` and every call of `judge` of which their
 -- contracts, as they are proved, hold. The run may be fresh or half done: the call was not refused, so it passes 43. Assumes nothing.
-use mathlib.Core.Path.{_≡_, sym, _∙_, ap, ap₂, subst}
+use mathlib.Core.Path.{_≡_, sym, _∙_, ap, subst}
 use mathlib.Core.List.{List}
 use Prim.Native.Nat.{ℕ}
 use lib.ListN.{take}
@@ -10,11 +10,10 @@ use denote.Ref.{now}
 use denote.Triple.Clauses as Clauses
 use borrow.Fn.World.{ArgsD, ResD}
 use borrow.Fn.Kinds.{endedOf}
-use Rattle.rules.specs.Limits.{certificateLength}
 use Rattle.rules.specs.Refusal.{gives}
 use Rattle.rules.specs.Table.{Table}
 use Rattle.rules.specs.CodeFile.{codeFile}
-use Rattle.rules.specs.Certificate.{entriesOf}
+use Rattle.rules.specs.Certificate.{certificateIn}
 use Rattle.rules.specs.Judge.{passes, judge}
 use Rattle.rules.specs.Buffers.{Buffers}
 use Rattle.rules.specs.Run.{certified}
@@ -56,28 +55,29 @@ judgesCertificate y = now (y .args .1 .1 .1 .0)
 pub judge-says : (y : JudgeCall) → verdictOf (y .result) ≡ judge (judgesFile y) (judgesFrame y) (judgesWord y) (judgesCertificate y)
 judge-says y = y .holds
 
+-- of what it was handed
+module _ (y : JudgeCall) {file : List ℕ} {l : List ℤ} {w bs : List ℕ} where
+  pub judge-handed : judgesFile y ≡ file → judgesFrame y ≡ l → judgesWord y ≡ w → judgesCertificate y ≡ bs → verdictOf (y .result) ≡ judge file l w bs
+  judge-handed ef el ew eb = judge-says y ∙ (λ i. judge (ef i) (el i) (ew i) (eb i))
+
 -- ---- the judge is handed the same file and frame, the word's first n bytes and the certificate's first 4 + 10q, as the call has left them
-abbrev leftBy : RoundsCall → Buffers
+abbrev pub leftBy : RoundsCall → Buffers
 leftBy x = roundsGave x .run .buffers
 
 pub record Judges (t : Table) (x : RoundsCall) (y : JudgeCall) : Type 0 where
   pub file : judgesFile y ≡ roundsFile x
   pub frame : judgesFrame y ≡ roundsFrame x
   pub word : judgesWord y ≡ take (t .bits) (leftBy x .word)
-  pub certificate : judgesCertificate y ≡ take (certificateLength (entriesOf (leftBy x .certificate))) (leftBy x .certificate)
+  pub certificate : judgesCertificate y ≡ certificateIn (leftBy x .certificate)
 
 pub written-passes : (t : Table) (x : RoundsCall) (y : JudgeCall) → codeFile (roundsFile x) ≡ gives t → Judges t x y
     → x .result .outcome ≡ out.Certified → y .result ≡ Certified
-written-passes t x y isFile j e = verdict-inj (y .result) Certified (judge-says y ∙ same ∙ left)
+written-passes t x y isFile j e = verdict-inj (y .result) Certified (judge-handed y (j .file) (j .frame) (j .word) (j .certificate) ∙ left)
   where
-    same : judge (judgesFile y) (judgesFrame y) (judgesWord y) (judgesCertificate y)
-        ≡ judge (roundsFile x) (roundsFrame x) (take (t .bits) (leftBy x .word)) (take (certificateLength (entriesOf (leftBy x .certificate))) (leftBy x .certificate))
-    same = ap₂ (λ f l. judge f l (judgesWord y) (judgesCertificate y)) (j .file) (j .frame) ∙ ap₂ (judge (roundsFile x) (roundsFrame x)) (j .word) (j .certificate)
-
     certifies : roundsGave x .answer ≡ gives certified
     certifies = ap outcomeOf e
 
-    left : judge (roundsFile x) (roundsFrame x) (take (t .bits) (leftBy x .word)) (take (certificateLength (entriesOf (leftBy x .certificate))) (leftBy x .certificate)) ≡ gives passes
+    left : judge (roundsFile x) (roundsFrame x) (take (t .bits) (leftBy x .word)) (certificateIn (leftBy x .certificate)) ≡ gives passes
     left = subst (PassesAfter (roundsFile x) (roundsFrame x) t) (sym (rounds-says x))
         (call-passes (roundsFile x) (roundsFrame x) (roundsWanted x) (roundsRun x) t isFile (ap (λ d. d .answer) (sym (rounds-says x)) ∙ certifies))
 

@@ -17,7 +17,8 @@ use Rattle.rules.specs.Input.{eachWithin, onFrame}
 use Rattle.rules.specs.Step.{Entry, Step}
 use Rattle.rules.specs.Round.{State, entriesIn, round}
 use Rattle.rules.specs.Bytes.{u16At}
-use Rattle.rules.specs.Certificate.{cutsIn, certificateOf, entriesOf}
+use Rattle.rules.specs.Certificate.{cutsIn, certificateOf, entriesOf, certificateIn}
+use Rattle.rules.specs.Scaled.{atScale}
 use Rattle.rules.specs.Judge.{passes, judge}
 use Rattle.rules.specs.Buffers.{Lengths, lengthsOf, needs, fits, over, overBy, bytesOf, wordLeft, certificateLeft}
 use Rattle.rules.specs.Run.{Status, running, certified, spent, Run, stateIn, iterate, isRunning, admits, Called, perform, callOn, callBy, call}
@@ -25,7 +26,7 @@ use Rattle.rules.proofs.AnswerLaws.{refused≢gives, must-gives}
 use Rattle.rules.proofs.Tables.{file-sound}
 use Rattle.rules.proofs.Pass.{AllLaid, stepsIn, steps-laid, entries-length}
 use Rattle.rules.proofs.Optimal.{round-passed}
-use Rattle.rules.proofs.Written.{certificate-length}
+use Rattle.rules.proofs.Written.{certificate-length, written-scale}
 use Rattle.rules.proofs.WrittenPasses.{AllProper, bytes-length, checks-written, written-passes}
 use Rattle.rules.proofs.BufferLaws.{take-over}
 use Rattle.rules.proofs.RoundSizes.{round-sized}
@@ -74,12 +75,16 @@ module _ (t : Table) (l : List ℤ) (q : Run) (e : Ends t l q) where
   count h = ap entriesOf left-bytes ∙ entries-front (coming t l (e .last) .entries) (e .last .buffers .certificate)
       ∙ checks-written (coming t l (e .last) .entries) (round-entries t l (stateIn t (e .last .buffers))) h
 
-  ended-certificate : checksOf t ≤ maxChecks → take (certificateLength (entriesOf (q .buffers .certificate))) (q .buffers .certificate) ≡ certificateOf es
+  ended-certificate : checksOf t ≤ maxChecks → certificateIn (q .buffers .certificate) ≡ certificateOf es
   ended-certificate h = ap₂ (λ n c. take (certificateLength n) c) (count h) left-bytes
       ∙ take-over (certificateLength (cutsIn es)) (certificateOf es) (e .last .buffers .certificate) (certificate-length es)
 
+  -- at scale 1
+  pub ended-scale : checksOf t ≤ maxChecks → atScale 1 (certificateIn (q .buffers .certificate)) ≡ certificateIn (q .buffers .certificate)
+  ended-scale h = ap (atScale 1) (ended-certificate h) ∙ written-scale es ∙ sym (ended-certificate h)
+
   pub ended-passes : (file : List ℕ) → codeFile file ≡ gives t → length l ≡ t .bits → eachWithin frameLimit l ≡ true
-      → judge file l (take (t .bits) (q .buffers .word)) (take (certificateLength (entriesOf (q .buffers .certificate))) (q .buffers .certificate)) ≡ gives passes
+      → judge file l (take (t .bits) (q .buffers .word)) (certificateIn (q .buffers .certificate)) ≡ gives passes
   unfolding es
   ended-passes file isFile size range =
       ap₂ (judge file l) ended-word (ended-certificate (file-sound file t isFile .checks .1))
@@ -109,20 +114,25 @@ admitted t l v n r e =
     record { size = eqb-true (length l) (t .bits) (a .0); range = b .0; begins = runs (r .progress .status) (f .0) }
 
 -- ---- the call
+-- what holds of every run that ends certified holds of a call that answers so
+module _ (file : List ℕ) (l : List ℤ) (v : ℕ) (r : Run) (t : Table) (isFile : codeFile file ≡ gives t) where
+  pub call-ends : (P : Called → Type 0) → ((d : Called) → Admitted t l r → Ends t l (d .run) → P d) → call file l v r .answer ≡ gives certified → P (call file l v r)
+  unfolding call callOn
+  call-ends P f h = subst P (sym is) (go (admits t l v (lengthsOf (r .buffers)) r) refl (ap (λ c. c .answer) (sym is) ∙ h))
+    where
+      is : callBy l v r (codeFile file) ≡ callOn t l v (lengthsOf (r .buffers)) r
+      is = ap (callBy l v r) isFile
+
+      go : (a : Answer (Unit {0})) → admits t l v (lengthsOf (r .buffers)) r ≡ a → perform t l v r a .answer ≡ gives certified → P (perform t l v r a)
+      go (refused k) e h = absurd (refused≢gives h)
+      go (gives u) e h =
+          let q = iterate t l v r in
+          let a = admitted t l v (lengthsOf (r .buffers)) r e in
+          f _ a (iterate-ends t l v r (a .begins) (answer-certified (q .progress .status) (q .progress .rounds) (r .progress .rounds + v) h))
+
 -- the judge certifies what stands in the buffers afterwards
 abbrev pub PassesAfter : List ℕ → List ℤ → Table → Called → Type 0
-PassesAfter file l t d = judge file l (take (t .bits) (d .run .buffers .word)) (take (certificateLength (entriesOf (d .run .buffers .certificate))) (d .run .buffers .certificate)) ≡ gives passes
+PassesAfter file l t d = judge file l (take (t .bits) (d .run .buffers .word)) (certificateIn (d .run .buffers .certificate)) ≡ gives passes
 
 pub call-passes : (file : List ℕ) (l : List ℤ) (v : ℕ) (r : Run) (t : Table) → codeFile file ≡ gives t → call file l v r .answer ≡ gives certified → PassesAfter file l t (call file l v r)
-unfolding call callOn
-call-passes file l v r t isFile h = subst (λ c. PassesAfter file l t c) (sym is) (go (admits t l v (lengthsOf (r .buffers)) r) refl (ap (λ c. c .answer) (sym is) ∙ h))
-  where
-    is : callBy l v r (codeFile file) ≡ callOn t l v (lengthsOf (r .buffers)) r
-    is = ap (callBy l v r) isFile
-
-    go : (a : Answer (Unit {0})) → admits t l v (lengthsOf (r .buffers)) r ≡ a → perform t l v r a .answer ≡ gives certified → PassesAfter file l t (perform t l v r a)
-    go (refused k) e h = absurd (refused≢gives h)
-    go (gives u) e h =
-        let a = admitted t l v (lengthsOf (r .buffers)) r e in
-        ended-passes t l (iterate t l v r) (iterate-ends t l v r (a .begins) (answer-certified (iterate t l v r .progress .status) (iterate t l v r .progress .rounds) (r .progress .rounds + v) h))
-        file isFile (a .size) (a .range)
+call-passes file l v r t isFile = call-ends file l v r t isFile (PassesAfter file l t) (λ d a e. ended-passes t l (d .run) e file isFile (a .size) (a .range))

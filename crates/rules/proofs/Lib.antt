@@ -28,6 +28,7 @@ pub mod Lends
 pub mod Twins
 pub mod Lists
 pub mod CallPasses
+pub mod ScaledLaws
 pub mod Fresh
 pub mod Counted
 pub mod Demand3

@@ -12,6 +12,7 @@ use Rattle.rules.specs.Limits.{certificateLength}
 use Rattle.rules.specs.Mask.{maskOf}
 use Rattle.rules.specs.Step.{Entry, inactive, active}
 use Rattle.rules.specs.Certificate.{cutsIn, contentBytes, bodyBytes, certificateOf, Item, itemsAt, entriesOf, scaleOf, itemsOf}
+use Rattle.rules.specs.Scaled.{atScale}
 use Rattle.rules.specs.Buffers.{multiplierOf, maskIn}
 use Rattle.rules.proofs.ByteLaws.{back16, back32, front32, reads16, reads32}
 
@@ -53,16 +54,20 @@ pub scale-written : (es : List Entry) → scaleOf (certificateOf es) ≡ 1
 unfolding certificateOf u16At
 scale-written es = refl
 
+pub written-scale : (es : List Entry) → atScale 1 (certificateOf es) ≡ certificateOf es
+unfolding certificateOf
+written-scale es = refl
+
 -- ---- its items, read from where they stand
 -- c items, their contents at xs and their masks at ys
-itemsIn : ℕ → List ℕ → List ℕ → List Item
+pub itemsIn : ℕ → List ℕ → List ℕ → List Item
 itemsIn zero xs ys = []
 itemsIn (suc c) xs ys = record { check = u16At xs 0; multiplier = front32 (drop 2 xs); mask = front32 ys } ∷ itemsIn c (drop 6 xs) (drop 4 ys)
 
 item-eq : {a a' b b' c c' : ℕ} → a ≡ a' → b ≡ b' → c ≡ c' → _≡_ {A = Item} (record { check = a; multiplier = b; mask = c }) (record { check = a'; multiplier = b'; mask = c' })
 item-eq p q r = λ i. record { check = p i; multiplier = q i; mask = r i }
 
-items-in : (bs : List ℕ) (q k c : ℕ) → itemsAt bs q k c ≡ itemsIn c (drop (4 + 6 * k) bs) (drop (4 + 6 * q + 4 * k) bs)
+pub items-in : (bs : List ℕ) (q k c : ℕ) → itemsAt bs q k c ≡ itemsIn c (drop (4 + 6 * k) bs) (drop (4 + 6 * q + 4 * k) bs)
 unfolding itemsAt itemsIn
 items-in bs q k zero = refl
 items-in bs q k (suc c) = ap₂ _∷_

@@ -4,7 +4,7 @@ use mathlib.Core.List.{List, [], _∷_, _++_}
 use mathlib.Core.Option.{Option, some, none}
 use Prim.Native.Nat.{ℕ, zero, suc, _+_, _*_}
 use lib.Dec.{leb, ltb, eqb}
-use lib.ListN.{length, getD}
+use lib.ListN.{length, getD, take}
 use Rattle.rules.specs.Limits.{maxEntries, maxScale, maxMultiplier, certificateLength}
 use Rattle.rules.specs.Refusal.{Answer, must, certificateWrong, scaleRange, entryRange, maskWrong, entryOrder}
 use Rattle.rules.specs.Bytes.{u16At, u32At, le16, le32}
@@ -77,6 +77,10 @@ scaleOf bs = u16At bs 2
 
 abbrev pub itemsOf : List ℕ → List Item
 itemsOf bs = itemsAt bs (entriesOf bs) 0 (entriesOf bs)
+
+-- the certificate at the front of a buffer: its first 4 + 10q bytes
+abbrev pub certificateIn : List ℕ → List ℕ
+certificateIn bs = take (certificateLength (entriesOf bs)) bs
 
 -- "10 certificate length wrong or q too large. 11 scale", then the entries
 unfoldable pub onCertificate : {A : Type 0} → Table → List ℕ → Answer A → Answer A

@@ -1,4 +1,4 @@
--- Further worked examples, by computation: document 01's cuts, the three-frame report, a list of calls with its twin, and which refusal comes first
+-- Further worked examples, by computation: document 01's cuts, its multipliers at another scale, the three-frame report, a list of calls with its twin, and which refusal comes first
 -- where several apply. Assumes nothing.
 use mathlib.Core.Path.{_≡_, refl}
 use mathlib.Core.List.{List, [], _∷_, _++_}
@@ -19,12 +19,13 @@ use Rattle.rules.specs.Bound.{reduced, bound, gap}
 use Rattle.rules.specs.Round.{total, divided, spin, round}
 use Rattle.rules.specs.Certificate.{certificateOf, itemsAt, follows, onItem, onItems, onCertificate}
 use Rattle.rules.specs.Judge.{verdict, judge, judgeReply}
+use Rattle.rules.specs.Scaled.{times, atScale}
 use Rattle.rules.specs.Buffers.{Buffers, Lengths, needsBy, fits, fitsStart, blank}
 use Rattle.rules.specs.Run.{running, certified, spent, Run, next, iterate, sound, admits, callOn, call, start}
 use Rattle.rules.specs.Calls.{Call, lentCall, countedBy}
 use Rattle.rules.specs.Report.{Line, certifiedLine, spentLine, frameLine}
 use Rattle.rules.specs.Question.{Question, fileIs, cutIs, judged, startIs, callIs, lineIs, listIs, countIs, Place, Said, reply, shown, line, places, counts, Case, asked, said, answerTo}
-use Rattle.rules.specs.Frames.{threeBits, oneBit, frameA, word000}
+use Rattle.rules.specs.Frames.{threeBits, oneBit, frameA, withMultiplier, word000}
 
 abbrev no : ℕ → Reply
 no k = record { number = k; values = [] }
@@ -124,6 +125,23 @@ certificates =
     -- a broken check comes before the gap; no entries at all: the bound is the sum of sizes
     ∷ row (judged threeBits frameA (1 ∷ 0 ∷ 0 ∷ []) (two 0 1 0 4)) (reply (yes (pos 0 ∷ pos 0 ∷ [])))
     ∷ row (judged threeBits frameA word000 (0 ∷ 0 ∷ 1 ∷ 0 ∷ [])) (reply (yes (pos 2 ∷ pos 4000 ∷ [])))
+    ∷ []
+
+-- ---- scales: (40, 40, −20) run as (4000, 4000, −2000). Document 01's multipliers 1999, 2000, 4000 and 4001 have at scale 100 the gaps that they have there
+frameE : List ℤ
+frameE = pos 40 ∷ pos 40 ∷ negsuc 19 ∷ []
+
+scaled : (times 100 frameE ≡ frameA) × (atScale 258 (9 ∷ 8 ∷ 7 ∷ 6 ∷ 5 ∷ []) ≡ 9 ∷ 8 ∷ 2 ∷ 1 ∷ 5 ∷ []) × (atScale 258 (9 ∷ 8 ∷ 7 ∷ []) ≡ 9 ∷ 8 ∷ 7 ∷ [])
+unfolding frameA frameE
+scaled = (refl, refl, refl)
+
+scales : List Case
+scales =
+    row (judged threeBits frameE word000 (atScale 100 (withMultiplier 0xCF 0x07))) (reply (yes (pos 2 ∷ pos 2 ∷ [])))
+    ∷ row (judged threeBits frameE word000 (atScale 100 (withMultiplier 0xD0 0x07))) (reply (yes (pos 1 ∷ [])))
+    ∷ row (judged threeBits frameE word000 (atScale 100 (withMultiplier 0xA0 0x0F))) (reply (yes (pos 1 ∷ [])))
+    ∷ row (judged threeBits frameE word000 (atScale 100 (withMultiplier 0xA1 0x0F))) (reply (yes (pos 2 ∷ pos 4 ∷ [])))
+    ∷ row (judged threeBits frameE word000 (atScale 1024 (withMultiplier 0xD0 0x07))) (reply (no 11))
     ∷ []
 
 -- ---- calls on runs as they stand
@@ -266,10 +284,10 @@ counted-44 : (countedBy (refused 44) 7 2 ≡ 2) × (countedBy (refused 43) 7 2 �
 counted-44 = (refl, refl, refl)
 
 pub cases : List Case
-cases = files ++ cuts ++ certificates ++ calls ++ rounds ++ lists ++ report
+cases = files ++ cuts ++ certificates ++ scales ++ calls ++ rounds ++ lists ++ report
 
 pub examples : asked cases ≡ said cases
-unfolding cases fourBits frameD files cuts certificates calls rounds lists report regular onBit0 callsOf threeBits oneBit frameA answerTo must then replyOf u16At u32At agreement
+unfolding cases fourBits frameD frameE files cuts certificates scales calls rounds lists report regular onBit0 callsOf threeBits oneBit frameA answerTo must then replyOf u16At u32At agreement
     maskRight ones lib.Count.onesIn inRange contents countsRight startsRight totalCount numbersAt bodies ascends membersRight bitsRight fileOf codeFile codeFileReply onFrame onWord
     onPoint onCheck cut cutSearch cutReply lastWhere multiplier step reduced bound gap total divided spin round certificateOf itemsAt follows onItem onItems onCertificate verdict
     judge judgeReply fits fitsStart next iterate sound admits callOn call start lentCall frameLine clipZ

@@ -52,7 +52,7 @@ abbrev gapOf : ℕ → Reply
 gapOf g = record { number = 0; values = pos 2 ∷ pos g ∷ [] }
 
 -- scale 1, one entry on check 0, mask 4
-abbrev withMultiplier : ℕ → ℕ → List ℕ
+abbrev pub withMultiplier : ℕ → ℕ → List ℕ
 withMultiplier lo hi = 0x01 ∷ 0x00 ∷ 0x01 ∷ 0x00 ∷ 0x00 ∷ 0x00 ∷ lo ∷ hi ∷ 0x00 ∷ 0x00 ∷ 0x04 ∷ 0x00 ∷ 0x00 ∷ 0x00 ∷ []
 
 abbrev pub word000 : List ℕ

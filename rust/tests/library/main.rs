@@ -8,4 +8,5 @@ mod gen;
 mod refusal;
 mod run;
 mod scale;
+mod version;
 mod word;

@@ -3,9 +3,7 @@ use Prim.Native.Nat.{_≤_, _<_}
 use native.Mathlib.Omega.{arith}
 use borrow.Author.Needs.{needs}
 use Rattle.rules.specs.Limits.{maxChecks, maxEdges}
-use Rattle.rules.specs.Buffers.{lent}
-use Rattle.rules.specs.Run.{Run}
-use Rattle.run.specs.Reply.{progressOf}
+use Rattle.decoder.specs.Lent.{runIn}
 use Rattle.decoder.proofs.CallLaws.{found-refused, found-fit, found-call}
 use Rattle.decoder.proofs.rounds.Statement.{statement}
 use Rattle.decoder.proofs.rounds.Tie as tie
@@ -20,10 +18,10 @@ members-room = omega arith
 perform-requires : tie.Need-perform-requires
 perform-requires c κs =
     let sized = c .before .before .before .before .before .before .before .before .before .before in
-    found-fit _ _ _ _ _ _ _ _ _ _ _ _ (sized .answer2 .given .1) (sized .before .before .before .before .admit .ensures) starts-room members-room
+    found-fit _ _ _ _ _ _ starts-room members-room _ _ _ (sized .before .before .before .before .admit .ensures) _ _ _ (sized .answer2 .given .1)
 
 returns : tie.Need-returns
-returns c = found-refused _ _ _ _ _ _ _ _ _ _ (c .before .answer .given .1) (c .before .before .before .before .before .admit .ensures) starts-room members-room
+returns c = found-refused _ _ _ _ _ _ starts-room members-room _ _ _ (c .before .before .before .before .before .admit .ensures) _ (c .before .answer .given .1)
 
 -- the run is given: found by unification it takes too many steps to compare
 returns-2 : tie.Need-returns-2
@@ -31,11 +29,8 @@ returns-2 c =
     let done = c .before .before .before .before .before .before .before .before .before .before .before .before in
     let sized = done .before .before .before .before .before .before .before .before .before .before .before in
     let args = sized .before .before .before .before .before .before .before .before .before .before .before .before .before .before .args in
-    let run : Run = record {
-      progress = progressOf (args .run);
-      buffers = lent (args .spins .now) (args .copies .now) (args .offsets .now) (args .multipliers .now) (args .masks .now) (args .word .now) (args .certificate .now);
-    } in
-    found-call (args .code .now) (args .frame .now) (args .wanted) run _ _ _ _ _ _ _ _ (sized .answer2 .given .1) (sized .before .before .before .before .admit .ensures) starts-room members-room
+    let run = runIn (args .run) (args .spins .now) (args .copies .now) (args .offsets .now) (args .multipliers .now) (args .masks .now) (args .word .now) (args .certificate .now) in
+    found-call (args .code .now) (args .frame .now) (args .wanted) run _ _ starts-room members-room _ _ _ (sized .before .before .before .before .admit .ensures) _ _ _ (sized .answer2 .given .1)
     _ _ (done .perform .ensures) (c .outcome-of .ensures)
 
 pub rounds-spec : {M : Type 1} → statement M

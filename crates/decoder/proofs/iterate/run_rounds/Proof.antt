@@ -2,17 +2,17 @@
 use mathlib.Core.Path.{sym, _∙_, ap}
 use native.Mathlib.Omega.{arith}
 use lib.ListN.{length}
-use Rattle.rules.specs.Buffers.{spins, copies, offsets, multipliers, masks, roundLent}
-use Rattle.run.specs.Reply.{statusOf, progressOf}
+use Rattle.rules.specs.Buffers.{spins, copies, offsets, multipliers, masks}
+use Rattle.run.specs.Reply.{statusOf}
 use Rattle.table.specs.Layout.{tableOf}
+use Rattle.decoder.specs.Lent.{loopIn}
 use Rattle.decoder.proofs.IterateLaws.{Going, going-first, going-ready, going-next, left-less, going-last}
 use Rattle.decoder.proofs.iterate.run_rounds.Statement.{statement}
 use Rattle.decoder.proofs.iterate.run_rounds.Tie as tie
 
 abbrev Inv-loop : tie.InvT-loop
 Inv-loop frame starts members degrees wanted s₀ z₀ y₀ b₀ m₀ at₀ k₀ s z y b m at k =
-    Going (tableOf (length frame) starts members) frame wanted
-    (record { progress = progressOf at₀; buffers = roundLent s₀ z₀ y₀ b₀ m₀ }) k (record { progress = progressOf at; buffers = roundLent s z y b m })
+    Going (tableOf (length frame) starts members) frame wanted (loopIn at₀ s₀ z₀ y₀ b₀ m₀) k (loopIn at s z y b m)
 
 abbrev μ-loop : tie.MeasureT-loop
 μ-loop frame starts members degrees wanted s₀ z₀ y₀ b₀ m₀ at₀ k₀ s z y b m at k = k

@@ -3,13 +3,13 @@ use Prim.Native.Nat.{_-_, _≤_, _<_}
 use native.Mathlib.Omega.{arith}
 use borrow.Author.Needs.{needs}
 use Rattle.rules.specs.Limits.{stepLimit}
-use Rattle.decoder.specs.Lifted.{sumAt}
+use Rattle.decoder.specs.Lifted.{sumAt, reach}
 use Rattle.decoder.proofs.LiftedLaws.{next-step, least-found}
 use Rattle.decoder.proofs.multiplier.least_multiplier.Statement.{statement}
 use Rattle.decoder.proofs.multiplier.least_multiplier.Tie as tie
 
 abbrev Inv-loop : tie.InvT-loop
-Inv-loop heights top b₀ b = (b ≤ stepLimit) × (8192 ≤ sumAt heights b)
+Inv-loop heights top b₀ b = (b ≤ stepLimit) × (reach ≤ sumAt heights b)
 
 abbrev μ-loop : tie.MeasureT-loop
 μ-loop heights top b₀ b = b
@@ -26,7 +26,7 @@ returns c =
     least-found (c .before .before .before .before .args .heights .now) (l .b) (c .before .fall .result) (l .inv .1) (l .inv .0) (c .before .fall .ensures) (omega arith)
 
 turn : (c : tie.Else1 Inv-loop μ-loop)
-    → (c .before .fall .result < c .before .before .loop .b) × (8192 ≤ sumAt (c .before .before .before .before .args .heights .now) (c .before .before .loop .b - c .before .fall .result))
+    → let l = c .before .before in let d = c .before .fall .result in (d < l .loop .b) × (reach ≤ sumAt (l .before .before .args .heights .now) (l .loop .b - d))
 turn c =
     let l = c .before .before .loop in
     next-step (c .before .before .before .before .args .heights .now) (l .b) (c .before .fall .result) (l .inv .1) (c .before .before .before .before .pre .short) (c .before .fall .ensures)

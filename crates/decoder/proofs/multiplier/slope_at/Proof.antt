@@ -34,7 +34,7 @@ lift-requires c κs =
     (subst (Within stepLimit) (sym (toZ-ofZ (element c))) (within-at stepLimit (start .args .heights .now) (start .pre .2) (c .before .before .loop .i)), start .pre .1)
 
 lift-is : (c : tie.After-lift Inv-loop μ-loop)
-    → c .lift .result ≡ lifted (c .before .before .before .before .args .b) (at (c .before .before .before .before .args .heights .now) (c .before .before .before .loop .i))
+    → let l = c .before .before .before in c .lift .result ≡ lifted (l .before .args .b) (at (l .before .args .heights .now) (l .loop .i))
 lift-is c = c .lift .ensures ∙ ap (lifted (c .before .before .before .before .args .b)) (toZ-ofZ (element (c .before)))
 
 lift-le : (c : tie.After-lift Inv-loop μ-loop) → c .lift .result ≤ 16777216

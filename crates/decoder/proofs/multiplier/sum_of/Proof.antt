@@ -2,7 +2,7 @@
 use mathlib.Core.Path.{_≡_, refl, sym, _∙_, ap, subst}
 use Prim.Native.Nat.{_+_, _*_, _-_, _≤_}
 use native.Mathlib.Omega.{arith}
-use lib.IntN.{_+ℤ_}
+use lib.IntN.{ℤ, _+ℤ_}
 use lib.ListN.{length, take}
 use lib.Seq.{take-all}
 use mir.Syntax.{w32}
@@ -28,20 +28,21 @@ abbrev μ-loop : tie.MeasureT-loop
 loop-holds : tie.Need-loop-holds Inv-loop μ-loop
 loop-holds c = (omega arith, refl, record { hi = omega arith; lo = omega arith })
 
--- the sum and the height that was read
-next-is : (c : tie.After-sum Inv-loop μ-loop) → toZ w32 (c .before .before .loop .sum) +ℤ toZ w32 (ofZ w32 (at (c .before .before .before .args .heights .now) (c .before .before .loop .i)))
-    ≡ toZ w32 (c .before .before .loop .sum) +ℤ at (c .before .before .before .args .heights .now) (c .before .before .loop .i)
-next-is c =
-    let a = c .before .before .before .args in
-    let l = c .before .before .loop in
-    ap (λ z. toZ w32 (l .sum) +ℤ z) (toZ-ofZ (fit w32 (at (a .heights .now) (l .i)) (c .sum .given)))
+-- the sum so far, and the height that was read
+abbrev sumBefore : tie.After-sum Inv-loop μ-loop → ℤ
+sumBefore c = toZ w32 (c .before .before .loop .sum)
 
-next : (c : tie.After-sum Inv-loop μ-loop) → SFits w32 (toZ w32 (c .before .before .loop .sum) +ℤ at (c .before .before .before .args .heights .now) (c .before .before .loop .i))
-    × Within (stepLimit * (c .before .before .loop .i + 1)) (toZ w32 (c .before .before .loop .sum) +ℤ at (c .before .before .before .args .heights .now) (c .before .before .loop .i))
+abbrev height : tie.After-sum Inv-loop μ-loop → ℤ
+height c = at (c .before .before .before .args .heights .now) (c .before .before .loop .i)
+
+next-is : (c : tie.After-sum Inv-loop μ-loop) → sumBefore c +ℤ toZ w32 (ofZ w32 (height c)) ≡ sumBefore c +ℤ height c
+next-is c = ap (λ z. sumBefore c +ℤ z) (toZ-ofZ (fit w32 (height c) (c .sum .given)))
+
+next : (c : tie.After-sum Inv-loop μ-loop) → SFits w32 (sumBefore c +ℤ height c) × Within (stepLimit * (c .before .before .loop .i + 1)) (sumBefore c +ℤ height c)
 next c =
     let start = c .before .before .before in
     let l = c .before .before .loop in
-    sum-next (l .i) (toZ w32 (l .sum)) (at (start .args .heights .now) (l .i)) (omega (arith, start .pre .0)) (l .inv .2) (within-at stepLimit (start .args .heights .now) (start .pre .1) (l .i))
+    sum-next (l .i) (sumBefore c) (height c) (omega (arith, start .pre .0)) (l .inv .2) (within-at stepLimit (start .args .heights .now) (start .pre .1) (l .i))
 
 add-sum : tie.Need-add-sum Inv-loop μ-loop
 add-sum c = subst (SFits w32) (sym (next-is c)) (next c .0)
@@ -52,7 +53,7 @@ loop-again c =
     let l = c .before .before .loop in
     let e = toZ-ofZ (add-sum c) ∙ next-is c in (
       omega arith,
-      e ∙ ap (λ z. z +ℤ at (a .heights .now) (l .i)) (l .inv .1) ∙ sym (sum-take (a .heights .now) (l .i) (omega arith)),
+      e ∙ ap (λ z. z +ℤ height c) (l .inv .1) ∙ sym (sum-take (a .heights .now) (l .i) (omega arith)),
       subst (Within (stepLimit * (l .i + 1))) (sym e) (next c .1),
     )
 

@@ -5,15 +5,14 @@ use native.Mathlib.Omega.{arith}
 use lib.ListN.{length, getD}
 use borrow.Author.Needs.{needs}
 use Rattle.rules.specs.Table.{at}
-use Rattle.decoder.specs.Passed.{Passed}
+use Rattle.decoder.specs.Passed.{passedTo}
 use Rattle.decoder.proofs.PassLoopLaws.{Passing, one-more, start-first, passing-first, passing-long, passing-last, one-fits, passing-next}
 use Rattle.decoder.proofs.pass.pass.Statement.{statement}
 use Rattle.decoder.proofs.pass.pass.Tie as tie
 
 abbrev Inv-loop : tie.InvT-loop
 Inv-loop starts members spins z₀ y₀ bs₀ ks₀ j₀ a₀ z y bs ks j a =
-    let first : Passed = record { copies = z₀; offsets = y₀; multipliers = bs₀; masks = ks₀ } in
-    Passing (at spins) starts members first (record { copies = z; offsets = y; multipliers = bs; masks = ks }) j × (a ≡ getD starts j 0)
+    Passing (at spins) starts members (passedTo z₀ y₀ bs₀ ks₀) (passedTo z y bs ks) j × (a ≡ getD starts j 0)
 
 abbrev μ-loop : tie.MeasureT-loop
 μ-loop starts members spins z₀ y₀ bs₀ ks₀ j₀ a₀ z y bs ks j a = length starts - j

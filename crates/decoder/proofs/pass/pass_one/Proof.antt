@@ -2,7 +2,7 @@
 use mathlib.Core.Path.{refl, _∙_, ap}
 use borrow.Author.Needs.{needs}
 use Rattle.decoder.specs.Stepped.{Stepped}
-use Rattle.decoder.specs.Passed.{Passed}
+use Rattle.decoder.specs.Passed.{passedTo}
 use Rattle.decoder.specs.Parts.{part, splice, placed, onePassed}
 use Rattle.decoder.proofs.PassLoopLaws.{passed-eq}
 use Rattle.decoder.proofs.pass.pass_one.Statement.{statement}
@@ -22,7 +22,7 @@ returns : tie.Need-returns
 unfolding onePassed part splice
 returns c =
     let a = c .before .before .before .before .before .before .before .before .before .before .before .before .before .before .before .before .before .args in
-    let came : Passed = record { copies = a .copies .now; offsets = a .offsets .now; multipliers = a .multipliers .now; masks = a .masks .now } in
+    let came = passedTo (a .copies .now) (a .offsets .now) (a .multipliers .now) (a .masks .now) in
     passed-eq refl refl (c .before .before .before .before .before .before .store .ensures) (c .before .before .store2 .ensures)
     ∙ ap (λ (t : Stepped). placed (a .j) (a .a) (a .e) t came) (c .before .before .before .before .before .before .before .before .before .before .step .ensures)
 

@@ -1,6 +1,7 @@
 -- `perform` meets its contract. Assumes nothing.
 use mathlib.Core.Path.{_≡_, sym}
-use mathlib.Core.List.{_++_}
+use mathlib.Core.List.{List, _++_}
+use Prim.Native.Nat.{ℕ}
 use native.Mathlib.Omega.{arith}
 use lib.ListN.{length, drop}
 use lib.Seq.{length-take-le, length-front}
@@ -15,25 +16,23 @@ use Rattle.decoder.proofs.perform.perform.Tie as tie
 abbrev begun : tie.After-run-rounds → tie.Start
 begun c = c .before .before .before .before .before .before .before .before .before .before .before .before .before .before .before .before .before
 
--- the rounds leave each buffer as long as it was
-spins-kept : (c : tie.After-run-rounds)
-    → length (c .run-rounds .last .1 .1 .1 .1 .1 .1 .0 ++ drop (begun c .args .n) (begun c .args .spins .now)) ≡ length (begun c .args .spins .now)
+-- the rounds leave each buffer as long as it was: `new` in the place of its first k elements
+abbrev KeptBy : {A : Type 0} → ℕ → List A → List A → Type 0
+KeptBy k new old = length (new ++ drop k old) ≡ length old
+
+spins-kept : (c : tie.After-run-rounds) → KeptBy (begun c .args .n) (c .run-rounds .last .1 .1 .1 .1 .1 .1 .0) (begun c .args .spins .now)
 spins-kept c = length-front (begun c .args .spins .now) (c .run-rounds .last .1 .1 .1 .1 .1 .1 .0) (begun c .args .n) (c .run-rounds .kept .1 .1 .1 .1 .1 .1 .0)
 
-copies-kept : (c : tie.After-run-rounds)
-    → length (c .run-rounds .last .1 .1 .1 .1 .1 .1 .1 .0 ++ drop (begun c .args .e) (begun c .args .copies .now)) ≡ length (begun c .args .copies .now)
+copies-kept : (c : tie.After-run-rounds) → KeptBy (begun c .args .e) (c .run-rounds .last .1 .1 .1 .1 .1 .1 .1 .0) (begun c .args .copies .now)
 copies-kept c = length-front (begun c .args .copies .now) (c .run-rounds .last .1 .1 .1 .1 .1 .1 .1 .0) (begun c .args .e) (c .run-rounds .kept .1 .1 .1 .1 .1 .1 .1 .0)
 
-offsets-kept : (c : tie.After-run-rounds)
-    → length (c .run-rounds .last .1 .1 .1 .1 .1 .1 .1 .1 .0 ++ drop (begun c .args .e) (begun c .args .offsets .now)) ≡ length (begun c .args .offsets .now)
+offsets-kept : (c : tie.After-run-rounds) → KeptBy (begun c .args .e) (c .run-rounds .last .1 .1 .1 .1 .1 .1 .1 .1 .0) (begun c .args .offsets .now)
 offsets-kept c = length-front (begun c .args .offsets .now) (c .run-rounds .last .1 .1 .1 .1 .1 .1 .1 .1 .0) (begun c .args .e) (c .run-rounds .kept .1 .1 .1 .1 .1 .1 .1 .1 .0)
 
-multipliers-kept : (c : tie.After-run-rounds)
-    → length (c .run-rounds .last .1 .1 .1 .1 .1 .1 .1 .1 .1 .0 ++ drop (begun c .args .m) (begun c .args .multipliers .now)) ≡ length (begun c .args .multipliers .now)
+multipliers-kept : (c : tie.After-run-rounds) → KeptBy (begun c .args .m) (c .run-rounds .last .1 .1 .1 .1 .1 .1 .1 .1 .1 .0) (begun c .args .multipliers .now)
 multipliers-kept c = length-front (begun c .args .multipliers .now) (c .run-rounds .last .1 .1 .1 .1 .1 .1 .1 .1 .1 .0) (begun c .args .m) (c .run-rounds .kept .1 .1 .1 .1 .1 .1 .1 .1 .1 .0)
 
-masks-kept : (c : tie.After-run-rounds)
-    → length (c .run-rounds .last .1 .1 .1 .1 .1 .1 .1 .1 .1 .1 .0 ++ drop (begun c .args .m) (begun c .args .masks .now)) ≡ length (begun c .args .masks .now)
+masks-kept : (c : tie.After-run-rounds) → KeptBy (begun c .args .m) (c .run-rounds .last .1 .1 .1 .1 .1 .1 .1 .1 .1 .1 .0) (begun c .args .masks .now)
 masks-kept c = length-front (begun c .args .masks .now) (c .run-rounds .last .1 .1 .1 .1 .1 .1 .1 .1 .1 .1 .0) (begun c .args .m) (c .run-rounds .kept .1 .1 .1 .1 .1 .1 .1 .1 .1 .1 .0)
 
 add-end : tie.Need-add-end
@@ -94,7 +93,7 @@ slice-aggregate-run-rounds-8 c =
 run-rounds-requires : tie.Need-run-rounds-requires
 run-rounds-requires c κs =
     let pre = c .before .before .before .before .before .before .before .before .before .before .before .before .before .before .before .before .pre in
-    (given-all _ _ _ _ _ (pre .holds) (pre .size) (pre .frame) (search needs) (c .before .before .before .before .before .before .before .before .count-degrees .ensures), parts-ready pre)
+    (given-all pre (search needs) (c .before .before .before .before .before .before .before .before .count-degrees .ensures), parts-ready pre)
 
 slice-reshare-prefix-finish : tie.Need-slice-reshare-prefix-finish
 slice-reshare-prefix-finish c =

@@ -1,9 +1,10 @@
 -- `add_edges` meets its contract: the first e edges are added, each at its member. Assumes nothing.
 use mathlib.Core.Path.{_≡_, sym, _∙_, ap, ap₂}
-use Prim.Native.Nat.{_-_, _≤_, _<_}
+use mathlib.Core.List.{List}
+use Prim.Native.Nat.{ℕ, _-_, _≤_, _<_}
 use native.Mathlib.Omega.{arith}
 use lib.ListN.{length, getD, take, set}
-use lib.IntN.{_+ℤ_, _-ℤ_}
+use lib.IntN.{ℤ, _+ℤ_, _-ℤ_}
 use mir.Syntax.{w32}
 use mir.Val.{toZ, ofZ}
 use mir.Facts.{toZ-ofZ}
@@ -26,8 +27,15 @@ abbrev μ-loop : tie.MeasureT-loop
 loop-holds : tie.Need-loop-holds Inv-loop μ-loop
 loop-holds c = (omega arith, gathered-none (c .args .totals .now) (c .args .members .now) (minus (c .args .copies .now) (c .args .offsets .now)))
 
--- the edge's member is a place of the totals
-inside : (c : tie.In-loop Inv-loop μ-loop) → getD (c .before .before .args .members .now) (c .before .loop .e) 0 < length (c .before .loop .totals)
+-- the edge's member, and what the edges add
+abbrev member : tie.At-loop Inv-loop μ-loop → ℕ
+member l = getD (l .before .args .members .now) (l .loop .e) 0
+
+abbrev weights : tie.At-loop Inv-loop μ-loop → List ℤ
+weights l = minus (l .before .args .copies .now) (l .before .args .offsets .now)
+
+-- the member is a place of the totals
+inside : (c : tie.In-loop Inv-loop μ-loop) → member (c .before) < length (c .before .loop .totals)
 inside c =
     let start = c .before .before in
     omega (arith, c .before .loop .inv .1 .long, below-at (length (start .args .totals .now)) (start .args .members .now) (c .before .loop .e) (c .loop-test .taken) (start .pre .below))
@@ -55,7 +63,7 @@ sub-totals c =
     (weight-fits (args .totals .now) (args .members .now) (args .copies .now) (args .offsets .now) (start .pre) (c .before .before .before .before .loop .e))
 
 weight-read : (c : tie.After-totals2 Inv-loop μ-loop)
-    → let l = c .before .before .before .before in toZ w32 (ofZ w32 (raw (sub-totals c))) ≡ at (minus (l .before .args .copies .now) (l .before .args .offsets .now)) (l .loop .e)
+    → let l = c .before .before .before .before in toZ w32 (ofZ w32 (raw (sub-totals c))) ≡ at (weights l) (l .loop .e)
 weight-read c =
     let start = c .before .before .before .before .before in
     let args = start .args in
@@ -70,7 +78,7 @@ slice-copy-out-totals : tie.Need-slice-copy-out-totals Inv-loop μ-loop
 slice-copy-out-totals c = inside (c .before .before .before)
 
 total-read : (c : tie.After-totals3 Inv-loop μ-loop)
-    → let l = c .before .before .before .before .before in let x = at (l .loop .totals) (getD (l .before .args .members .now) (l .loop .e) 0) in toZ w32 (ofZ w32 x) ≡ x
+    → let l = c .before .before .before .before .before in let x = at (l .loop .totals) (member l) in toZ w32 (ofZ w32 x) ≡ x
 total-read c = toZ-ofZ (fit w32 _ (c .totals3 .given))
 
 add-totals : tie.Need-add-totals Inv-loop μ-loop
@@ -89,13 +97,13 @@ loop-again : tie.Need-loop-again Inv-loop μ-loop
 loop-again c =
     let start = c .before .before .before .before .before .before in
     let args = start .args in
-    let loop = c .before .before .before .before .before .loop in
-    let ws = minus (args .copies .now) (args .offsets .now) in
+    let l = c .before .before .before .before .before in
+    let loop = l .loop in
     let here = c .before .before .before .before .loop-test .taken in
     let many = weights-long (args .totals .now) (args .members .now) (args .copies .now) (args .offsets .now) (start .pre) in (
       omega arith,
-      gathered-more (args .totals .now) (loop .totals) _ (args .members .now) ws (loop .e) (loop .inv .1) (inside (c .before .before .before .before))
-          (ap (set (loop .totals) (getD (args .members .now) (loop .e) 0)) (toZ-ofZ (add-totals c) ∙ ap₂ _+ℤ_ (total-read c) (weight-read (c .before))))
+      gathered-more (args .totals .now) (loop .totals) _ (args .members .now) (weights l) (loop .e) (loop .inv .1) (inside (c .before .before .before .before))
+          (ap (set (loop .totals) (member l)) (toZ-ofZ (add-totals c) ∙ ap₂ _+ℤ_ (total-read c) (weight-read (c .before))))
           here
           (omega (arith, here, many)),
     )
@@ -107,7 +115,7 @@ returns : tie.Need-returns Inv-loop μ-loop
 returns c =
     let args = c .before .before .args in
     let loop = c .before .loop in
-    gathered-all (args .totals .now) (loop .totals) (args .members .now) (minus (args .copies .now) (args .offsets .now)) (loop .e) (c .loop-test .left) (loop .inv .1)
+    gathered-all (args .totals .now) (loop .totals) (args .members .now) (weights (c .before)) (loop .e) (c .loop-test .left) (loop .inv .1)
 
 pub add-edges-spec : {M : Type 1} → statement M
 add-edges-spec =

@@ -10,7 +10,8 @@ use Rattle.integers.specs.Machine.{fit}
 use Rattle.rules.specs.Table.{at}
 use Rattle.rules.specs.Round.{firstOf}
 use Rattle.rules.proofs.RoundSizes.{first-length}
-use Rattle.decoder.specs.Totals.{spinOf, spinAt}
+use Rattle.decoder.specs.Totals.{spinAt}
+use Rattle.spin.specs.Spin.{spinOf}
 use Rattle.decoder.proofs.FillLaws.{fill, fill-none, fill-length, fill-more, fill-all}
 use Rattle.decoder.proofs.PlaceLaws.{first-at}
 use Rattle.decoder.proofs.spins.divide_totals.Statement.{statement}
@@ -35,9 +36,6 @@ shared-slice-copy-out-spin-of c = omega (arith, inside c, c .before .before .bef
 
 shared-slice-read-spin-of : tie.Need-shared-slice-read-spin-of Inv-loop μ-loop
 shared-slice-read-spin-of c = omega (arith, inside (c .before .before), c .before .before .before .before .before .pre .degrees)
-
-spin-of-requires : tie.Need-spin-of-requires Inv-loop μ-loop
-spin-of-requires c κs = c .before .before .before .before .before .pre .standing (c .before .before .before .loop .i) (inside (c .before .before))
 
 slice-set-from-spins : tie.Need-slice-set-from-spins Inv-loop μ-loop
 slice-set-from-spins c = c .before .before .before .loop-test .taken
@@ -82,7 +80,7 @@ divide-totals-spec =
     shared-slice-copy-out-spin-of
     (λ c. omega arith)
     shared-slice-read-spin-of
-    spin-of-requires
+    (λ c κs. tt)
     (λ c. omega arith)
     slice-set-from-spins
     (λ c. omega arith)

@@ -18,29 +18,32 @@ add-edges-requires c κs =
     subst (λ t. EdgesFit t (args .members .now) (args .copies .now) (args .offsets .now)) (sym (c .before .before .take-frame .ensures))
     (edges-fit (length (args .spins .now)) (args .frame .now) (args .members .now) (args .degrees .now) (args .copies .now) (args .offsets .now) (start .pre))
 
--- the totals as the edges leave them
+-- the call's beginning, seen from after the edges, and the totals as the edges leave them
+abbrev begun : tie.After-add-edges → tie.Start
+begun c = c .before .before .before .before .before .before .before
+
 abbrev totals : tie.After-add-edges → List ℤ
 totals c = c .add-edges .last .1 .1 .1 .0
 
 gathered : (c : tie.After-add-edges)
-    → let args = c .before .before .before .before .before .before .before .args in
+    → let args = begun c .args in
     Gathered (over (args .frame .now) zeros) (totals c) (args .members .now) (minus (args .copies .now) (args .offsets .now))
 gathered c =
-    let args = c .before .before .before .before .before .before .before .args in
+    let args = begun c .args in
     subst (λ t. Gathered t (totals c) (args .members .now) (minus (args .copies .now) (args .offsets .now))) (c .before .before .before .take-frame .ensures) (c .add-edges .ensures)
 
 divide-totals-requires : tie.Need-divide-totals-requires
 divide-totals-requires c κs =
-    let start = c .before .before .before .before .before .before .before .before .before .before in
-    let args = start .args in
     let added = c .before .before .before in
+    let start = begun added in
+    let args = start .args in
     totals-fit (length (args .spins .now)) (args .frame .now) (args .members .now) (args .degrees .now) (args .copies .now) (args .offsets .now) (start .pre) (totals added) (gathered added)
 
 returns : tie.Need-returns
 returns c =
-    let start = c .before .before .before .before .before .before .before .before .before .before .before .before in
-    let args = start .args in
     let added = c .before .before .before .before .before in
+    let start = begun added in
+    let args = start .args in
     c .before .divide-totals .ensures
     ∙ spins-are (length (args .spins .now)) (args .frame .now) (args .members .now) (args .degrees .now) (args .copies .now) (args .offsets .now) (start .pre) (totals added) (gathered added)
 

@@ -3,7 +3,7 @@ use mathlib.Core.Path.{_≡_, sym, _∙_, ap, ap₂, subst}
 use Prim.Native.Nat.{_-_, _≤_, _<_}
 use native.Mathlib.Omega.{arith}
 use lib.ListN.{length, getD}
-use lib.IntN.{pos, _+ℤ_}
+use lib.IntN.{ℤ, pos, _+ℤ_}
 use mir.Syntax.{w32}
 use mir.Val.{toZ, ofZ}
 use mir.Facts.{toZ-ofZ}
@@ -48,13 +48,18 @@ shared-slice-copy-out-value c =
 slice-copy-out-value : tie.Need-slice-copy-out-value Inv-loop μ-loop
 slice-copy-out-value c = omega (arith, long (c .before .before .before), c .before .before .before .before .before .pre .0)
 
--- the two numbers, as they were read
-spin-is : (c : tie.After-value-arg Inv-loop μ-loop)
-    → let l = c .before .before .before in let a = l .before .before .args in let x = at (a .spins .now) (getD (a .members .now) (l .loop .i) 0) in toZ w32 (ofZ w32 x) ≡ x
+-- the two numbers, and as they were read
+abbrev spin : tie.At-loop Inv-loop μ-loop → ℤ
+spin l = at (l .before .before .args .spins .now) (getD (l .before .before .args .members .now) (l .loop .i) 0)
+
+abbrev offset : tie.At-loop Inv-loop μ-loop → ℤ
+offset l = at (l .before .before .args .offsets .now) (l .loop .i)
+
+spin-is : (c : tie.After-value-arg Inv-loop μ-loop) → let x = spin (c .before .before .before) in toZ w32 (ofZ w32 x) ≡ x
 spin-is c = toZ-ofZ (fit w32 _ (c .value-arg .given))
 
 offset-is : (c : tie.After-value-arg2 Inv-loop μ-loop)
-    → let l = c .before .before .before .before in toZ w32 (ofZ w32 (at (l .loop .offsets) (l .loop .i))) ≡ at (l .before .before .args .offsets .now) (l .loop .i)
+    → let l = c .before .before .before .before in toZ w32 (ofZ w32 (at (l .loop .offsets) (l .loop .i))) ≡ offset l
 offset-is c = toZ-ofZ (fit w32 _ (c .value-arg2 .given)) ∙ old (c .before .before .before .before)
 
 value-requires : tie.Need-value-requires Inv-loop μ-loop

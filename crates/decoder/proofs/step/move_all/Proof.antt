@@ -3,7 +3,7 @@ use mathlib.Core.Path.{_≡_, sym, _∙_, ap, ap₂, subst}
 use Prim.Native.Nat.{_-_, _<_}
 use native.Mathlib.Omega.{arith}
 use lib.ListN.{length}
-use lib.IntN.{_-ℤ_}
+use lib.IntN.{ℤ, _-ℤ_}
 use mir.Syntax.{w32}
 use mir.Val.{SFits, toZ, ofZ}
 use mir.Facts.{toZ-ofZ}
@@ -35,15 +35,18 @@ mul-v c = omega (arith, long (c .before))
 holds-requires : tie.Need-holds-requires Inv-loop μ-loop
 holds-requires c κs = omega (arith, long (c .before .before), c .before .before .before .pre .few)
 
-value : (c : tie.After-v Inv-loop μ-loop)
-    → let l = c .before .before in toZ w32 (ofZ w32 (at (l .loop .offsets) (l .loop .i))) ≡ at (l .before .args .offsets .now) (l .loop .i)
+-- the value that is moved, and as it was read
+abbrev valueAt : tie.At-loop Inv-loop μ-loop → ℤ
+valueAt l = at (l .before .args .offsets .now) (l .loop .i)
+
+value : (c : tie.After-v Inv-loop μ-loop) → let l = c .before .before in toZ w32 (ofZ w32 (at (l .loop .offsets) (l .loop .i))) ≡ valueAt l
 value c =
     let start = c .before .before .before in
     let l = c .before .before .loop in
     toZ-ofZ (fit w32 (at (l .offsets) (l .i)) (c .v .given))
     ∙ moving-at (start .args .b) (start .args .mask) (start .args .copies .now) (start .args .offsets .now) (start .pre) (l .i) (l .copies) (l .offsets) (l .inv)
 
-small : (c : tie.At-loop Inv-loop μ-loop) → Within valueLimit (at (c .before .args .offsets .now) (c .loop .i))
+small : (c : tie.At-loop Inv-loop μ-loop) → Within valueLimit (valueAt c)
 small c = within-at valueLimit (c .before .args .offsets .now) (c .before .pre .small) (c .loop .i)
 
 moved-requires : tie.Need-moved-requires Inv-loop μ-loop
@@ -51,7 +54,7 @@ moved-requires c κs = (subst (Within valueLimit) (sym (value (c .before))) (sma
 
 copy : (c : tie.After-moved Inv-loop μ-loop)
     → let l = c .before .before .before .before in
-    toZ w32 (ofZ w32 (c .moved .result)) ≡ move unit (l .before .args .b) (c .before .holds .result) (at (l .before .args .offsets .now) (l .loop .i))
+    toZ w32 (ofZ w32 (c .moved .result)) ≡ move unit (l .before .args .b) (c .before .holds .result) (valueAt l)
 copy c =
     let b = c .before .before .before .before .before .args .b in
     toZ-ofZ (fit w32 (c .moved .result) (c .moved .ok)) ∙ c .moved .ensures ∙ ap (move unit b (c .before .holds .result)) (value (c .before .before))

@@ -4,6 +4,7 @@ use lib.IntN.{_+ℤ_, _-ℤ_}
 use mir.Syntax.{w32}
 use mir.Facts.{toZ-ofZ}
 use borrow.Author.Needs.{needs}
+use Rattle.rules.specs.Limits.{unit}
 use Rattle.integers.specs.Machine.{fit, op-fits}
 use Rattle.integers.specs.Clip.{clipZ}
 use Rattle.rules.specs.Step.{move}
@@ -20,8 +21,8 @@ returns : tie.Need-returns
 returns c =
     let a = c .before .before .args in
     toZ-ofZ (fit w32 (c .clip .result) (c .clip .ok)) ∙ c .clip .ensures
-    ∙ ap (clipZ 4096) (toZ-ofZ (add-clip (c .before)) ∙ ap₂ _+ℤ_ (toZ-ofZ (c .before .before .fits .v)) (word-pos (a .b) (c .before .before .pre .1)))
-    ∙ ap (λ t. move 4096 (a .b) t (a .v)) (sym (c .before .if1 .taken))
+    ∙ ap (clipZ unit) (toZ-ofZ (add-clip (c .before)) ∙ ap₂ _+ℤ_ (toZ-ofZ (c .before .before .fits .v)) (word-pos (a .b) (c .before .before .pre .1)))
+    ∙ ap (λ t. move unit (a .b) t (a .v)) (sym (c .before .if1 .taken))
 
 sub-clip : tie.Need-sub-clip
 sub-clip c =
@@ -32,8 +33,8 @@ returns-2 : tie.Need-returns-2
 returns-2 c =
     let a = c .before .before .args in
     toZ-ofZ (fit w32 (c .clip2 .result) (c .clip2 .ok)) ∙ c .clip2 .ensures
-    ∙ ap (clipZ 4096) (toZ-ofZ (sub-clip (c .before)) ∙ ap₂ _-ℤ_ (toZ-ofZ (c .before .before .fits .v)) (word-pos (a .b) (c .before .before .pre .1)))
-    ∙ ap (λ t. move 4096 (a .b) t (a .v)) (sym (c .before .if1 .left))
+    ∙ ap (clipZ unit) (toZ-ofZ (sub-clip (c .before)) ∙ ap₂ _-ℤ_ (toZ-ofZ (c .before .before .fits .v)) (word-pos (a .b) (c .before .before .pre .1)))
+    ∙ ap (λ t. move unit (a .b) t (a .v)) (sym (c .before .if1 .left))
 
 pub moved-spec : {M : Type 1} → statement M
 moved-spec =

@@ -1,0 +1,53 @@
+-- A run as a contract has it: in a record and in slices that the call is lent, as they come and as they are left. Definitions only. Assumes nothing.
+use mathlib.Core.Path.{_≡_}
+use mathlib.Core.List.{List}
+use Prim.Native.Nat.{ℕ}
+use lib.IntN.{ℤ}
+use denote.Ref.{RefT, now}
+use denote.Triple.Both.{Both}
+use Rattle.rules.specs.Buffers.{lent, roundLent}
+use Rattle.rules.specs.Run.{Run, Called}
+use Rattle.run.specs.declared.Record.{Record}
+use Rattle.run.specs.Reply.{progressOf}
+use Rattle.decoder.specs.declared.Called as declared
+use Rattle.decoder.specs.Passed.{Passed, passedTo}
+use Rattle.decoder.specs.Finished.{Ending, endedTo}
+use Rattle.decoder.specs.Reply.{outcomeOf}
+
+-- ---- a slice that is lent: as it comes, and as it is left
+abbrev pub Slice : Type 0 → Type 0
+Slice A = Both (RefT (List A)) (RefT (List A))
+
+abbrev pub came : {A : Type 0} → Slice A → List A
+came x = now (x .entry)
+
+abbrev pub left : {A : Type 0} → Slice A → List A
+left x = now (x .exit)
+
+-- ---- a run in its record and its buffers: all of them, and those that a round writes
+abbrev pub runIn : Record → List ℤ → List ℤ → List ℤ → List ℕ → List ℕ → List ℕ → List ℕ → Run
+runIn p s z y b k w c = record { progress = progressOf p; buffers = lent s z y b k w c }
+
+abbrev pub loopIn : Record → List ℤ → List ℤ → List ℤ → List ℕ → List ℕ → Run
+loopIn p s z y b k = record { progress = progressOf p; buffers = roundLent s z y b k }
+
+-- ---- f makes what is left, record q and slices, of what came, record p and the same slices
+abbrev pub RunBecomes : (Run → Run) → Record → Record → Slice ℤ → Slice ℤ → Slice ℤ → Slice ℕ → Slice ℕ → Slice ℕ → Slice ℕ → Type 0
+RunBecomes f p q s z y b k w c =
+    runIn q (left s) (left z) (left y) (left b) (left k) (left w) (left c) ≡ f (runIn p (came s) (came z) (came y) (came b) (came k) (came w) (came c))
+
+abbrev pub LoopBecomes : (Run → Run) → Record → Record → Slice ℤ → Slice ℤ → Slice ℤ → Slice ℕ → Slice ℕ → Type 0
+LoopBecomes f p q s z y b k = loopIn q (left s) (left z) (left y) (left b) (left k) ≡ f (loopIn p (came s) (came z) (came y) (came b) (came k))
+
+-- the same with the call's answer
+abbrev pub CallBecomes : (Run → Called) → Record → declared.Called → Slice ℤ → Slice ℤ → Slice ℤ → Slice ℕ → Slice ℕ → Slice ℕ → Slice ℕ → Type 0
+CallBecomes f p a s z y b k w c =
+    (record { answer = outcomeOf (a .outcome); run = runIn (a .run) (left s) (left z) (left y) (left b) (left k) (left w) (left c) })
+    ≡ f (runIn p (came s) (came z) (came y) (came b) (came k) (came w) (came c))
+
+-- what a pass writes, and what the end of a run writes
+abbrev pub PassBecomes : (Passed → Passed) → Slice ℤ → Slice ℤ → Slice ℕ → Slice ℕ → Type 0
+PassBecomes f z y b k = passedTo (left z) (left y) (left b) (left k) ≡ f (passedTo (came z) (came y) (came b) (came k))
+
+abbrev pub EndBecomes : (Ending → Ending) → Slice ℕ → Slice ℕ → Type 0
+EndBecomes f w c = endedTo (left w) (left c) ≡ f (endedTo (came w) (came c))

@@ -1,0 +1,2 @@
+pub mod SpinOfLaws
+pub mod DecidedLaws

@@ -1,0 +1,8 @@
+pub use Rattle.spin.proofs.SpinOfLaws.{
+  at-least,
+  clip-first,
+  natural-is,
+  clipped-low,
+  clipped-high,
+  clipped-mid,
+}

@@ -1,0 +1,1 @@
+pub use Rattle.spin.proofs.all_decided.Symbol.{routine, name}

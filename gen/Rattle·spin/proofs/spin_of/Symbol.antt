@@ -1,0 +1,1 @@
+pub use Rattle.spin.proofs.spin_of.Symbol.{routine, name}

@@ -1,0 +1,2 @@
+pub use Rattle.spin.proofs.all_decided.Code.{routine}
+pub use Rattle.spin.proofs.all_decided.Key.{name}

@@ -1,0 +1,2 @@
+pub use Rattle.spin.proofs.decided.Code.{routine}
+pub use Rattle.spin.proofs.decided.Key.{name}

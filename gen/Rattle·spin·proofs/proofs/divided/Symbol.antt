@@ -1,0 +1,2 @@
+pub use Rattle.spin.proofs.divided.Code.{routine}
+pub use Rattle.spin.proofs.divided.Key.{name}

@@ -1,0 +1,54 @@
+//! Code: the description, and both forms of a code.
+
+use super::support::{sample, Folder, ONE};
+
+#[test]
+fn the_description() {
+    let folder = Folder::with_sample("hamming");
+    let text = "bits 7 checks 3 edges 12\nbits of degree 1: 3\nbits of degree 2: 3\nbits of degree 3: 1\n\
+                checks of degree 4: 3\nrate at least 4/7 = 0.5714\n";
+    folder.run("code code.alist").says(0, text);
+    folder.run("code code.code").says(0, text);
+    folder.run_on(folder.read("code.code"), "code -").says(0, text);
+    folder.run_on(ONE, "code -").says(
+        0,
+        "bits 1 checks 1 edges 1\nbits of degree 1: 1\nchecks of degree 1: 1\nrate at least 0/1 = 0.0000\n",
+    );
+}
+
+#[test]
+fn both_forms() {
+    for name in ["hamming", "array", "regular"] {
+        let (alist, file) = (sample(name, "code.alist"), sample(name, "code.code"));
+        let folder = Folder::with_sample(name);
+        folder.run("code code.alist --code -").says_bytes(&file);
+        folder.run("code code.code --alist -").says_bytes(&alist);
+        let done = folder.run("code code.code --alist a --code=c");
+        assert!(done.text().starts_with("bits "));
+        assert_eq!((folder.read("a"), folder.read("c")), (alist, file));
+    }
+}
+
+#[test]
+fn alists_as_they_come() {
+    let folder = Folder::with(&[("code", "\u{feff}# one bit\r\n1 1\r\n1 1\r\n1\r\n1\r\n1\r\n1\r\n")]);
+    assert_eq!(folder.run("code code").status, 0);
+}
+
+#[test]
+fn what_is_no_code() {
+    let folder =
+        Folder::with(&[("text", "3 1\n1 3\n1 1\n"), ("file", "\x03\0\x01\0\0\0\x21\0"), ("empty", "")]);
+    folder.run("code text").fails(1, "jugnayap: text:3: 2 column weights, 3 wanted");
+    folder
+        .run("code file --alist out")
+        .fails(1, "jugnayap: file: as a code file it is refused 3: a check's count out of range");
+    assert!(!folder.has("out"));
+    folder
+        .run("code empty")
+        .fails(1, "jugnayap: empty: as a code file it is refused 1: code file under 4 bytes");
+    folder.write("long", "1 ".repeat(1 << 24));
+    folder
+        .run("code long")
+        .fails(1, "jugnayap: long: more than 16777216 bytes, an alist of a code within the limits wanted");
+}
