@@ -23,7 +23,7 @@ pub enum Verdict {
     Broken(u32),
     /// No codeword, and no point of the relaxation, agrees better with the frame than the word.
     Certified,
-    /// The bound is this much above the word's agreement, in units of the certificate's scale.
+    /// The bound is this much above the word's agreement times the certificate's scale.
     Gap(i64),
 }
 

@@ -60,8 +60,8 @@ fn greatest_weights() {
 #[test]
 fn sums() {
     line_refused(4, "4 4 3", "the row weights add up to 11, the column weights to 12");
-    let text = with_line(3, "1 1 2 1 2 3 3");
-    assert_refused(text, "line 4: the row weights add up to 12, the column weights to 13");
+    let text = with_line(3, "1 1 2 1 2 1 3");
+    assert_refused(text, "line 4: the row weights add up to 12, the column weights to 11");
 }
 
 #[test]

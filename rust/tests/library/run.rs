@@ -17,6 +17,17 @@ fn view<'r>(run: &'r Run) -> View<'r> {
     (run.rounds_done(), edges_and_bits, [run.multipliers(), run.masks()])
 }
 
+/// The first reference frame, after its first round.
+#[test]
+fn shows_what_a_round_leaves() {
+    let code = Code::from_checks(3, &[[0, 1, 2]]).unwrap();
+    let mut run = Run::start(&code);
+    run.rounds(&[4000, 4000, -2000], 1).unwrap();
+    let (spins, copies, offsets) = ([4000, 4000, -2000], [2032, 2032, -32], [1968, 1968, -1968]);
+    let left: View = (1, [&spins, &copies, &offsets], [&[1968], &[4]]);
+    assert_eq!(view(&run), left);
+}
+
 /// Calls for the rounds given by `wanted` until the run ends.
 fn to_the_end(run: &mut Run, frame: &[i16], mut wanted: impl FnMut() -> u32) -> Answer {
     loop {
