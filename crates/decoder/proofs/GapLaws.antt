@@ -16,7 +16,7 @@ use Rattle.rules.proofs.BoundLaws.{none-adds, row-adds, frame-within}
 use Rattle.rules.proofs.StoreLaws.{drop-next}
 use Rattle.table.specs.Layout.{checksFrom, Holds}
 use Rattle.decoder.specs.Closing.{withRow, rowsFrom, rowsLeft, AllUpTo, RowFits, RowsFit, GapFits}
-use Rattle.table.proofs.LayoutLaws.{starts-long, part-is, part-in, part-below, part-degree}
+use Rattle.table.proofs.LayoutLaws.{start-is, starts-long, part-is, part-in, part-below, part-degree}
 
 -- ---- a check's row, if its mask is not 0
 module _ (r : Row) (mask : ℕ) {ls : List ℤ} where
@@ -50,6 +50,9 @@ rows-none : (bs ks : List ℕ) → rowsFrom [] bs ks ≡ []
 unfolding rowsFrom
 rows-none bs ks = refl
 
+pub first-begins : {ss ms bs ks : List ℕ} {ls : List ℤ} → RowsFit ss ms bs ks ls → 0 ≡ getD ss 0 0
+first-begins {ss} {ms} {ls = ls} f = sym (start-is (length ls) ss ms (f .holds) 0 (omega arith))
+
 module _ {ss ms bs ks : List ℕ} {ls : List ℤ} (f : RowsFit ss ms bs ks ls) (j : ℕ) where
   pub rows-past : length ks ≤ j → rowsLeft ss ms bs ks j ≡ []
   rows-past h =
@@ -66,29 +69,31 @@ module _ {ss ms bs ks : List ℕ} {ls : List ℤ} (f : RowsFit ss ms bs ks ls) (
     pub few-rows : j + 1 ≤ maxChecks
     few-rows = omega (arith, check, f .holds .sound .checks)
 
-    pub part-ends : (getD ss j 0 ≤ getD ss (j + 1) 0) × (getD ss (j + 1) 0 ≤ length ms)
-    part-ends = part-in (length ls) ss ms (f .holds) j check
-
     pub multiplier-in : j < length bs
     multiplier-in = omega (arith, check, f .multipliersLong)
-
-    abbrev part : List ℕ
-    part = take (getD ss (j + 1) 0 - getD ss j 0) (drop (getD ss j 0) ms)
-
-    is : part ≡ getD (checksFrom ss ms) j []
-    is = part-is (length ls) ss ms (f .holds) j check
-
-    few : length part ≤ maxDegree
-    few = subst (λ l. length l ≤ maxDegree) (sym is) (part-degree (length ls) ss ms (f .holds) j check .1)
 
     small : getD bs j 0 ≤ stepLimit
     small = up-to-at stepLimit bs j (f .multipliers)
 
+  -- check j, whose edges begin at a
+  module _ (h : j < length ks) {a : ℕ} (begins : a ≡ getD ss j 0) where
+    pub part-ends : (a ≤ getD ss (j + 1) 0) × (getD ss (j + 1) 0 ≤ length ms)
+    part-ends = subst (λ x. (x ≤ getD ss (j + 1) 0) × (getD ss (j + 1) 0 ≤ length ms)) (sym begins) (part-in (length ls) ss ms (f .holds) j (check h))
+
+    abbrev part : List ℕ
+    part = take (getD ss (j + 1) 0 - a) (drop a ms)
+
+    is : part ≡ getD (checksFrom ss ms) j []
+    is = ap (λ x. take (getD ss (j + 1) 0 - x) (drop x ms)) begins ∙ part-is (length ls) ss ms (f .holds) j (check h)
+
+    few : length part ≤ maxDegree
+    few = subst (λ l. length l ≤ maxDegree) (sym is) (part-degree (length ls) ss ms (f .holds) j (check h) .1)
+
     pub row-fits : {new : List ℤ} → length new ≡ length ls → EachWithin sizeLimit new → RowFits (getD bs j 0) part new
     row-fits e w = record {
-      small = omega (arith, small);
+      small = omega (arith, small h);
       few = few;
-      inside = subst (λ n. Below n part) (sym e) (subst (Below (length ls)) (sym is) (part-below (length ls) ss ms (f .holds) j check));
+      inside = subst (λ n. Below n part) (sym e) (subst (Below (length ls)) (sym is) (part-below (length ls) ss ms (f .holds) j (check h)));
       sizes = w;
     }
 
@@ -97,15 +102,15 @@ module _ {ss ms bs ks : List ℕ} {ls : List ℤ} (f : RowsFit ss ms bs ks ls) (
     step = withRow (eqb (getD ks j 0) 0) (rowOf part (getD bs j 0) (getD ks j 0)) []
 
     pub step-adds : Adds step
-    step-adds = with-adds (eqb (getD ks j 0) 0) (rowOf part (getD bs j 0) (getD ks j 0)) (row-adds part (getD bs j 0) (getD ks j 0) few (omega (arith, small)))
+    step-adds = with-adds (eqb (getD ks j 0) 0) (rowOf part (getD bs j 0) (getD ks j 0)) (row-adds part (getD bs j 0) (getD ks j 0) few (omega (arith, small h)))
 
     pub rows-next : rowsLeft ss ms bs ks j ≡ step ++ rowsLeft ss ms bs ks (j + 1)
     rows-next =
         let cs = checksFrom ss ms in
         let b = getD bs j 0 in
         let k = getD ks j 0 in
-        ap (λ l. rowsFrom l (drop j bs) (drop j ks)) (drop-next cs j [] check ∙ ap (λ l. l ∷ drop (j + 1) cs) (sym is))
-        ∙ ap₂ (rowsFrom (part ∷ drop (j + 1) cs)) (drop-next bs j 0 multiplier-in) (drop-next ks j 0 h)
+        ap (λ l. rowsFrom l (drop j bs) (drop j ks)) (drop-next cs j [] (check h) ∙ ap (λ l. l ∷ drop (j + 1) cs) (sym is))
+        ∙ ap₂ (rowsFrom (part ∷ drop (j + 1) cs)) (drop-next bs j 0 (multiplier-in h)) (drop-next ks j 0 h)
         ∙ rows-cons part (drop (j + 1) cs) b (drop (j + 1) bs) k (drop (j + 1) ks)
         ∙ with-append (eqb k 0) (rowOf part b k) (rowsLeft ss ms bs ks (j + 1))
 

@@ -106,6 +106,13 @@ module _ {n : ℕ} {ss ms : List ℕ} {s z y : List ℤ} {bs ks : List ℕ} (fit
     masks-long : length (q .masks) ≡ length cs
     masks-long = ap length (g .masks) ∙ fill-length j (goal .masks) ks ∙ fits .masksLong
 
+    -- as many masks as checks, to the end
+    pub still : j < length (q .masks) → j < length cs
+    still h = omega (arith, masks-long)
+
+    pub past : length (q .masks) ≤ j → length cs ≤ j
+    past h = omega (arith, masks-long)
+
     pub passing-long : (length (q .copies) ≡ length z) × (length (q .offsets) ≡ length y) × (length (q .multipliers) ≡ length bs) × (length (q .masks) ≡ length ks)
     passing-long = (copies-long ∙ sym (fits .copiesLong), offsets-long ∙ sym (fits .offsetsLong), multipliers-long ∙ sym (fits .multipliersLong), masks-long ∙ sym (fits .masksLong))
 

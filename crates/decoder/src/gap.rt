@@ -91,10 +91,11 @@ fn add_rows(
 {
     let mut sum: i64 = 0;
     let mut j: usize = 0;
+    let mut a: usize = 0;
     while j < masks.len() {
-        let a = starts[j] as usize;
         let e = starts[j + 1] as usize;
         sum += add_check(&members[a..e], multipliers[j], masks[j], numbers);
+        a = e;
         j += 1;
     }
     sum

@@ -45,7 +45,7 @@ pub(crate) fn pass(
 {
     let mut j: usize = 0;
     let mut a: usize = 0;
-    while j + 1 < starts.len() {
+    while j < masks.len() {
         let e = starts[j + 1] as usize;
         pass_one(j, a, e, members, spins, copies, offsets, multipliers, masks);
         a = e;

@@ -6,7 +6,7 @@ use lib.ListN.{length, getD}
 use borrow.Author.Needs.{needs}
 use Rattle.rules.specs.Table.{at}
 use Rattle.decoder.specs.Passed.{passedTo}
-use Rattle.decoder.proofs.PassLoopLaws.{Passing, one-more, start-first, passing-first, passing-long, passing-last, one-fits, passing-next}
+use Rattle.decoder.proofs.PassLoopLaws.{Passing, one-more, still, past, start-first, passing-first, passing-long, passing-last, one-fits, passing-next}
 use Rattle.decoder.proofs.pass.pass.Statement.{statement}
 use Rattle.decoder.proofs.pass.pass.Tie as tie
 
@@ -20,8 +20,11 @@ abbrev μ-loop : tie.MeasureT-loop
 loop-holds : tie.Need-loop-holds Inv-loop μ-loop
 loop-holds c = (passing-first (c .before .before .before .before .pre), start-first (c .before .before .before .before .pre))
 
-add-loop : tie.Need-add-loop Inv-loop μ-loop
-add-loop c = omega (arith, one-more (c .before .before .before .before .before .pre), c .loop .inv .0 .few)
+shared-slice-read-e : tie.Need-shared-slice-read-e Inv-loop μ-loop
+shared-slice-read-e c =
+    let turn = c .before in
+    let pre = turn .before .before .before .before .before .before .pre in
+    omega (arith, one-more pre, still pre (turn .before .loop .inv .0) (turn .loop-test .taken))
 
 cast-e : tie.Need-cast-e Inv-loop μ-loop
 cast-e c = omega (arith, c .shared-slice-known3 .given (c .before .before .loop .j + 1))
@@ -30,7 +33,7 @@ pass-one-requires : tie.Need-pass-one-requires Inv-loop μ-loop
 pass-one-requires c κs =
     let i = c .before .before .before .before .before .before .loop .inv in
     let pre = c .before .before .before .before .before .before .before .before .before .before .before .pre in
-    one-fits pre (i .0) (omega (arith, one-more pre, c .before .before .before .before .before .loop-test .taken)) (i .1)
+    one-fits pre (i .0) (still pre (i .0) (c .before .before .before .before .before .loop-test .taken)) (i .1)
 
 add-j : tie.Need-add-j Inv-loop μ-loop
 add-j c =
@@ -38,14 +41,17 @@ add-j c =
     omega (arith, one-more (turn .before .before .before .before .before .before .pre), turn .loop-test .taken, turn .before .loop .inv .0 .few)
 
 loop-less : tie.Need-loop-less Inv-loop μ-loop
-loop-less c = omega (arith, c .before .before .before .before .before .before .before .before .before .before .before .before .loop-test .taken)
+loop-less c =
+    let turn = c .before .before .before .before .before .before .before .before .before .before .before .before in
+    let pre = turn .before .before .before .before .before .before .pre in
+    omega (arith, one-more pre, still pre (turn .before .loop .inv .0) (turn .loop-test .taken))
 
 loop-again : tie.Need-loop-again Inv-loop μ-loop
 loop-again c =
     let turn = c .before .before .before .before .before .before .before .before .before .before .before .before in
     let i = turn .before .loop .inv in
     let pre = turn .before .before .before .before .before .before .pre in
-    (passing-next pre (i .0) (omega (arith, one-more pre, turn .loop-test .taken)) (i .1) (c .before .before .before .before .before .before .pass-one .ensures), refl)
+    (passing-next pre (i .0) (still pre (i .0) (turn .loop-test .taken)) (i .1) (c .before .before .before .before .before .before .pass-one .ensures), refl)
 
 same-length : tie.Need-same-length Inv-loop μ-loop
 same-length c = passing-long (c .before .before .before .before .before .before .pre) (c .before .loop .inv .0) .0
@@ -62,7 +68,7 @@ same-length-4 c = passing-long (c .before .before .before .before .before .befor
 returns : tie.Need-returns Inv-loop μ-loop
 returns c =
     let pre = c .before .before .before .before .before .before .pre in
-    passing-last pre (c .before .loop .inv .0) (omega (arith, one-more pre, c .loop-test .left))
+    passing-last pre (c .before .loop .inv .0) (past pre (c .before .loop .inv .0) (omega (arith, c .loop-test .left)))
 
 pub pass-spec : {M : Type 1} → statement M
 pass-spec =
@@ -71,10 +77,9 @@ pass-spec =
     Inv-loop
     μ-loop
     loop-holds
-    add-loop
     (λ c. search needs)
     (λ c. search needs)
-    (λ c. search needs)
+    shared-slice-read-e
     cast-e
     pass-one-requires
     add-j
