@@ -39,8 +39,8 @@ returns-2 c =
     let sized = done .before .before .before .before .before .before .before .before .before .before .before in
     let start = sized .before .before .before .before .before .before .before .before .before .before .before .before .before .before in
     let args = start .args in
-    found-call (args .code .now) (args .frame .now) (args .wanted) (runAt start) _ _ starts-room members-room _ _ _ (sized .before .before .before .before .admit .ensures) _ _ _ (sized .answer2 .given .1)
-    _ _ (done .perform .ensures) (c .outcome-of .ensures)
+    found-call (args .code .now) (args .frame .now) (args .wanted) (runAt start) _ _ starts-room members-room
+    _ _ _ (sized .before .before .before .before .admit .ensures) _ _ _ (sized .answer2 .given .1) _ _ (done .perform .ensures) (c .outcome-of .ensures)
 
 pub rounds-spec : {M : Type 1} → statement M
 rounds-spec =
