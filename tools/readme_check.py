@@ -43,14 +43,15 @@ def run(lines, wanted):
     return None
 
 
-def untracked():
+def unignored():
+    """The files that git would tell of; nothing is told where there is no git repository."""
     listed = subprocess.run(["git", "status", "--porcelain"], cwd=ROOT, capture_output=True,
-                            text=True, check=True)
+                            text=True, check=False)
     return set(listed.stdout.splitlines())
 
 
 def main():
-    before, count = untracked(), 0
+    before, count = unignored(), 0
     for lines, wanted in examples((ROOT / "README.md").read_text(encoding="utf-8")):
         lacking = missing(lines)
         if lacking:
@@ -60,7 +61,7 @@ def main():
         if wrong is not None:
             sys.exit(f"readme: these lines don't do what README says:\n{lines}{wrong}")
         count += 1
-    left = untracked() - before
+    left = unignored() - before
     if left:
         sys.exit("readme: files that git does not ignore: " + ", ".join(sorted(left)))
     if count == 0:
