@@ -144,27 +144,27 @@ fn load(frame: &[i16], numbers: &mut [i64])
 }
 
 // A frame's number, negated under a negative spin.
-fn turned(x: i16, spin: i32) -> i64
+fn turned(x: i16, spin: i32) -> i32
     ensures { λ r. ⌜ (r ≡ turn (isNeg spin) x) × Within frameSize r ⌝ }
 {
     if spin < 0 {
-        return -(x as i64);
+        return -(x as i32);
     }
-    x as i64
+    x as i32
 }
 
-// The agreement of the word with ones at negative spins.
+// The agreement of the word with ones at negative spins. Its sum fits 32 bits, which takes fewer instructions than 64.
 fn agreed(frame: &[i16], spins: &[i32]) -> i64
     requires { ⌜ (length (now frame) ≡ length (now spins)) × (length (now spins) ≤ maxBits) ⌝ }
     ensures { λ r. ⌜ (r ≡ agreement (length (now (spins .entry))) (now (frame .entry)) (negatives (now (spins .entry)))) × Within (maxBits * frameSize) r ⌝ }
 {
-    let mut sum: i64 = 0;
+    let mut sum: i32 = 0;
     let mut i: usize = 0;
     while i < spins.len() {
         sum += turned(frame[i], spins[i]);
         i += 1;
     }
-    sum
+    sum as i64
 }
 
 // The bound: the sizes of the reduced numbers, which are worked out in the last slice, and the prices.
