@@ -1,6 +1,7 @@
 //! The forms that an alist may have, and codes that come back from their alist.
 
 use std::fs;
+use std::path::PathBuf;
 
 use jugnayap::{limits, Code};
 
@@ -152,12 +153,14 @@ fn generated_codes_come_back() {
 
 #[test]
 fn samples_are_their_code_files() {
-    for name in ["hamming", "array", "regular"] {
-        let folder = format!("{}/../samples/{name}", env!("CARGO_MANIFEST_DIR"));
-        let [alist, file] =
-            ["code.alist", "code.code"].map(|file| fs::read(format!("{folder}/{file}")).unwrap());
+    let samples = concat!(env!("CARGO_MANIFEST_DIR"), "/../samples");
+    let entries = fs::read_dir(samples).unwrap().map(|entry| entry.unwrap().path());
+    let folders: Vec<PathBuf> = entries.filter(|path| path.is_dir()).collect();
+    assert!(folders.len() >= 5, "{folders:?}");
+    for folder in folders {
+        let [alist, file] = ["code.alist", "code.code"].map(|file| fs::read(folder.join(file)).unwrap());
         let code = Code::from_alist(&alist).unwrap();
-        assert_eq!(code.file(), file, "{name}");
-        assert_eq!(code.to_alist().as_bytes(), alist, "{name}");
+        assert_eq!(code.file(), file, "{folder:?}");
+        assert_eq!(code.to_alist().as_bytes(), alist, "{folder:?}");
     }
 }
