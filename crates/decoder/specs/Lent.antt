@@ -3,20 +3,15 @@ use mathlib.Core.Path.{_≡_}
 use mathlib.Core.List.{List}
 use Prim.Native.Nat.{ℕ}
 use lib.IntN.{ℤ}
-use denote.Ref.{RefT}
-use denote.Triple.Both.{Both}
 use Rattle.rules.specs.Buffers.{lent, roundLent}
 use Rattle.rules.specs.Run.{Run, Called}
 use Rattle.run.specs.declared.Record.{Record}
 use Rattle.run.specs.Reply.{progressOf}
+use Rattle.run.specs.Slices.{Slice}
 use Rattle.decoder.specs.declared.Called as declared
 use Rattle.decoder.specs.Passed.{Passed, passedTo}
 use Rattle.decoder.specs.Finished.{Ending, endedTo}
 use Rattle.decoder.specs.Reply.{outcomeOf}
-
--- a slice that is lent: as it came, and as it is left
-abbrev pub Slice : Type 0 → Type 0
-Slice A = Both (RefT (List A)) (RefT (List A))
 
 -- a run in its record and its buffers: all of them, and those that a round writes
 abbrev pub runIn : Record → List ℤ → List ℤ → List ℤ → List ℕ → List ℕ → List ℕ → List ℕ → Run
