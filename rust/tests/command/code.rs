@@ -31,8 +31,13 @@ fn both_forms() {
 
 #[test]
 fn alists_as_they_come() {
-    let folder = Folder::with(&[("code", "\u{feff}# one bit\r\n1 1\r\n1 1\r\n1\r\n1\r\n1\r\n1\r\n")]);
-    assert_eq!(folder.run("code code").status, 0);
+    let folder = Folder::new();
+    for front in ["\u{feff}", "\u{feff}# one bit\n", "# für ein Bit\n", "#ü\n", "\n\n", "%\t"] {
+        let one = ONE.replace('\n', "\r\n");
+        folder.write("code", format!("{front}\n{one}"));
+        let done = folder.run("code code");
+        assert_eq!(done.status, 0, "{front:?}: {}", done.errors);
+    }
 }
 
 #[test]

@@ -26,11 +26,14 @@ pub enum Claim<'a> {
     Is(&'a [u8]),
 }
 
-/// Whether a file that begins so is text. No code file with such a second byte has at most 2,048 bits, no
-/// word has such a byte, and no certificate with such a fourth byte a scale of at most 1,023.
+/// Whether a file that begins so is text: its first byte is plain, the next three are, or are of letters
+/// beyond ASCII. No code file with such a second byte has at most 2,048 bits, no word has such a first byte,
+/// and no certificate with such a fourth byte has a scale of at most 1,023.
 fn is_text(front: &[u8]) -> bool {
     let plain = |byte: &u8| matches!(byte, b'\t' | b'\n' | b'\r' | b' '..=b'~');
-    front.starts_with(BYTE_ORDER_MARK) || (!front.is_empty() && front.iter().take(4).all(plain))
+    let readable = |byte: &u8| plain(byte) || !byte.is_ascii();
+    front.starts_with(BYTE_ORDER_MARK)
+        || (front.first().is_some_and(plain) && front.iter().take(4).all(readable))
 }
 
 /// A file that ends before another one.
