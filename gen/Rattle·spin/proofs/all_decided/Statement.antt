@@ -1,1 +1,0 @@
-pub use Rattle.spin.proofs.all_decided.Statement.{statement}

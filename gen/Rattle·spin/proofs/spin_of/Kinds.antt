@@ -1,1 +1,0 @@
-pub use Rattle.spin.proofs.spin_of.Kinds.{ps, r}

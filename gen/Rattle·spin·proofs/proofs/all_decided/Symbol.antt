@@ -1,2 +1,0 @@
-pub use Rattle.spin.proofs.all_decided.Code.{routine}
-pub use Rattle.spin.proofs.all_decided.Key.{name}

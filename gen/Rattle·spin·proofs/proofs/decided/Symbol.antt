@@ -1,2 +1,0 @@
-pub use Rattle.spin.proofs.decided.Code.{routine}
-pub use Rattle.spin.proofs.decided.Key.{name}

@@ -1,2 +1,0 @@
-pub use Rattle.spin.proofs.divided.Code.{routine}
-pub use Rattle.spin.proofs.divided.Key.{name}
