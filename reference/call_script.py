@@ -85,11 +85,11 @@ def take_back(whole, part):
 
 class Fill(namedtuple("Fill", [kept.element for kept in vars(KEPT).values()] + ["rounds", "status"],
                       defaults=[kept.junk for kept in vars(KEPT).values()] + [0, RUNNING])):
-    """Sets every element of every buffer, and the record.  The defaults are junk."""
+    """Sets the record, and every element of every buffer.  The defaults are junk."""
 
     def pack(self):
         elements = (kept.pack(value) for kept, value in zip(vars(KEPT).values(), self))
-        return u8(0) + b"".join(elements) + u32(self.rounds) + u8(STATUSES.index(self.status))
+        return u8(0) + u32(self.rounds) + u8(STATUSES.index(self.status)) + b"".join(elements)
 
     def play(self, program):
         program.whole = Buffers(*([value] * capacity
