@@ -22,21 +22,23 @@ abbrev μ-loop : tie.MeasureT-loop
 back : {A : Type 0} {size : ℕ} (p : List A) (n : ℕ) (l : List A) → length l ≡ size → length p ≡ length (take n l) → length (p ++ drop n l) ≡ size
 back p n l e h = length-front l p n h ∙ e
 
--- the beginning of a turn with a call, seen from the call, and of any other, seen from the next record
+-- states before, found by their types: the call, seen from the turn's end; the turn's beginning, seen from the call, or from the next record
+abbrev called : tie.After-print-called Inv-loop μ-loop → tie.After-rounds Inv-loop μ-loop
+called c = search
+
 abbrev calling : tie.After-rounds Inv-loop μ-loop → tie.In-loop Inv-loop μ-loop
-calling c = c .before .before .before .before .before .before .before .before .before .before .before .before .before .before .before
+calling c = search
 
 abbrev reading : tie.After-next Inv-loop μ-loop → tie.In-loop Inv-loop μ-loop
-reading c = c .before .before .before .before .before .before .before .before .before .before .before .before .before .before .before .before .before
+reading c = search
 
 loop-less : tie.Need-loop-less Inv-loop μ-loop
-loop-less c = omega (arith, calling (c .before .before .before .before .before .before .before .before) .loop-test .taken)
+loop-less c = omega (arith, calling (called c) .loop-test .taken)
 
 loop-again : tie.Need-loop-again Inv-loop μ-loop
 loop-again c =
-    let called = c .before .before .before .before .before .before .before .before in
-    let inv = calling called .before .loop .inv in
-    let kept = called .rounds .kept in (
+    let inv = calling (called c) .before .loop .inv in
+    let kept = called c .rounds .kept in (
       inv .0,
       inv .1,
       search (back, inv .2, kept),
