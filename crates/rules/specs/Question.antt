@@ -13,7 +13,7 @@ use Rattle.rules.specs.Cut.{cutReply}
 use Rattle.rules.specs.Bound.{bound}
 use Rattle.rules.specs.Certificate.{scaleOf, itemsOf, rowsAt}
 use Rattle.rules.specs.Judge.{judgeReply}
-use Rattle.rules.specs.Buffers.{Buffers, needs, startLent, blank}
+use Rattle.rules.specs.Buffers.{Buffers, lent, needs, startLent, blank}
 use Rattle.rules.specs.Run.{Status, Run, iterate, Called, call, statusValues, Started, start, progressValues}
 use Rattle.rules.specs.Calls.{Call, callList, startedRun, runAfter, countedIn}
 use Rattle.rules.specs.Report.{Line, frameLine}
@@ -54,6 +54,10 @@ pub data Said : Type 0 where
   places : List Place → Said
   counts : ℕ → ℕ → ℕ → Said
   nothing : Said
+
+-- with these spins, copies and offsets, multipliers and masks, word and certificate in the buffers
+abbrev pub leaving : Reply → ℕ → List ℤ → List ℤ → List ℤ → List ℕ → List ℕ → List ℕ → List ℕ → Said
+leaving a k s z y b m w c = shown a k (lent s z y b m w c)
 
 abbrev shownIn : Called → Said
 shownIn d = shown (replyOf statusValues (d .answer)) (d .run .progress .rounds) (d .run .buffers)
