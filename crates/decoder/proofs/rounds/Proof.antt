@@ -3,6 +3,7 @@ use Prim.Native.Nat.{_≤_, _<_}
 use native.Mathlib.Omega.{arith}
 use borrow.Author.Needs.{needs}
 use Rattle.rules.specs.Limits.{maxChecks, maxEdges}
+use Rattle.rules.specs.Buffers.{lent}
 use Rattle.rules.specs.Run.{Run}
 use Rattle.decoder.specs.Lent.{runIn}
 use Rattle.decoder.proofs.CallLaws.{found-refused, found-fit, found-call}
@@ -27,7 +28,7 @@ admitted c = search
 abbrev runAt : tie.Start → Run
 runAt s =
     let a = s .args in
-    runIn (a .run) (a .spins .now) (a .copies .now) (a .offsets .now) (a .multipliers .now) (a .masks .now) (a .word .now) (a .certificate .now)
+    runIn (a .run) (lent (a .spins .now) (a .copies .now) (a .offsets .now) (a .multipliers .now) (a .masks .now) (a .word .now) (a .certificate .now))
 
 perform-requires : tie.Need-perform-requires
 perform-requires c κs =
