@@ -20,11 +20,11 @@ use Rattle.rules.specs.Round.{total, divided, spin, round}
 use Rattle.rules.specs.Certificate.{certificateOf, itemsAt, follows, onItem, onItems, onCertificate}
 use Rattle.rules.specs.Judge.{verdict, judge, judgeReply}
 use Rattle.rules.specs.Scaled.{times, atScale}
-use Rattle.rules.specs.Buffers.{Buffers, lent, Lengths, needsBy, fits, fitsStart, blank}
+use Rattle.rules.specs.Buffers.{Buffers, Lengths, needsBy, fits, fitsStart, blank}
 use Rattle.rules.specs.Run.{running, certified, spent, Run, next, iterate, sound, admits, callOn, call, start}
 use Rattle.rules.specs.Calls.{Call, lentCall, countedBy}
 use Rattle.rules.specs.Report.{Line, certifiedLine, spentLine, frameLine}
-use Rattle.rules.specs.Question.{Question, fileIs, cutIs, judged, startIs, callIs, lineIs, listIs, countIs, Place, Said, reply, shown, leaving, line, places, counts, Case, asked, said, answerTo}
+use Rattle.rules.specs.Question.{Question, fileIs, cutIs, judged, startIs, callIs, lineIs, listIs, countIs, Place, Said, reply, shown, buffers, dirty, leaving, line, places, counts, Case, asked, said, answerTo}
 use Rattle.rules.specs.Frames.{threeBits, oneBit, frameA, withMultiplier, word000}
 
 abbrev no : ℕ → Reply
@@ -145,9 +145,6 @@ scales =
     ∷ []
 
 -- ---- calls on runs as they stand
-abbrev buffers : List ℤ → List ℤ → Buffers
-buffers z y = lent (pos 9 ∷ []) z y (8 ∷ []) (7 ∷ []) (6 ∷ []) (replicate 15 5)
-
 abbrev stands : ℕ → Rattle.rules.specs.Run.Status → Buffers → Run
 stands k s b = record { progress = record { rounds = k; status = s }; buffers = b }
 
@@ -203,9 +200,6 @@ full = needsBy 3 1 3
 
 abbrev tooShort : Lengths
 tooShort = needsBy 3 1 2
-
-abbrev dirty : ℤ → ℕ → Buffers
-dirty z n = lent (replicate 3 z) (replicate 4 z) (replicate 5 z) (replicate 1 n) (replicate 1 n) (replicate 3 n) (replicate 15 n)
 
 abbrev wants : ℕ → Lengths → Call
 wants v n = record { wanted = v; lent = n }
