@@ -8,6 +8,8 @@
 enum { BITS = 3, CHECKS = 1, EDGES = 3, CERTIFICATE = JUGNAYAP_CERTIFICATE_LENGTH(CHECKS) };
 enum { ROUNDS = JUGNAYAP_MAX_ROUNDS };
 
+#include "lent.h"
+
 static const uint8_t code[] = {3, 0, 1, 0, 0, 0, 3, 0, 0, 0, 1, 0, 2, 0};
 static const int16_t leaning[BITS] = {4000, 4000, -2000};
 static const JugnayapRun fresh = {.rounds = 0, .status = JUGNAYAP_RUNNING};
@@ -15,30 +17,12 @@ static const JugnayapRun fresh = {.rounds = 0, .status = JUGNAYAP_RUNNING};
 /* Each buffer is lent with one element more than is needed, and has one more that is not lent. */
 enum { LENT = 1, SPARE = 2 };
 
-/* The buffers of a call for rounds, in its order: elements, name, how many are needed, and the first of the
- * numbers that no call writes to it. */
-#define EACH_BUFFER(buffer) \
-    buffer(int32_t, spins, BITS, 10000000) \
-    buffer(int32_t, copies, EDGES, 20000000) \
-    buffer(int32_t, offsets, EDGES, 30000000) \
-    buffer(uint32_t, multipliers, CHECKS, 40000000) \
-    buffer(uint32_t, masks, CHECKS, 50000000) \
-    buffer(uint8_t, word, BITS, 100) \
-    buffer(uint8_t, certificate, CERTIFICATE, 200)
-
 #define ARRAY(element, name, need, first) element name[need + SPARE];
 typedef struct {
     EACH_BUFFER(ARRAY)
 } Buffers;
 
-#define LENGTH(element, name, need, first) size_t name;
-typedef struct {
-    EACH_BUFFER(LENGTH)
-} Lengths;
-
-#define NEEDED(element, name, need, first) need,
 #define MORE(element, name, need, first) need + LENT,
-static const Lengths needed = {EACH_BUFFER(NEEDED)};
 static const Lengths lent = {EACH_BUFFER(MORE)};
 static const Lengths none = {0};
 
@@ -125,7 +109,6 @@ static void starts(void)
 
 static JugnayapCalled rounds(const int16_t *frame, JugnayapRun run, uint32_t wanted, Lengths n, Buffers *b)
 {
-#define LEND(element, name, need, first) , b->name, n.name
     return jugnayap_rounds(code, sizeof code, frame, BITS, run, wanted EACH_BUFFER(LEND));
 }
 

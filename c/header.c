@@ -6,6 +6,16 @@
 #include "jugnayap.h"
 #include "same.h"
 
+/* Enough for any code. */
+enum {
+    BITS = JUGNAYAP_MAX_BITS,
+    CHECKS = JUGNAYAP_MAX_CHECKS,
+    EDGES = JUGNAYAP_MAX_EDGES,
+    CERTIFICATE = JUGNAYAP_MAX_CERTIFICATE
+};
+
+#include "lent.h"
+
 static void same_number(const char *call, uint32_t got, uint32_t wanted)
 {
     same(call, "number", 0, got, wanted);
@@ -129,20 +139,21 @@ static void frames_and_points(void)
     point_of(-JUGNAYAP_UNIT - 1, JUGNAYAP_REFUSED_POINT_WRONG);
 }
 
-/* ---- runs, in buffers that are enough for any code ---- */
+/* ---- runs ---- */
 
-static int32_t spins[JUGNAYAP_MAX_BITS], copies[JUGNAYAP_MAX_EDGES], offsets[JUGNAYAP_MAX_EDGES];
-static uint32_t multipliers[JUGNAYAP_MAX_CHECKS], masks[JUGNAYAP_MAX_CHECKS];
-static uint8_t word[JUGNAYAP_MAX_BITS], written[JUGNAYAP_MAX_CERTIFICATE];
+#define ARRAY(element, name, need, first) element name[need];
+static struct {
+    EACH_BUFFER(ARRAY)
+} left, *const b = &left;
 
 static JugnayapCalled decoded(const Code *code, const int16_t *frame, size_t bits, uint32_t wanted,
                               size_t room)
 {
+    Lengths n = needed;
+    n.certificate = room;
     JugnayapCalled start =
-        jugnayap_start(code->bytes, code->length, copies, COUNT(copies), offsets, COUNT(offsets));
-    return jugnayap_rounds(code->bytes, code->length, frame, bits, start.run, wanted, spins, COUNT(spins),
-                           copies, COUNT(copies), offsets, COUNT(offsets), multipliers, COUNT(multipliers),
-                           masks, COUNT(masks), word, COUNT(word), written, room);
+        jugnayap_start(code->bytes, code->length, left.copies, n.copies, left.offsets, n.offsets);
+    return jugnayap_rounds(code->bytes, code->length, frame, bits, start.run, wanted EACH_BUFFER(LEND));
 }
 
 /* A frame of zeros takes all rounds. */
@@ -150,15 +161,15 @@ static void rounds(void)
 {
     static const int16_t zeros[JUGNAYAP_MAX_BITS];
     const Code code = code_of(three), large = code_of(largest);
-    JugnayapCalled got = decoded(&code, zeros, 3, JUGNAYAP_MAX_ROUNDS, sizeof written);
+    JugnayapCalled got = decoded(&code, zeros, 3, JUGNAYAP_MAX_ROUNDS, CERTIFICATE);
     same_number("all rounds", got.number, 0);
     same("all rounds", "rounds", 0, got.run.rounds, JUGNAYAP_MAX_ROUNDS);
     same("all rounds", "status", 0, got.run.status, JUGNAYAP_SPENT);
-    got = decoded(&code, zeros, 3, JUGNAYAP_MAX_ROUNDS + 1, sizeof written);
+    got = decoded(&code, zeros, 3, JUGNAYAP_MAX_ROUNDS + 1, CERTIFICATE);
     same_number("a round more", got.number, JUGNAYAP_REFUSED_ASKED_TOO_MUCH);
-    got = decoded(&large, zeros, JUGNAYAP_MAX_BITS, 1, JUGNAYAP_MAX_CERTIFICATE);
+    got = decoded(&large, zeros, BITS, 1, CERTIFICATE);
     same_number("the longest certificate", got.number, 0);
-    got = decoded(&large, zeros, JUGNAYAP_MAX_BITS, 1, JUGNAYAP_MAX_CERTIFICATE - 1);
+    got = decoded(&large, zeros, BITS, 1, CERTIFICATE - 1);
     same_number("a byte less", got.number, JUGNAYAP_REFUSED_BUFFER_SHORT);
 }
 
@@ -169,13 +180,13 @@ static void written_length(void)
     int16_t frame[900];
     for (size_t i = 0; i < COUNT(frame); i++)
         frame[i] = i % 3 < 2 ? 4000 : -2000;
-    same("300 cuts", "status", 0, decoded(&code, frame, COUNT(frame), 3, sizeof written).run.status,
+    same("300 cuts", "status", 0, decoded(&code, frame, COUNT(frame), 3, CERTIFICATE).run.status,
          JUGNAYAP_CERTIFIED);
-    const size_t length = jugnayap_certificate_length(written);
+    const size_t length = jugnayap_certificate_length(left.certificate);
     same("300 cuts", "length", 0, (int64_t)length, JUGNAYAP_CERTIFICATE_LENGTH(300));
     same_verdict("300 cuts",
-                 jugnayap_judge(code.bytes, code.length, frame, COUNT(frame), word, COUNT(frame), written,
-                                length),
+                 jugnayap_judge(code.bytes, code.length, frame, COUNT(frame), left.word, COUNT(frame),
+                                left.certificate, length),
                  (JugnayapVerdict){.kind = JUGNAYAP_PASSED});
 }
 

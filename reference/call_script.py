@@ -16,16 +16,17 @@ from packing import block, counted, i32, u8, u32
 from rounds import CERTIFIED, RUNNING, SPENT, Buffers, Record, buffer_lengths
 from table import parse_code_file
 
-# A buffer of the program: its elements' name, how many there are, how one is packed, and junk.
-Kept = namedtuple("Kept", "element capacity pack junk")
+# A buffer of the program: its elements' name, how many there are, how one is packed, junk, and
+# a number as far as one goes.
+Kept = namedtuple("Kept", "element capacity pack junk extreme")
 
-KEPT = Buffers(spins=Kept("spin", 2100, i32, -7),
-               copies=Kept("copy", 8300, i32, 9999),
-               offsets=Kept("offset", 8300, i32, 123456),
-               multipliers=Kept("multiplier", 2100, u32, 77),
-               masks=Kept("mask", 2100, u32, 88),
-               word=Kept("word", 2100, u8, 3),
-               certificate=Kept("certificate", 20600, u8, 170))
+KEPT = Buffers(spins=Kept("spin", 2100, i32, -7, -2**31),
+               copies=Kept("copy", 8300, i32, 9999, 2**31 - 1),
+               offsets=Kept("offset", 8300, i32, 123456, -2**31),
+               multipliers=Kept("multiplier", 2100, u32, 77, 2**32 - 1),
+               masks=Kept("mask", 2100, u32, 88, 2**32 - 1),
+               word=Kept("word", 2100, u8, 3, 255),
+               certificate=Kept("certificate", 20600, u8, 170, 255))
 CAPACITY = Buffers(*(kept.capacity for kept in vars(KEPT).values()))
 STATUSES = (RUNNING, CERTIFIED, SPENT)
 
@@ -85,11 +86,11 @@ def take_back(whole, part):
 
 class Fill(namedtuple("Fill", [kept.element for kept in vars(KEPT).values()] + ["rounds", "status"],
                       defaults=[kept.junk for kept in vars(KEPT).values()] + [0, RUNNING])):
-    """Sets every element of every buffer, and the record.  The defaults are junk."""
+    """Sets the record, and every element of every buffer.  The defaults are junk."""
 
     def pack(self):
         elements = (kept.pack(value) for kept, value in zip(vars(KEPT).values(), self))
-        return u8(0) + b"".join(elements) + u32(self.rounds) + u8(STATUSES.index(self.status))
+        return u8(0) + u32(self.rounds) + u8(STATUSES.index(self.status)) + b"".join(elements)
 
     def play(self, program):
         program.whole = Buffers(*([value] * capacity

@@ -5,8 +5,8 @@ from itertools import cycle
 import make_inputs as inputs
 import make_runs
 import make_tables as tables
-from call_script import (CAPACITY, CallRounds, Fill, PutEdge, StartRun, UseCode, UseFrame, calls,
-                         changed, exact, fresh, longer, opening)
+from call_script import (CAPACITY, KEPT, CallRounds, Fill, PutEdge, StartRun, UseCode, UseFrame,
+                         calls, changed, exact, fresh, longer, opening)
 from make_tables import code_file
 from rounds import CERTIFIED, SPENT
 from table import FRAME_LIMIT, UNIT
@@ -31,8 +31,7 @@ LATE_RUNS = [(1024, TWO_TRIANGLES, [6, -6, -4, 3, 5]), (1024, TWO_TRIANGLES, [4,
 
 def document_runs():
     """Document 01's frames round by round, until the ended run refuses."""
-    extremes = Fill(spin=-2**31, copy=2**31 - 1, offset=-2**31, multiplier=2**32 - 1,
-                    mask=2**32 - 1, word=255, certificate=255)
+    extremes = Fill(*(kept.extreme for kept in vars(KEPT).values()))
     script = []
     for table, frame in DOCUMENT_RUNS:
         script += fresh(table, frame) + calls([1] * 4, exact(table))

@@ -130,8 +130,8 @@ def read_call(reader):
     """One record of case_calls, by its first byte."""
     op = reader.field("B")
     if op == 0:
-        *values, status = reader.fields(ELEMENTS + "IB")
-        return Fill(*values, ("running", "certified", "spent")[status])
+        done, status, *values = reader.fields("IB" + ELEMENTS)
+        return Fill(*values, done, ("running", "certified", "spent")[status])
     if op == 1:
         return UseCode(reader.block())
     if op == 2:

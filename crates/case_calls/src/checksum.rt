@@ -1,4 +1,4 @@
-// The checksum of the seven buffers: h times 1,099,511,628,211 plus the element, modulo 2^64, over
+// The checksum of all buffers: h times 1,099,511,628,211 plus the element, modulo 2^64, over
 // all elements as unsigned numbers.
 use super::BITS;
 use super::CERTIFICATE;

@@ -13,7 +13,6 @@ use stream::read_part;
 use stream::whole;
 ghost use Prim.Native.Nat.{_+_, _≤_};
 ghost use lib.ListN.{length};
-ghost use Rattle.case_calls.specs.Room.{Room};
 
 pub(crate) const SET: u8 = 0;
 
@@ -32,8 +31,8 @@ pub(crate) const CALLED: u8 = 6;
 
 const END: u8 = 7;
 
-// The longest fields: those of a call for rounds.
-pub(crate) const FIELDS_LIMIT: usize = 32;
+// Room for the fields of any record.
+pub(crate) const FIELDS_LIMIT: usize = 64;
 
 // How much of the code file and of the frame is there goes on from record to record.
 pub(crate) struct Command {
@@ -43,8 +42,9 @@ pub(crate) struct Command {
     pub frame: usize,
 }
 
-// A set: the element that fills each buffer, and the record of the run.
+// A set: the record of the run, and the element that fills each buffer.
 pub(crate) struct Fill {
+    pub run: Record,
     pub spin: i32,
     pub copy: i32,
     pub offset: i32,
@@ -52,7 +52,6 @@ pub(crate) struct Fill {
     pub mask: u32,
     pub word: u8,
     pub certificate: u8,
-    pub run: Record,
 }
 
 // A call for rounds: the rounds wanted, and how much of each input and buffer is lent.
@@ -71,7 +70,7 @@ pub(crate) struct Parts {
 
 // A code file and a frame have their lengths with them.
 fn fields_size(operation: u8) -> usize
-    ensures { λ r. ⌜ r ≤ 32 ⌝ }
+    ensures { λ r. ⌜ r ≤ 64 ⌝ }
 {
     match operation {
         0 => 27,
@@ -89,7 +88,7 @@ impl Command {
     }
 
     pub(crate) fn number(self, at: usize) -> u32
-        requires { ⌜ at + 4 ≤ 32 ⌝ }
+        requires { ⌜ at + 4 ≤ 64 ⌝ }
     {
         u32_of(
             self.fields[at],
@@ -100,14 +99,14 @@ impl Command {
     }
 
     pub(crate) fn signed(self, at: usize) -> i32
-        requires { ⌜ at + 4 ≤ 32 ⌝ }
+        requires { ⌜ at + 4 ≤ 64 ⌝ }
     {
         i32_of(self.number(at))
     }
 
     // How many elements are lent: never more than there are.
     pub(crate) fn lent(self, at: usize, room: usize) -> usize
-        requires { ⌜ at + 4 ≤ 32 ⌝ }
+        requires { ⌜ at + 4 ≤ 64 ⌝ }
         ensures { λ r. ⌜ r ≤ room ⌝ }
     {
         least(self.number(at) as usize, room)
@@ -115,23 +114,24 @@ impl Command {
 
     pub(crate) fn fill(self) -> Fill {
         let run = Record {
-            rounds: self.number(22),
-            status: status_of(self.fields[26]),
+            rounds: self.number(0),
+            status: status_of(self.fields[4]),
         };
         Fill {
-            spin: self.signed(0),
-            copy: self.signed(4),
-            offset: self.signed(8),
-            multiplier: self.number(12),
-            mask: self.number(16),
-            word: self.fields[20],
-            certificate: self.fields[21],
             run,
+            spin: self.signed(5),
+            copy: self.signed(9),
+            offset: self.signed(13),
+            multiplier: self.number(17),
+            mask: self.number(21),
+            word: self.fields[25],
+            certificate: self.fields[26],
         }
     }
 
     pub(crate) fn parts(self, code: usize, frame: usize) -> Parts
-        ensures { λ r. ⌜ Room code frame r ⌝ }
+        ensures { λ r. ⌜ (r .code ≤ code) × (r .frame ≤ frame)
+            × (r .spins ≤ 2100) × (r .copies ≤ 8300) × (r .offsets ≤ 8300) × (r .multipliers ≤ 2100) × (r .masks ≤ 2100) × (r .word ≤ 2100) × (r .certificate ≤ 20600) ⌝ }
     {
         Parts {
             wanted: self.number(0),
@@ -171,7 +171,7 @@ fn read_fields(fields: &mut [u8], size: usize) -> bool
 
 // The end, too, where the operation is none of the script's or its fields are cut short.
 fn read_operation(fields: &mut [u8]) -> u8
-    requires { ⌜ 32 ≤ length (now fields) ⌝ }
+    requires { ⌜ 64 ≤ length (now fields) ⌝ }
 {
     if !read_fields(fields, 1) {
         return END;

@@ -1,16 +1,16 @@
-// Plays the reference's script of starts and calls for rounds. One record of the run and seven
+// Plays the reference's script of starts and calls for rounds. One record of the run and its
 // buffers go on from call to call; a call is lent the first so many elements of each. Standard input
 // holds records, an operation (one byte) and its fields:
 //
-//     0 set     the element that fills each buffer; the rounds done and the status
+//     0 set     the rounds done and the status; the element that fills each buffer
 //     1 code    a length, at most 30,000, and a code file
 //     2 frame   a count, at most 2,100, and frame numbers
 //     3 start   how many copies and offsets are lent
 //     4 rounds  the rounds wanted, and how many elements of each buffer are lent
 //     5 put     1 for copies or 2 for offsets; an index and an element
 //
-// A start and a call for rounds get a line: the answer, the record of the run and a checksum of the
-// seven whole buffers. A code file or a frame that is not whole is empty. The end of the input, an
+// A start and a call for rounds get a line: the answer, the record of the run and a checksum of all
+// whole buffers. A code file or a frame that is not whole is empty. The end of the input, an
 // operation that is none of these or fields that are cut short end the program.
 mod calls;
 mod checksum;

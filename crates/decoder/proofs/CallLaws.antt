@@ -22,7 +22,8 @@ use Rattle.table.proofs.LayoutLaws.{laid-opened}
 use Rattle.cut.proofs.ReplyLaws.{each-all}
 use Rattle.run.specs.declared.Admitted.{Admitted}
 use Rattle.run.specs.declared.Admitted.the-variants.{Refused, Sized}
-use Rattle.run.specs.Admitted.{Sizes, lentOf, toldOf, admittedOf, sizesOf, Admission, admissionBy, admission}
+use Rattle.run.specs.Slices.{lentOf, toldOf}
+use Rattle.run.specs.Admitted.{Sizes, admittedOf, sizesOf, Admission, admissionBy, admission}
 use Rattle.run.proofs.AdmitLaws.{Admits, admits-refused, admits-gives, admission-room, sound-safe}
 use Rattle.decoder.specs.Finished.{frontTable, PartsFit}
 

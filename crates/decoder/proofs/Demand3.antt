@@ -14,7 +14,7 @@ use Rattle.rules.specs.Refusal.{Answer, refused, gives, then, must, bufferShort
 use Rattle.rules.specs.Table.{Table}
 use Rattle.rules.specs.Parity.{plus, turns, Codeword}
 use Rattle.rules.specs.CodeFile.{codeFile}
-use Rattle.rules.specs.Buffers.{Buffers, Lengths, lengthsOf, partOf, overAll, zeroed, startLent, fitsStart}
+use Rattle.rules.specs.Buffers.{Buffers, lent, Lengths, lengthsOf, partOf, overAll, zeroed, startLent, fitsStart}
 use Rattle.rules.specs.Run.{Progress, Run, Called, call, Started, startBy, start, fresh}
 use Rattle.rules.specs.Calls.{Call, lend, giveBack, lentCall, callList, startOn, startedRun, wantedIn}
 use Rattle.rules.specs.Demand3.{Best, FreshStart, AllLent, listFrom, CertifiesOn, SamePlaces, RoundsDone, Demand3}
@@ -37,10 +37,10 @@ use Rattle.decoder.proofs.rounds.Met.{met as rounds-met}
 
 -- ---- one call of each, of which its contract holds
 pub record StartCall : Type 0 where
-  pub lives : Lfts 3
+  pub lives : Lfts (st.signature .lifetimes)
   pub args : ArgsD st.signature lives
   pub result : ResD st.signature lives
-  pub exit : Clauses.AtExit (endedOf 3 st-kinds.ps st-kinds.r) lives
+  pub exit : Clauses.AtExit (endedOf (st.signature .lifetimes) st-kinds.ps st-kinds.r) lives
   pub holds : st-reads.Post lives args result exit
 
 abbrev pub startsFile : StartCall → List ℕ
@@ -53,10 +53,10 @@ abbrev pub startGave : StartCall → Started
 startGave x = record { answer = startedOf (x .result); buffers = startLent (now (x .exit .1 .0)) (now (x .exit .1 .1 .0)) }
 
 pub record RoundsCall : Type 0 where
-  pub lives : Lfts 9
+  pub lives : Lfts (rd.signature .lifetimes)
   pub args : ArgsD rd.signature lives
   pub result : ResD rd.signature lives
-  pub exit : Clauses.AtExit (endedOf 9 rd-kinds.ps rd-kinds.r) lives
+  pub exit : Clauses.AtExit (endedOf (rd.signature .lifetimes) rd-kinds.ps rd-kinds.r) lives
   pub holds : rd-reads.Post lives args result exit
 
 abbrev pub roundsFile : RoundsCall → List ℕ
@@ -72,7 +72,7 @@ abbrev pub roundsRun : RoundsCall → Run
 roundsRun x =
     let b = x .args .1 .1 .1 .1 in
     runIn (x .args .1 .1 .0)
-    (now (b .0)) (now (b .1 .0)) (now (b .1 .1 .0)) (now (b .1 .1 .1 .0)) (now (b .1 .1 .1 .1 .0)) (now (b .1 .1 .1 .1 .1 .0)) (now (b .1 .1 .1 .1 .1 .1 .0))
+    (lent (now (b .0)) (now (b .1 .0)) (now (b .1 .1 .0)) (now (b .1 .1 .1 .0)) (now (b .1 .1 .1 .1 .0)) (now (b .1 .1 .1 .1 .1 .0)) (now (b .1 .1 .1 .1 .1 .1 .0)))
 
 abbrev pub roundsGave : RoundsCall → Called
 roundsGave x =
@@ -80,7 +80,7 @@ roundsGave x =
     record {
       answer = outcomeOf (x .result .outcome);
       run = runIn (x .result .run)
-          (now (b .0)) (now (b .1 .0)) (now (b .1 .1 .0)) (now (b .1 .1 .1 .0)) (now (b .1 .1 .1 .1 .0)) (now (b .1 .1 .1 .1 .1 .0)) (now (b .1 .1 .1 .1 .1 .1 .0));
+          (lent (now (b .0)) (now (b .1 .0)) (now (b .1 .1 .0)) (now (b .1 .1 .1 .0)) (now (b .1 .1 .1 .1 .0)) (now (b .1 .1 .1 .1 .1 .0)) (now (b .1 .1 .1 .1 .1 .1 .0)));
     }
 
 -- what the contracts say, by document 01's definitions

@@ -3,7 +3,8 @@ use mathlib.Core.Path.{_≡_}
 use mathlib.Core.List.{List}
 use Prim.Native.Nat.{ℕ}
 use lib.IntN.{ℤ}
-use Rattle.rules.specs.Buffers.{lent, roundLent}
+use denote.Triple.Both.{Both}
+use Rattle.rules.specs.Buffers.{Buffers, roundLent}
 use Rattle.rules.specs.Run.{Run, Called}
 use Rattle.run.specs.declared.Record.{Record}
 use Rattle.run.specs.Reply.{progressOf}
@@ -14,17 +15,15 @@ use Rattle.decoder.specs.Finished.{Ending, endedTo}
 use Rattle.decoder.specs.Reply.{outcomeOf}
 
 -- a run in its record and its buffers: all of them, and those that a round writes
-abbrev pub runIn : Record → List ℤ → List ℤ → List ℤ → List ℕ → List ℕ → List ℕ → List ℕ → Run
-runIn p s z y b k w c = record { progress = progressOf p; buffers = lent s z y b k w c }
+abbrev pub runIn : Record → Buffers → Run
+runIn p b = record { progress = progressOf p; buffers = b }
 
 abbrev pub loopIn : Record → List ℤ → List ℤ → List ℤ → List ℕ → List ℕ → Run
-loopIn p s z y b k = record { progress = progressOf p; buffers = roundLent s z y b k }
+loopIn p s z y b k = runIn p (roundLent s z y b k)
 
--- ---- f makes what is left, record q and slices, of what came, record p and the same slices
-abbrev pub RunBecomes : (Run → Run) → Record → Record → Slice ℤ → Slice ℤ → Slice ℤ → Slice ℕ → Slice ℕ → Slice ℕ → Slice ℕ → Type 0
-RunBecomes f p q s z y b k w c =
-    runIn q (s .exit .now) (z .exit .now) (y .exit .now) (b .exit .now) (k .exit .now) (w .exit .now) (c .exit .now)
-    ≡ f (runIn p (s .entry .now) (z .entry .now) (y .entry .now) (b .entry .now) (k .entry .now) (w .entry .now) (c .entry .now))
+-- ---- f makes what is left, record q and buffers, of what came, record p and the same buffers
+abbrev pub RunBecomes : (Run → Run) → Record → Record → Both Buffers Buffers → Type 0
+RunBecomes f p q b = runIn q (b .exit) ≡ f (runIn p (b .entry))
 
 abbrev pub LoopBecomes : (Run → Run) → Record → Record → Slice ℤ → Slice ℤ → Slice ℤ → Slice ℕ → Slice ℕ → Type 0
 LoopBecomes f p q s z y b k =
@@ -32,13 +31,8 @@ LoopBecomes f p q s z y b k =
     ≡ f (loopIn p (s .entry .now) (z .entry .now) (y .entry .now) (b .entry .now) (k .entry .now))
 
 -- the same with the call's answer
-abbrev pub CallBecomes : (Run → Called) → Record → declared.Called → Slice ℤ → Slice ℤ → Slice ℤ → Slice ℕ → Slice ℕ → Slice ℕ → Slice ℕ → Type 0
-CallBecomes f p a s z y b k w c =
-    (record {
-      answer = outcomeOf (a .outcome);
-      run = runIn (a .run) (s .exit .now) (z .exit .now) (y .exit .now) (b .exit .now) (k .exit .now) (w .exit .now) (c .exit .now);
-    })
-    ≡ f (runIn p (s .entry .now) (z .entry .now) (y .entry .now) (b .entry .now) (k .entry .now) (w .entry .now) (c .entry .now))
+abbrev pub CallBecomes : (Run → Called) → Record → declared.Called → Both Buffers Buffers → Type 0
+CallBecomes f p a b = (record { answer = outcomeOf (a .outcome); run = runIn (a .run) (b .exit) }) ≡ f (runIn p (b .entry))
 
 -- what a pass writes, and what the end of a run writes
 abbrev pub PassBecomes : (Passed → Passed) → Slice ℤ → Slice ℤ → Slice ℕ → Slice ℕ → Type 0

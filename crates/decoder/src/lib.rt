@@ -21,6 +21,7 @@ use run::Admitted;
 use run::Lent;
 use run::Record;
 ghost use Rattle.rules.specs.Run as rule;
+ghost use Rattle.run.specs.Slices.{slices};
 ghost use Rattle.decoder.specs.Lent.{CallBecomes};
 
 // The answer of a call for rounds: a refusal's number, or how the run stands.
@@ -51,7 +52,7 @@ pub fn rounds(
     word: &mut [u8],
     certificate: &mut [u8],
 ) -> Called
-    ensures { λ r. ⌜ CallBecomes (rule.call (now (code .entry)) (now (frame .entry)) wanted) run r spins copies offsets multipliers masks word certificate ⌝ }
+    ensures { λ r. ⌜ CallBecomes (rule.call (now (code .entry)) (now (frame .entry)) wanted) run r (slices spins copies offsets multipliers masks word certificate) ⌝ }
 {
     let mut starts = [0u16; MAX_CHECKS + 1];
     let mut members = [0u16; MAX_EDGES];

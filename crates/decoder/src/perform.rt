@@ -8,8 +8,10 @@ use writing::write_certificate;
 use writing::write_word;
 ghost use mathlib.Core.Path.{_≡_};
 ghost use Rattle.rules.specs.Refusal.{gives};
+ghost use Rattle.rules.specs.Buffers.{lent};
 ghost use Rattle.rules.specs.Run.{iterate};
 ghost use Rattle.run.specs.Reply.{statusOf};
+ghost use Rattle.run.specs.Slices.{slices};
 ghost use Rattle.decoder.specs.Finished.{finished, FinishFits, frontTable, PartsFit};
 ghost use Rattle.decoder.specs.Reply.{outcomeOf};
 ghost use Rattle.decoder.specs.Lent.{runIn, RunBecomes, EndBecomes};
@@ -68,9 +70,9 @@ pub(crate) fn perform(
     certificate: &mut [u8],
 ) -> Record
     requires { ⌜ PartsFit n m e (now frame) (now starts) (now members)
-        (runIn run (now spins) (now copies) (now offsets) (now multipliers) (now masks) (now word) (now certificate)) ⌝ }
+        (runIn run (lent (now spins) (now copies) (now offsets) (now multipliers) (now masks) (now word) (now certificate))) ⌝ }
     ensures { λ r. ⌜ RunBecomes (iterate (frontTable n m e (now (starts .entry)) (now (members .entry))) (now (frame .entry)) wanted)
-        run r spins copies offsets multipliers masks word certificate ⌝ }
+        run r (slices spins copies offsets multipliers masks word certificate) ⌝ }
 {
     let end = m + 1;
     let degrees = count_degrees(&members[..e]);

@@ -7,7 +7,8 @@ use lib.ListN.{getD}
 use lib.IntN.{ℤ, pos, natAbs}
 use Rattle.rules.specs.Limits.{roundLimit}
 use Rattle.rules.specs.Refusal.{Answer, refused, gives, Reply, replyOf}
-use Rattle.rules.specs.Buffers.{Buffers, lent, startLent}
+use denote.Triple.Both.{Both}
+use Rattle.rules.specs.Buffers.{Buffers, startLent}
 use Rattle.rules.specs.Run.{Status, running, certified, spent, statusNumber, statusValues, Progress, progressValues, Run, Called, call, Started, start}
 use Rattle.run.specs.Slices.{Slice, came, left}
 use Rattle.jugnayap.specs.declared.JugnayapTable.{JugnayapTable}
@@ -111,6 +112,5 @@ callNumbers file l wanted h b = callLeft h (call file l wanted (runFrom h b))
 abbrev pub StartBecomes : (Buffers → Left) → JugnayapCalled → Slice ℤ → Slice ℤ → Type 0
 StartBecomes f r z y = leftAs r (startLent (left z) (left y)) ≡ f (startLent (came z) (came y))
 
-abbrev pub CallBecomes : (Buffers → Left) → JugnayapCalled → Slice ℤ → Slice ℤ → Slice ℤ → Slice ℕ → Slice ℕ → Slice ℕ → Slice ℕ → Type 0
-CallBecomes f r s z y b k w c =
-    leftAs r (lent (left s) (left z) (left y) (left b) (left k) (left w) (left c)) ≡ f (lent (came s) (came z) (came y) (came b) (came k) (came w) (came c))
+abbrev pub CallBecomes : (Buffers → Left) → JugnayapCalled → Both Buffers Buffers → Type 0
+CallBecomes f r b = leftAs r (b .exit) ≡ f (b .entry)

@@ -34,10 +34,10 @@ use Rattle.decoder.proofs.Demand3.{RoundsCall, roundsFile, roundsFrame, roundsW
 
 -- ---- a call of `judge` of which its contract holds
 pub record JudgeCall : Type 0 where
-  pub lives : Lfts 4
+  pub lives : Lfts (jd.signature .lifetimes)
   pub args : ArgsD jd.signature lives
   pub result : ResD jd.signature lives
-  pub exit : Clauses.AtExit (endedOf 4 jd-kinds.ps jd-kinds.r) lives
+  pub exit : Clauses.AtExit (endedOf (jd.signature .lifetimes) jd-kinds.ps jd-kinds.r) lives
   pub holds : jd-reads.Post lives args result exit
 
 abbrev pub judgesFile : JudgeCall → List ℕ

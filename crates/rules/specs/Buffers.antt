@@ -25,44 +25,54 @@ pub data Buffer : Type 0 where
   word : Buffer
   certificate : Buffer
 
+-- signed numbers or not
+pub data Sign : Type 0 where
+  signed : Sign
+  unsigned : Sign
+
+abbrev pub signOf : Buffer → Sign
+signOf spins = signed
+signOf copies = signed
+signOf offsets = signed
+signOf multipliers = unsigned
+signOf masks = unsigned
+signOf word = unsigned
+signOf certificate = unsigned
+
+abbrev Number : Sign → Type 0
+Number signed = ℤ
+Number unsigned = ℕ
+
+abbrev noughtOf : (a : Sign) → Number a
+noughtOf signed = pos 0
+noughtOf unsigned = 0
+
 abbrev pub Elem : Buffer → Type 0
-Elem spins = ℤ
-Elem copies = ℤ
-Elem offsets = ℤ
-Elem multipliers = ℕ
-Elem masks = ℕ
-Elem word = ℕ
-Elem certificate = ℕ
+Elem x = Number (signOf x)
 
 abbrev pub nought : (x : Buffer) → Elem x
-nought spins = pos 0
-nought copies = pos 0
-nought offsets = pos 0
-nought multipliers = 0
-nought masks = 0
-nought word = 0
-nought certificate = 0
+nought x = noughtOf (signOf x)
 
-pub record Buffers : Type 0 where
-  pub spins : List ℤ
-  pub copies : List ℤ
-  pub offsets : List ℤ
-  pub multipliers : List ℕ
-  pub masks : List ℕ
-  pub word : List ℕ
-  pub certificate : List ℕ
+-- something of each, and so of any
+pub record Each (P : Buffer → Type 0) : Type 0 where
+  pub spins : P spins
+  pub copies : P copies
+  pub offsets : P offsets
+  pub multipliers : P multipliers
+  pub masks : P masks
+  pub word : P word
+  pub certificate : P certificate
 
--- by its name; and all of them, each made from its name
-abbrev pub the : (x : Buffer) → Buffers → List (Elem x)
-the spins b = b .spins
-the copies b = b .copies
-the offsets b = b .offsets
-the multipliers b = b .multipliers
-the masks b = b .masks
-the word b = b .word
-the certificate b = b .certificate
+abbrev pub by-name : {P : Buffer → Type 0} → Each P → (x : Buffer) → P x
+by-name e spins = e .spins
+by-name e copies = e .copies
+by-name e offsets = e .offsets
+by-name e multipliers = e .multipliers
+by-name e masks = e .masks
+by-name e word = e .word
+by-name e certificate = e .certificate
 
-abbrev pub each : ((x : Buffer) → List (Elem x)) → Buffers
+abbrev pub each : {P : Buffer → Type 0} → ((x : Buffer) → P x) → Each P
 each f = record {
   spins = f spins;
   copies = f copies;
@@ -76,24 +86,12 @@ each f = record {
 abbrev pub every : (Buffer → Bool) → Bool
 every p = p spins && (p copies && (p offsets && (p multipliers && (p masks && (p word && p certificate)))))
 
--- something of each, and so of any
-pub record Each (P : Buffer → Type 0) : Type 0 where
-  pub spins : P spins
-  pub copies : P copies
-  pub offsets : P offsets
-  pub multipliers : P multipliers
-  pub masks : P masks
-  pub word : P word
-  pub certificate : P certificate
+-- the buffers, and one by its name
+abbrev pub Buffers : Type 0
+Buffers = Each (λ x. List (Elem x))
 
-pub by-name : {P : Buffer → Type 0} → Each P → (x : Buffer) → P x
-by-name e spins = e .spins
-by-name e copies = e .copies
-by-name e offsets = e .offsets
-by-name e multipliers = e .multipliers
-by-name e masks = e .masks
-by-name e word = e .word
-by-name e certificate = e .certificate
+abbrev pub the : (x : Buffer) → Buffers → List (Elem x)
+the x b = by-name b x
 
 -- as a call is lent them, in the order of its parameters
 abbrev pub lent : List ℤ → List ℤ → List ℤ → List ℕ → List ℕ → List ℕ → List ℕ → Buffers
@@ -153,14 +151,28 @@ abbrev pub write : Writes → Buffers → Buffers
 write w b = each (λ x. overBy (w x) (the x b))
 
 -- ---- a start: "Starting a run zeroes the first E copies and offsets"
+-- the first that a run lends it to: a start; a round; its end, "Certified writes word and certificate"
+pub data Stage : Type 0 where
+  start : Stage
+  round : Stage
+  end : Stage
+
+abbrev pub lentFrom : Buffer → Stage
+lentFrom spins = round
+lentFrom copies = start
+lentFrom offsets = start
+lentFrom multipliers = round
+lentFrom masks = round
+lentFrom word = end
+lentFrom certificate = end
+
+abbrev atStart : Stage → Bool
+atStart start = true
+atStart round = false
+atStart end = false
+
 abbrev pub zeroed : Buffer → Bool
-zeroed spins = false
-zeroed copies = true
-zeroed offsets = true
-zeroed multipliers = false
-zeroed masks = false
-zeroed word = false
-zeroed certificate = false
+zeroed x = atStart (lentFrom x)
 
 abbrev pub zeros : ℕ → List ℤ
 zeros e = replicate e (pos 0)
@@ -206,15 +218,14 @@ abbrev pub certificateLeft : Option (List Bool) → List Entry → Option (List 
 certificateLeft none es = none
 certificateLeft (some w) es = some (certificateOf es)
 
--- those that a round is not lent: word and certificate, which only the end of a run writes
+-- those that a round is not lent, which only the end of a run writes
+abbrev past : Stage → Bool
+past start = false
+past round = false
+past end = true
+
 abbrev pub atEnd : Buffer → Bool
-atEnd spins = false
-atEnd copies = false
-atEnd offsets = false
-atEnd multipliers = false
-atEnd masks = false
-atEnd word = true
-atEnd certificate = true
+atEnd x = past (lentFrom x)
 
 -- the buffers that every round writes, in the order of a call's parameters
 abbrev pub roundLent : List ℤ → List ℤ → List ℤ → List ℕ → List ℕ → Buffers

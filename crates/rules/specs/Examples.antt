@@ -24,7 +24,7 @@ use Rattle.rules.specs.Buffers.{Buffers, Lengths, needsBy, fits, fitsSta
 use Rattle.rules.specs.Run.{running, certified, spent, Run, next, iterate, sound, admits, callOn, call, start}
 use Rattle.rules.specs.Calls.{Call, lentCall, countedBy}
 use Rattle.rules.specs.Report.{Line, certifiedLine, spentLine, frameLine}
-use Rattle.rules.specs.Question.{Question, fileIs, cutIs, judged, startIs, callIs, lineIs, listIs, countIs, Place, Said, reply, shown, line, places, counts, Case, asked, said, answerTo}
+use Rattle.rules.specs.Question.{Question, fileIs, cutIs, judged, startIs, callIs, lineIs, listIs, countIs, Place, Said, reply, shown, buffers, dirty, leaving, line, places, counts, Case, asked, said, answerTo}
 use Rattle.rules.specs.Frames.{threeBits, oneBit, frameA, withMultiplier, word000}
 
 abbrev no : ℕ → Reply
@@ -145,17 +145,6 @@ scales =
     ∷ []
 
 -- ---- calls on runs as they stand
-abbrev buffers : List ℤ → List ℤ → Buffers
-buffers z y = record {
-  spins = pos 9 ∷ [];
-  copies = z;
-  offsets = y;
-  multipliers = 8 ∷ [];
-  masks = 7 ∷ [];
-  word = 6 ∷ [];
-  certificate = 5 ∷ 5 ∷ 5 ∷ 5 ∷ 5 ∷ 5 ∷ 5 ∷ 5 ∷ 5 ∷ 5 ∷ 5 ∷ 5 ∷ 5 ∷ 5 ∷ 5 ∷ [];
-}
-
 abbrev stands : ℕ → Rattle.rules.specs.Run.Status → Buffers → Run
 stands k s b = record { progress = record { rounds = k; status = s }; buffers = b }
 
@@ -182,15 +171,9 @@ calls =
     (shown (yes (pos 0 ∷ [])) 1 (buffers (pos 4096 ∷ []) (negsuc 8191 ∷ [])))
     -- round 1,024 without a certificate: spent
     ∷ row (callIs oneBit (pos 0 ∷ []) 1024 (stands 1023 running (buffers (pos 0 ∷ []) (pos 0 ∷ []))))
-    (shown (yes (pos 2 ∷ [])) 1024 (record {
-      spins = pos 0 ∷ [];
-      copies = pos 4096 ∷ [];
-      offsets = negsuc 4095 ∷ [];
-      multipliers = 4096 ∷ [];
-      masks = 1 ∷ [];
-      word = 6 ∷ [];
-      certificate = 5 ∷ 5 ∷ 5 ∷ 5 ∷ 5 ∷ 5 ∷ 5 ∷ 5 ∷ 5 ∷ 5 ∷ 5 ∷ 5 ∷ 5 ∷ 5 ∷ 5 ∷ [];
-    }))
+    (leaving (yes (pos 2 ∷ [])) 1024
+    (pos 0 ∷ []) (pos 4096 ∷ []) (negsuc 4095 ∷ [])
+    (4096 ∷ []) (1 ∷ []) (6 ∷ []) (replicate 15 5))
     ∷ []
 
 -- ---- rounds that tell a plausible error from the rule
@@ -198,26 +181,16 @@ calls =
 rounds : List Case
 rounds =
     row (callIs (onBit0 2) (negsuc 4 ∷ []) 1 (stands 0 running (blank (needsBy 1 2 2))))
-    (shown (yes (pos 0 ∷ [])) 1 (record {
-      spins = negsuc 1 ∷ [];
-      copies = pos 4096 ∷ pos 4096 ∷ [];
-      offsets = negsuc 4097 ∷ negsuc 4097 ∷ [];
-      multipliers = 4098 ∷ 4098 ∷ [];
-      masks = 1 ∷ 1 ∷ [];
-      word = 0 ∷ [];
-      certificate = replicate 24 0;
-    }))
+    (leaving (yes (pos 0 ∷ [])) 1
+    (negsuc 1 ∷ []) (pos 4096 ∷ pos 4096 ∷ []) (negsuc 4097 ∷ negsuc 4097 ∷ [])
+    (4098 ∷ 4098 ∷ []) (1 ∷ 1 ∷ []) (0 ∷ []) (replicate 24 0))
     -- checks 0 3, 0 1 and 0 1 2: round 5's candidate 1101 meets all checks with gap 2598, and 0000 is certified in round 14
     ∷ row (callIs fourBits frameD 5 (stands 0 running (blank (needsBy 4 3 7))))
-    (shown (yes (pos 0 ∷ [])) 5 (record {
-      spins = negsuc 477 ∷ negsuc 583 ∷ pos 4096 ∷ negsuc 599 ∷ [];
-      copies = negsuc 538 ∷ negsuc 538 ∷ negsuc 530 ∷ negsuc 530 ∷ negsuc 513 ∷ negsuc 547 ∷ pos 4060 ∷ [];
-      offsets = negsuc 8498 ∷ pos 8499 ∷ pos 1737 ∷ negsuc 1736 ∷ pos 1359 ∷ negsuc 1358 ∷ pos 1359 ∷ [];
-      multipliers = 8499 ∷ 1737 ∷ 1359 ∷ [];
-      masks = 1 ∷ 2 ∷ 2 ∷ [];
-      word = replicate 4 0;
-      certificate = replicate 34 0;
-    }))
+    (leaving (yes (pos 0 ∷ [])) 5
+    (negsuc 477 ∷ negsuc 583 ∷ pos 4096 ∷ negsuc 599 ∷ [])
+    (negsuc 538 ∷ negsuc 538 ∷ negsuc 530 ∷ negsuc 530 ∷ negsuc 513 ∷ negsuc 547 ∷ pos 4060 ∷ [])
+    (negsuc 8498 ∷ pos 8499 ∷ pos 1737 ∷ negsuc 1736 ∷ pos 1359 ∷ negsuc 1358 ∷ pos 1359 ∷ [])
+    (8499 ∷ 1737 ∷ 1359 ∷ []) (1 ∷ 2 ∷ 2 ∷ []) (replicate 4 0) (replicate 34 0))
     ∷ row (lineIs fourBits frameD) (line (certifiedLine 14 (pos 6400) 3))
     ∷ []
 
@@ -227,17 +200,6 @@ full = needsBy 3 1 3
 
 abbrev tooShort : Lengths
 tooShort = needsBy 3 1 2
-
-abbrev dirty : ℤ → ℕ → Buffers
-dirty z n = record {
-  spins = replicate 3 z;
-  copies = replicate 4 z;
-  offsets = replicate 5 z;
-  multipliers = replicate 1 n;
-  masks = replicate 1 n;
-  word = replicate 3 n;
-  certificate = replicate 15 n;
-}
 
 abbrev wants : ℕ → Lengths → Call
 wants v n = record { wanted = v; lent = n }

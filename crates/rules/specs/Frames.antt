@@ -19,7 +19,7 @@ use Rattle.rules.specs.Certificate.{certificateOf, itemsAt, follows, onI
 use Rattle.rules.specs.Judge.{verdict, judge, judgeReply}
 use Rattle.rules.specs.Buffers.{Buffers, fits, fitsStart}
 use Rattle.rules.specs.Run.{next, iterate, sound, admits, callOn, call, start}
-use Rattle.rules.specs.Question.{Question, shows, boundIs, judged, Said, reply, shown, number, Case, asked, said, answerTo}
+use Rattle.rules.specs.Question.{Question, shows, boundIs, judged, Said, reply, leaving, number, Case, asked, said, answerTo}
 
 -- "One check on bits 0, 1, 2", as the code file of document 01's frame report; and "one check on one bit"
 unfoldable pub threeBits : List ℕ
@@ -62,51 +62,27 @@ pub cases : List Case
 cases =
     record {
       ask = shows threeBits frameA 1;
-      say = shown running 1 (record {
-        spins = pos 4000 ∷ pos 4000 ∷ negsuc 1999 ∷ [];
-        copies = pos 2032 ∷ pos 2032 ∷ negsuc 31 ∷ [];
-        offsets = pos 1968 ∷ pos 1968 ∷ negsuc 1967 ∷ [];
-        multipliers = 1968 ∷ [];
-        masks = 4 ∷ [];
-        word = word000;
-        certificate = blank14;
-      });
+      say = leaving running 1
+          (pos 4000 ∷ pos 4000 ∷ negsuc 1999 ∷ []) (pos 2032 ∷ pos 2032 ∷ negsuc 31 ∷ []) (pos 1968 ∷ pos 1968 ∷ negsuc 1967 ∷ [])
+          (1968 ∷ []) (4 ∷ []) word000 blank14;
     }
     ∷ record {
       ask = shows threeBits frameA 2;
-      say = shown running 2 (record {
-        spins = pos 4064 ∷ pos 4064 ∷ negsuc 63 ∷ [];
-        copies = pos 2698 ∷ pos 2698 ∷ pos 1302 ∷ [];
-        offsets = pos 3334 ∷ pos 3334 ∷ negsuc 3333 ∷ [];
-        multipliers = 3334 ∷ [];
-        masks = 4 ∷ [];
-        word = word000;
-        certificate = blank14;
-      });
+      say = leaving running 2
+          (pos 4064 ∷ pos 4064 ∷ negsuc 63 ∷ []) (pos 2698 ∷ pos 2698 ∷ pos 1302 ∷ []) (pos 3334 ∷ pos 3334 ∷ negsuc 3333 ∷ [])
+          (3334 ∷ []) (4 ∷ []) word000 blank14;
     }
     ∷ record {
       ask = shows threeBits frameA 1024;
-      say = shown certified 3 (record {
-        spins = pos 3364 ∷ pos 3364 ∷ pos 2636 ∷ [];
-        copies = pos 3365 ∷ pos 3365 ∷ pos 2635 ∷ [];
-        offsets = pos 3333 ∷ pos 3333 ∷ negsuc 3332 ∷ [];
-        multipliers = 3333 ∷ [];
-        masks = 4 ∷ [];
-        word = word000;
-        certificate = 0x01 ∷ 0x00 ∷ 0x01 ∷ 0x00 ∷ 0x00 ∷ 0x00 ∷ 0x05 ∷ 0x0D ∷ 0x00 ∷ 0x00 ∷ 0x04 ∷ 0x00 ∷ 0x00 ∷ 0x00 ∷ [];
-      });
+      say = leaving certified 3
+          (pos 3364 ∷ pos 3364 ∷ pos 2636 ∷ []) (pos 3365 ∷ pos 3365 ∷ pos 2635 ∷ []) (pos 3333 ∷ pos 3333 ∷ negsuc 3332 ∷ [])
+          (3333 ∷ []) (4 ∷ []) word000 (0x01 ∷ 0x00 ∷ 0x01 ∷ 0x00 ∷ 0x00 ∷ 0x00 ∷ 0x05 ∷ 0x0D ∷ 0x00 ∷ 0x00 ∷ 0x04 ∷ 0x00 ∷ 0x00 ∷ 0x00 ∷ []);
     }
     ∷ record {
       ask = shows threeBits frameB 1024;
-      say = shown certified 3 (record {
-        spins = negsuc 3363 ∷ negsuc 3363 ∷ pos 2636 ∷ [];
-        copies = negsuc 3364 ∷ negsuc 3364 ∷ pos 2635 ∷ [];
-        offsets = negsuc 3332 ∷ negsuc 3332 ∷ negsuc 3332 ∷ [];
-        multipliers = 3333 ∷ [];
-        masks = 7 ∷ [];
-        word = 1 ∷ 1 ∷ 0 ∷ [];
-        certificate = 0x01 ∷ 0x00 ∷ 0x01 ∷ 0x00 ∷ 0x00 ∷ 0x00 ∷ 0x05 ∷ 0x0D ∷ 0x00 ∷ 0x00 ∷ 0x07 ∷ 0x00 ∷ 0x00 ∷ 0x00 ∷ [];
-      });
+      say = leaving certified 3
+          (negsuc 3363 ∷ negsuc 3363 ∷ pos 2636 ∷ []) (negsuc 3364 ∷ negsuc 3364 ∷ pos 2635 ∷ []) (negsuc 3332 ∷ negsuc 3332 ∷ negsuc 3332 ∷ [])
+          (3333 ∷ []) (7 ∷ []) (1 ∷ 1 ∷ 0 ∷ []) (0x01 ∷ 0x00 ∷ 0x01 ∷ 0x00 ∷ 0x00 ∷ 0x00 ∷ 0x05 ∷ 0x0D ∷ 0x00 ∷ 0x00 ∷ 0x07 ∷ 0x00 ∷ 0x00 ∷ 0x00 ∷ []);
     }
     ∷ record { ask = judged threeBits frameA word000 (withMultiplier 0xCF 0x07); say = reply (gapOf 2) }
     ∷ record { ask = judged threeBits frameA word000 (withMultiplier 0xD0 0x07); say = reply certified }
@@ -114,15 +90,9 @@ cases =
     ∷ record { ask = judged threeBits frameA word000 (withMultiplier 0xA1 0x0F); say = reply (gapOf 4) }
     ∷ record {
       ask = shows oneBit frameC 1024;
-      say = shown certified 2 (record {
-        spins = pos 4096 ∷ [];
-        copies = pos 4096 ∷ [];
-        offsets = negsuc 4100 ∷ [];
-        multipliers = 4101 ∷ [];
-        masks = 1 ∷ [];
-        word = 0 ∷ [];
-        certificate = 0x01 ∷ 0x00 ∷ 0x01 ∷ 0x00 ∷ 0x00 ∷ 0x00 ∷ 0x05 ∷ 0x10 ∷ 0x00 ∷ 0x00 ∷ 0x01 ∷ 0x00 ∷ 0x00 ∷ 0x00 ∷ [];
-      });
+      say = leaving certified 2
+          (pos 4096 ∷ []) (pos 4096 ∷ []) (negsuc 4100 ∷ [])
+          (4101 ∷ []) (1 ∷ []) (0 ∷ []) (0x01 ∷ 0x00 ∷ 0x01 ∷ 0x00 ∷ 0x00 ∷ 0x00 ∷ 0x05 ∷ 0x10 ∷ 0x00 ∷ 0x00 ∷ 0x01 ∷ 0x00 ∷ 0x00 ∷ 0x00 ∷ []);
     }
     ∷ record { ask = boundIs oneBit frameC 1024; say = number (negsuc 4) }
     ∷ []

@@ -3,8 +3,8 @@
 use mathlib.Core.Bool.{Bool}
 use mathlib.Core.List.{List, [], _∷_}
 use Prim.Native.Nat.{ℕ}
-use lib.ListN.{take}
-use lib.IntN.{ℤ}
+use lib.ListN.{take, replicate}
+use lib.IntN.{ℤ, pos}
 use Rattle.rules.specs.Limits.{roundLimit}
 use Rattle.rules.specs.Refusal.{Answer, refused, gives, Reply, replyOf}
 use Rattle.rules.specs.Table.{Table}
@@ -13,7 +13,7 @@ use Rattle.rules.specs.Cut.{cutReply}
 use Rattle.rules.specs.Bound.{bound}
 use Rattle.rules.specs.Certificate.{scaleOf, itemsOf, rowsAt}
 use Rattle.rules.specs.Judge.{judgeReply}
-use Rattle.rules.specs.Buffers.{Buffers, needs, startLent, blank}
+use Rattle.rules.specs.Buffers.{Buffers, lent, needs, startLent, blank}
 use Rattle.rules.specs.Run.{Status, Run, iterate, Called, call, statusValues, Started, start, progressValues}
 use Rattle.rules.specs.Calls.{Call, callList, startedRun, runAfter, countedIn}
 use Rattle.rules.specs.Report.{Line, frameLine}
@@ -55,6 +55,19 @@ pub data Said : Type 0 where
   counts : ℕ → ℕ → ℕ → Said
   nothing : Said
 
+-- ---- the buffers of examples, listed here alone
+-- of one bit and one check, with these copies and offsets; and of three bits and one check, with one number in those of either sign
+abbrev pub buffers : List ℤ → List ℤ → Buffers
+buffers z y = lent (pos 9 ∷ []) z y (8 ∷ []) (7 ∷ []) (6 ∷ []) (replicate 15 5)
+
+abbrev pub dirty : ℤ → ℕ → Buffers
+dirty z n = lent (replicate 3 z) (replicate 4 z) (replicate 5 z) (replicate 1 n) (replicate 1 n) (replicate 3 n) (replicate 15 n)
+
+-- what a call leaves: spins, copies and offsets, multipliers and masks, word and certificate
+abbrev pub leaving : Reply → ℕ → List ℤ → List ℤ → List ℤ → List ℕ → List ℕ → List ℕ → List ℕ → Said
+leaving a k s z y b m w c = shown a k (lent s z y b m w c)
+
+-- ---- answers
 abbrev shownIn : Called → Said
 shownIn d = shown (replyOf statusValues (d .answer)) (d .run .progress .rounds) (d .run .buffers)
 

@@ -15,7 +15,7 @@ use Rattle.rules.specs.Table.{Table, edgesOf, checksOf}
 use Rattle.rules.specs.CodeFile.{codeFile, tableValues}
 use Rattle.rules.specs.Input.{eachWithin, onFrame}
 use Rattle.rules.specs.Round.{State}
-use Rattle.rules.specs.Buffers.{Each, by-name, Lengths, needs, fits, Part}
+use Rattle.rules.specs.Buffers.{Each, by-name, each, Lengths, needs, fits}
 use Rattle.rules.specs.Run.{Progress, Run, isRunning, sound, stateIn, admits}
 use Rattle.rules.proofs.Basics.{and-both}
 use Rattle.rules.proofs.BufferLaws.{fits-part, part-fits}
@@ -34,11 +34,11 @@ use Rattle.run.specs.Admitted.{Sizes, sizesAs, sizesOf, needsOf, endedRe
 
 -- ---- 41
 module _ (a b : Lengths) where
-  pub short : (Part a b → ⊥) → false ≡ fits a b
+  pub short : (Each (λ x. a x ≤ b x) → ⊥) → false ≡ fits a b
   short h = go (fits a b) refl
     where
       go : (x : Bool) → fits a b ≡ x → false ≡ x
-      go true e = absurd (h (fits-part a b e))
+      go true e = absurd (h (each (fits-part a b e)))
       go false e = refl
 
   pub long : Each (λ x. a x ≤ b x) → true ≡ fits a b

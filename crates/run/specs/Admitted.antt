@@ -4,42 +4,22 @@ use mathlib.Core.Bool.{cond}
 use mathlib.Core.List.{List}
 use Prim.Native.Nat.{ℕ}
 use lib.Dec.{leb}
-use lib.ListN.{length, take}
+use lib.ListN.{take}
 use lib.IntN.{ℤ}
 use Rattle.rules.specs.Limits.{roundLimit}
 use Rattle.rules.specs.Refusal.{Answer, refused, gives, must, then, askedTooMuch, bufferShort, runEnded, runDamaged}
 use Rattle.rules.specs.Table.{Table, edges, edgesOf, checksOf}
 use Rattle.rules.specs.Round.{State}
-use Rattle.rules.specs.Buffers.{spins, copies, offsets, multipliers, masks, word, certificate, Buffers, Lengths, needsBy, fits, over}
+use Rattle.rules.specs.Buffers.{Lengths, needsBy, fits, over}
 use Rattle.rules.specs.Run.{Status, Progress, isRunning, sound}
 use Rattle.rules.specs.CodeFile.{codeFile}
 use Rattle.table.specs.Starts.{startsOf}
 use Rattle.table.specs.Loaded.{withRoom}
 use Rattle.inputs.specs.Refusals.{frameRefusal, turnedDown}
-use Rattle.run.specs.Slices.{Slice, came, left}
+use Rattle.run.specs.Slices.{Slice, came, left, lentOf}
 use Rattle.run.specs.declared.Lent.{Lent}
 use Rattle.run.specs.declared.Admitted.{Admitted}
 use Rattle.run.specs.declared.Admitted.the-variants.{Refused, Sized}
-
--- what is lent: of copies z and offsets y the length is read, of the others it is told
-abbrev pub lentOf : Lent → List ℤ → List ℤ → Lengths
-lentOf b z y spins = b .spins
-lentOf b z y copies = length z
-lentOf b z y offsets = length y
-lentOf b z y multipliers = b .multipliers
-lentOf b z y masks = b .masks
-lentOf b z y word = b .word
-lentOf b z y certificate = b .certificate
-
--- what a call tells of its buffers
-abbrev pub toldOf : Buffers → Lent
-toldOf b = record {
-  spins = length (b .spins);
-  multipliers = length (b .multipliers);
-  masks = length (b .masks);
-  word = length (b .word);
-  certificate = length (b .certificate);
-}
 
 -- n, m and E
 pub record Sizes : Type 0 where

@@ -15,7 +15,8 @@ ghost use Rattle.rules.specs.Limits.{maxChecks};
 ghost use Rattle.rules.specs.Buffers.{startLent, needsBy, fits};
 ghost use Rattle.rules.specs.Run as rule;
 ghost use Rattle.run.specs.Reply.{progressOf, startedOf};
-ghost use Rattle.run.specs.Admitted.{lentOf, admissionLent, AdmitBecomes};
+ghost use Rattle.run.specs.Slices.{lentOf};
+ghost use Rattle.run.specs.Admitted.{admissionLent, AdmitBecomes};
 
 // "whether the run is running, certified or spent"
 pub enum Status {

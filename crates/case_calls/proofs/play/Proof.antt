@@ -1,52 +1,65 @@
 -- `play` meets its contract: the buffers keep their lengths, and the budget falls. Assumes nothing.
+use mathlib.Core.Path.{_≡_, _∙_}
+use mathlib.Core.List.{List, _++_}
+use Prim.Native.Nat.{ℕ}
 use native.Mathlib.Omega.{arith}
-use lib.ListN.{length-take}
+use lib.ListN.{length, take, drop, length-take}
+use lib.Seq.{length-front}
 use borrow.Author.Needs.{needs}
-use Rattle.case_calls.proofs.Held.{Lengths, back, after-edges}
 use Rattle.case_calls.proofs.play.Statement.{statement}
 use Rattle.case_calls.proofs.play.Tie as tie
 
+-- the lengths of the inputs and of the buffers
 abbrev Inv-loop : tie.InvT-loop
-Inv-loop code₀ frame₀ spins₀ copies₀ offsets₀ multipliers₀ masks₀ word₀ certificate₀ run₀ command₀ left₀ code frame spins copies offsets multipliers masks word certificate run command left =
-    Lengths code₀ code frame₀ frame spins copies offsets multipliers masks word certificate
+Inv-loop code₀ frame₀ s₀ z₀ y₀ b₀ k₀ w₀ q₀ run₀ command₀ left₀ code frame s z y b k w q run command left =
+    (length code ≡ length code₀) × (length frame ≡ length frame₀)
+    × (length s ≡ 2100) × (length z ≡ 8300) × (length y ≡ 8300) × (length b ≡ 2100) × (length k ≡ 2100) × (length w ≡ 2100) × (length q ≡ 20600)
 
 abbrev μ-loop : tie.MeasureT-loop
-μ-loop code₀ frame₀ spins₀ copies₀ offsets₀ multipliers₀ masks₀ word₀ certificate₀ run₀ command₀ left₀ code frame spins copies offsets multipliers masks word certificate run command left = left
+μ-loop code₀ frame₀ s₀ z₀ y₀ b₀ k₀ w₀ q₀ run₀ command₀ left₀ code frame s z y b k w q run command left = left
+
+-- a part that comes back as long as it was lent leaves the whole as long as it was
+back : {A : Type 0} {size : ℕ} (p : List A) (n : ℕ) (l : List A) → length l ≡ size → length p ≡ length (take n l) → length (p ++ drop n l) ≡ size
+back p n l e h = length-front l p n h ∙ e
+
+-- states before, found by their types: the call, seen from the turn's end; the turn's beginning, seen from the call, or from the next record
+abbrev called : tie.After-print-called Inv-loop μ-loop → tie.After-rounds Inv-loop μ-loop
+called c = search
+
+abbrev calling : tie.After-rounds Inv-loop μ-loop → tie.In-loop Inv-loop μ-loop
+calling c = search
+
+abbrev reading : tie.After-next Inv-loop μ-loop → tie.In-loop Inv-loop μ-loop
+reading c = search
 
 loop-less : tie.Need-loop-less Inv-loop μ-loop
-loop-less c =
-    let called = c .before .before .before .before .before .before .before .before in
-    omega (arith, called .before .before .before .before .before .before .before .before .before .before .before .before .before .before .before .loop-test .taken)
+loop-less c = omega (arith, calling (called c) .loop-test .taken)
 
 loop-again : tie.Need-loop-again Inv-loop μ-loop
 loop-again c =
-    let called = c .before .before .before .before .before .before .before .before in
-    let inv = called .before .before .before .before .before .before .before .before .before .before .before .before .before .before .before .before .loop .inv in
-    let kept = called .rounds .kept in
-    record {
-      code-kept = inv .code-kept;
-      frame-kept = inv .frame-kept;
-      spins = search (back, inv .spins, kept);
-      copies = search (back, inv .copies, kept);
-      offsets = search (back, inv .offsets, kept);
-      multipliers = search (back, inv .multipliers, kept);
-      masks = search (back, inv .masks, kept);
-      word = search (back, inv .word, kept);
-      certificate = search (back, inv .certificate, kept);
-    }
+    let inv = calling (called c) .before .loop .inv in
+    let kept = called c .rounds .kept in (
+      inv .0,
+      inv .1,
+      search (back, inv .2, kept),
+      search (back, inv .3, kept),
+      search (back, inv .4, kept),
+      search (back, inv .5, kept),
+      search (back, inv .6, kept),
+      search (back, inv .7, kept),
+      search (back, inv .8, kept),
+    )
 
 loop-less-2 : tie.Need-loop-less-2 Inv-loop μ-loop
-loop-less-2 c =
-    let read = c .before .before .before .before .before .before .before .before .before in
-    omega (arith, read .before .before .before .before .before .before .before .before .before .before .before .before .before .before .before .before .before .loop-test .taken)
+loop-less-2 c = omega (arith, reading (c .before .before .before .before .before .before .before .before .before) .loop-test .taken)
 
 loop-again-2 : tie.Need-loop-again-2 Inv-loop μ-loop
 loop-again-2 c =
-    let kept = c .before .before .before .before .before .before .before .before .before .next .kept in
-    let inv =
-    c .before .before .before .before .before .before .before .before .before .before .before .before .before .before
-    .before .before .before .before .before .before .before .before .before .before .before .before .before .loop .inv in
-    search (after-edges inv, kept)
+    let read = c .before .before .before .before .before .before .before .before .before in
+    let inv = reading read .before .loop .inv in
+    let inputs = read .next .kept in
+    let edges = c .before .before .on-edges .kept in
+    (inputs .1 .0 ∙ inv .0, inputs .1 .1 .0 ∙ inv .1, inv .2, edges .1 .1 .1 .0 ∙ inv .3, edges .1 .1 .1 .1 .0 ∙ inv .4, inv .5, inv .6, inv .7, inv .8)
 
 pub play-spec : {M : Type 1} → statement M
 play-spec =
@@ -84,8 +97,8 @@ play-spec =
     (λ c κs. search needs)
     (λ c κs. search needs)
     (λ c κs. search needs)
-    (λ c. search needs)
-    (λ c. search needs)
+    (λ c. search (needs, reading (c .before .before .before .before .before) .before .loop .inv))
+    (λ c. search (needs, reading (c .before .before .before .before .before .before) .before .loop .inv))
     (λ c κs. search needs)
     loop-less-2
     loop-again-2

@@ -4,15 +4,15 @@ use Rattle.jugnayap.proofs.RunLaws.{call-left}
 use Rattle.jugnayap.proofs.jugnayap_rounds.Statement.{statement}
 use Rattle.jugnayap.proofs.jugnayap_rounds.Tie as tie
 
--- the rounds and the record, seen from the answer, and the call's beginning, seen from the record
+-- states before, found by their types: the rounds and the record, seen from the answer, and the call's beginning, seen from the record
 abbrev ran : tie.After-called-numbers → tie.After-rounds
-ran c = c .before .before .before .before .before .before .before .before .before .before .before .before
+ran c = search
 
 abbrev handed : tie.After-called-numbers → tie.After-record-of
-handed c = ran c .before .before .before .before .before .before .before .before
+handed c = search (ran c)
 
 abbrev begun : tie.After-record-of → tie.Start
-begun c = c .before .before .before .before .before .before
+begun c = search
 
 returns : tie.Need-returns
 returns c = call-left (begun (handed c) .args .run) _ _ _ _ _ _ _ (c .called-numbers .ensures) (ran c .rounds .ensures) (handed c .record-of .ensures)

@@ -6,6 +6,10 @@ use Rattle.reporting.proofs.LineLaws.{ran-refused, ran-started}
 use Rattle.reporting.proofs.decode.Statement.{statement}
 use Rattle.reporting.proofs.decode.Tie as tie
 
+-- the state with the fresh record, seen from the rounds: found by its type
+abbrev fresh : tie.After-rounds → tie.After-started2
+fresh c = search
+
 returns : tie.Need-returns
 unfolding lentWith
 returns c =
@@ -17,8 +21,8 @@ returns c =
 returns-2 : tie.Need-returns-2
 unfolding lentWith
 returns-2 c =
-    let done = c .before .before .before .before .before .before .before .before .before in
-    let known = done .before .before .before .before .before .before .before .before .before in
+    let done : tie.After-rounds = search in
+    let known = fresh done in
     let begun = known .before .before .before .before in
     let args = begun .before .before .before .before .before .before .args in
     ran-started (args .code .now) (args .frame .now) (lentWith (args .word .now) (args .certificate .now)) (omega arith) (omega arith)
