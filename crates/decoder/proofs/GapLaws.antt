@@ -87,7 +87,7 @@ module _ {ss ms bs ks : List ℕ} {ls : List ℤ} (f : RowsFit ss ms bs ks ls) (
     is = ap (λ x. take (getD ss (j + 1) 0 - x) (drop x ms)) begins ∙ part-is (length ls) ss ms (f .holds) j (check h)
 
     few : length part ≤ maxDegree
-    few = subst (λ l. length l ≤ maxDegree) (sym is) (part-degree (length ls) ss ms (f .holds) j (check h) .1)
+    few = subst (λ l. length l ≤ maxDegree) (sym is) (part-degree (length ls) ss ms (f .holds) j (check h))
 
     pub row-fits : {new : List ℤ} → length new ≡ length ls → EachWithin sizeLimit new → RowFits (getD bs j 0) part new
     row-fits e w = record {

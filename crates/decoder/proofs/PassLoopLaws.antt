@@ -158,7 +158,7 @@ module _ {n : ℕ} {ss ms : List ℕ} {s z y : List ℤ} {bs ks : List ℕ} (fit
         multiplierThere = omega (arith, multipliers-long);
         maskThere = omega (arith, masks-long);
         step = record {
-          few = subst (λ l. length l ≤ maxDegree) (sym members-are) (part-degree n ss ms (fits .holds) j h .1);
+          few = subst (λ l. length l ≤ maxDegree) (sym members-are) (part-degree n ss ms (fits .holds) j h);
           below = subst (λ l. Below (length s) l) (sym members-are) (subst (λ k. Below k (getD cs j [])) (sym (fits .size)) (part-below n ss ms (fits .holds) j h));
           copiesLong = part-length (from j) (from (j + 1)) (q .copies) (omega (arith, end-in, copies-long)) ∙ sym (part-length (from j) (from (j + 1)) ms end-in);
           offsetsLong = part-length (from j) (from (j + 1)) (q .offsets) (omega (arith, end-in, offsets-long)) ∙ sym (part-length (from j) (from (j + 1)) ms end-in);

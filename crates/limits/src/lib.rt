@@ -4,13 +4,11 @@ pub mod refusals;
 // U: spin +U is bit 0, spin −U is bit 1
 pub const UNIT: i32 = 4096;
 
-// "n and m are 1 to 2,048, a count (degree) 1 to 32, E at most 8,192, and each bit stands in 1 to 32
-// checks"
+// "n and m are 1 to 2,048", a count (degree) at most 32, "E at most 8,192, and each bit stands in 1 to
+// 32 checks"
 pub const MAX_BITS: usize = 2048;
 
 pub const MAX_CHECKS: usize = 2048;
-
-pub const MIN_DEGREE: usize = 1;
 
 pub const MAX_DEGREE: usize = 32;
 

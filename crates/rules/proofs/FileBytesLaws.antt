@@ -9,7 +9,7 @@ use lib.Dec.{leb, eqb}
 use lib.ListN.{length, drop, length-append}
 use lib.Seq.{drop-drop}
 use borrow.Author.Tests.{lt-ltb, le-leb, eq-eqb}
-use Rattle.rules.specs.Limits.{maxBits, maxChecks, minDegree, maxDegree, maxEdges, maxBitDegree, contentsEnd, fileLength}
+use Rattle.rules.specs.Limits.{maxBits, maxChecks, maxDegree, maxEdges, maxBitDegree, contentsEnd, fileLength}
 use Rattle.rules.specs.Refusal.{gives, headerShort, sizeRange, countRange, startWrong, lengthWrong, memberWrong, bitDegree}
 use Rattle.rules.specs.Bytes.{u16Limit, u16At}
 use Rattle.rules.specs.Table.{Table, edges, edgesOf, degreeOf}
@@ -127,7 +127,7 @@ range-pass lo hi x h = ap₂ _&&_ (le-leb lo x (h .0)) (le-leb x hi (h .1))
 counts-pass : (s : ℕ) (cs : List (List ℕ)) → Degrees cs → countsRight (contentsOf s (counts cs)) ≡ true
 unfolding countsRight
 counts-pass s [] h = refl
-counts-pass s (ms ∷ cs) h = ap₂ _&&_ (range-pass minDegree maxDegree (length ms) (h .0)) (counts-pass (s + length ms) cs (h .1))
+counts-pass s (ms ∷ cs) h = ap₂ _&&_ (le-leb (length ms) maxDegree (h .0)) (counts-pass (s + length ms) cs (h .1))
 
 starts-pass : (s : ℕ) (ds : List ℕ) → startsRight s (contentsOf s ds) ≡ true
 unfolding startsRight

@@ -33,6 +33,7 @@ use Rattle.rules.proofs.Signs.{length-alike}
 use Rattle.rules.proofs.Masks.{mask-odd, set-length}
 use Rattle.rules.proofs.AnswerLaws.{must-gives, then-gives, Followed, gives-inj, range-both}
 use Rattle.rules.proofs.Tables.{file-sound}
+use Rattle.rules.proofs.Pass.{Good}
 use Rattle.rules.proofs.Duality.{Kept, AllKept}
 use Rattle.rules.proofs.Optimal.{Implied, gap-nonneg, gap-optimal, isZero-is}
 
@@ -130,15 +131,19 @@ keeps-at d f [] j h k = absurd (not-suc-le-zero h)
 keeps-at d f (ms ∷ cs) zero h k = k .0
 keeps-at d f (ms ∷ cs) (suc j) h k = keeps-at d f cs j (le-of-suc-le-suc h) (k .1)
 
+item-long : (t : Table) (i : Item) → Alike (setOf (length (membersAt t (i .check))) (i .mask)) (membersAt t (i .check))
+item-long t i = length-alike (setOf (length (membersAt t (i .check))) (i .mask)) (membersAt t (i .check)) (set-length (length (membersAt t (i .check))) (i .mask))
+
+items-good : (t : Table) (is : List Item) → AllPlaced t is → Good (rowsAt t is)
+items-good t [] p = tt
+items-good t (i ∷ is) p = (p .0 .odds, item-long t i, items-good t is (p .1))
+
 item-kept : (t : Table) (d : ℕ) (f : ℕ → ℤ) (i : Item) → AllBelow (t .bits) (t .checks) → Keeps d f (t .checks) → Placed t i → Kept (t .bits) d f (rowAt t i)
 item-kept t d f i b k p = record {
   inside = members-below (t .bits) (t .checks) (i .check) (p .inside) b;
-  long = long;
-  keeps = keeps-at d f (t .checks) (i .check) (p .inside) k (setOf (length (membersAt t (i .check))) (i .mask)) (p .odds) long;
+  long = item-long t i;
+  keeps = keeps-at d f (t .checks) (i .check) (p .inside) k (setOf (length (membersAt t (i .check))) (i .mask)) (p .odds) (item-long t i);
 }
-  where
-    long : Alike (setOf (length (membersAt t (i .check))) (i .mask)) (membersAt t (i .check))
-    long = length-alike (setOf (length (membersAt t (i .check))) (i .mask)) (membersAt t (i .check)) (set-length (length (membersAt t (i .check))) (i .mask))
 
 items-kept : (t : Table) (d : ℕ) (f : ℕ → ℤ) (is : List Item) → AllBelow (t .bits) (t .checks) → Keeps d f (t .checks) → AllPlaced t is → AllKept (t .bits) d f (rowsAt t is)
 items-kept t d f [] b k p = tt
@@ -154,6 +159,7 @@ pub record Judged (file : List ℕ) (l : List ℤ) (w bs : List ℕ) (v : Verdic
   pub isFile : codeFile file ≡ gives table
   pub word : length (bitsOf w) ≡ table .bits
   pub scale : 1 ≤ scaleOf bs
+  pub good : Good (rowsAt table (itemsOf bs))
   pub implied : Implied table (rowsAt table (itemsOf bs))
   pub says : verdict table (scaleOf bs) l (rowsAt table (itemsOf bs)) (bitsOf w) ≡ v
 
@@ -175,6 +181,7 @@ judged file l w bs v e = go (then-gives (codeFile file) _ v e)
           isFile = isFile;
           word = bits-length w ∙ eqb-true (length w) (t .bits) (and-both (eqb (length w) (t .bits)) (eachBit w) (p3 .0) .0);
           scale = range-both 1 maxScale (scaleOf bs) (p5 .0) .0;
+          good = items-good t (itemsOf bs) (p6 .0);
           implied = λ d f k. items-kept t d f (itemsOf bs) (file-sound file t isFile .below) k (p6 .0);
           says = gives-inj (verdict t (scaleOf bs) l (rowsAt t (itemsOf bs)) (bitsOf w)) v (p6 .1);
         }

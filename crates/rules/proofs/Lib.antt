@@ -20,6 +20,7 @@ pub mod Masks
 pub mod Judged
 pub mod Written
 pub mod WrittenPasses
+pub mod EmptyLaws
 pub mod BufferLaws
 pub mod StoreLaws
 pub mod RoundSizes

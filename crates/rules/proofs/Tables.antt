@@ -1,5 +1,5 @@
 -- What holds of the table of an accepted code file (document 01, "Code file"). Assumes nothing.
-use mathlib.Core.Path.{_≡_, refl, subst}
+use mathlib.Core.Path.{_≡_, refl, sym, subst}
 use mathlib.Core.Bool.{Bool, true, false, _&&_}
 use mathlib.Core.List.{List, [], _∷_}
 use Prim.Native.Nat.{ℕ, zero, suc, _+_, _*_, _≤_, _<_}
@@ -9,7 +9,7 @@ use lib.Dec.{leb, ltb, eqb}
 use lib.ListN.{length, getD}
 use borrow.Author.Tests.{ltb-true, leb-true, eqb-true, eqb-false}
 use Rattle.integers.specs.Count.{none-left, after-first, before-end}
-use Rattle.rules.specs.Limits.{maxBits, maxChecks, minDegree, maxDegree, maxEdges, maxBitDegree, contentsEnd, fileLength}
+use Rattle.rules.specs.Limits.{maxBits, maxChecks, maxDegree, maxEdges, maxBitDegree, contentsEnd, fileLength}
 use Rattle.rules.specs.Refusal.{gives, headerShort, sizeRange, countRange, startWrong, lengthWrong, memberWrong, bitDegree}
 use Rattle.rules.specs.Bytes.{u16At}
 use Rattle.rules.specs.Table.{Table, edges, degreeOf}
@@ -19,7 +19,7 @@ use Rattle.rules.proofs.Basics.{and-both}
 use Rattle.rules.proofs.AnswerLaws.{gives-inj, must-gives, range-both}
 use Rattle.rules.proofs.FileLaws.{numbers-length, bodies-length, edges-length}
 
-pub degree-at : (cs : List (List ℕ)) (j : ℕ) → j < length cs → Degrees cs → (minDegree ≤ length (getD cs j [])) × (length (getD cs j []) ≤ maxDegree)
+pub degree-at : (cs : List (List ℕ)) (j : ℕ) → j < length cs → Degrees cs → length (getD cs j []) ≤ maxDegree
 degree-at [] j h d = absurd (not-suc-le-zero h)
 degree-at (ms ∷ cs) zero h d = d .0
 degree-at (ms ∷ cs) (suc j) h d = degree-at cs j (le-of-suc-le-suc h) (d .1)
@@ -75,12 +75,8 @@ counts-degrees : (file : List ℕ) (a : ℕ) (es : List Content) → countsRight
 unfolding countsRight bodies
 counts-degrees file a [] h = tt
 counts-degrees file a (e ∷ es) h =
-    let p = and-both (inRange minDegree maxDegree (e .count)) (countsRight es) h in
-    let q = range-both minDegree maxDegree (e .count) (p .0) in
-    (sized (e .count) (length (numbersAt file a (e .count))) (numbers-length file a (e .count)) q, counts-degrees file (a + 2 * e .count) es (p .1))
-  where
-    sized : (k l : ℕ) → l ≡ k → (minDegree ≤ k) × (k ≤ maxDegree) → (minDegree ≤ l) × (l ≤ maxDegree)
-    sized k l e h = (omega arith, omega arith)
+    let p = and-both (leb (e .count) maxDegree) (countsRight es) h in
+    (subst (λ k. k ≤ maxDegree) (sym (numbers-length file a (e .count))) (leb-true (e .count) maxDegree (p .0)), counts-degrees file (a + 2 * e .count) es (p .1))
 
 pub bits-at : (f : ℕ → ℕ) (i k : ℕ) → bitsRight f i k ≡ true → (j : ℕ) → i ≤ j → j < i + k → (1 ≤ f j) × (f j ≤ maxBitDegree)
 unfolding bitsRight

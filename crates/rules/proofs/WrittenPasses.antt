@@ -67,7 +67,7 @@ narrow [] (e ∷ es) d p b = absurd p
 narrow (ms ∷ cs) (inactive ∷ es) d p b = (omega arith, omega arith, narrow cs es (d .1) (p .1) (or-false (ltb maxMultiplier 0) (tooLarge es) b .1))
 narrow (ms ∷ cs) (active m ts ∷ es) d p b = (
   fits m (ltb-false maxMultiplier m (or-false (ltb maxMultiplier m) (tooLarge es) b .0)),
-  below (maskOf ts) (2 ^ length ts) (mask-below ts) (pow-mono (subst (λ n. n ≤ 32) (alike-length ts ms (p .0 .1)) (d .0 .1))),
+  below (maskOf ts) (2 ^ length ts) (mask-below ts) (pow-mono (subst (λ n. n ≤ 32) (alike-length ts ms (p .0 .1)) (d .0))),
   narrow cs es (d .1) (p .1) (or-false (ltb maxMultiplier m) (tooLarge es) b .1),
 )
   where

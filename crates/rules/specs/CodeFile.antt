@@ -5,7 +5,7 @@ use Prim.Native.Nat.{ℕ, zero, suc, _+_, _*_}
 use lib.Dec.{leb, ltb, eqb}
 use lib.ListN.{length}
 use lib.IntN.{ℤ, pos}
-use Rattle.rules.specs.Limits.{maxBits, maxChecks, minDegree, maxDegree, maxEdges, maxBitDegree, contentsEnd, fileLength}
+use Rattle.rules.specs.Limits.{maxBits, maxChecks, maxDegree, maxEdges, maxBitDegree, contentsEnd, fileLength}
 use Rattle.rules.specs.Refusal.{Answer, refused, gives, must, Reply, replyOf, headerShort, sizeRange, countRange, startWrong, lengthWrong, memberWrong, bitDegree}
 use Rattle.rules.specs.Bytes.{u16At}
 use Rattle.rules.specs.Table.{Table, edges, edgesOf, checksOf, degreeOf}
@@ -25,10 +25,10 @@ unfoldable pub contents : List ℕ → ℕ → ℕ → List Content
 contents file j zero = []
 contents file j (suc k) = contentAt file j ∷ contents file (j + 1) k
 
--- "a count (degree) 1 to 32"
+-- "A count of 0 is now accepted and refusal 3 is for counts above 32 only" (document 02, #106)
 unfoldable pub countsRight : List Content → Bool
 countsRight [] = true
-countsRight (e ∷ es) = inRange minDegree maxDegree (e .count) && countsRight es
+countsRight (e ∷ es) = leb (e .count) maxDegree && countsRight es
 
 -- "start of check 0 is 0; each later start is the previous start plus count"
 unfoldable pub startsRight : ℕ → List Content → Bool

@@ -1,4 +1,4 @@
--- Further worked examples, by computation: document 01's cuts, its multipliers at another scale, the three-frame report, a list of calls with its twin, and which refusal comes first
+-- Further worked examples, by computation: document 01's cuts, empty checks, multipliers at another scale, the three-frame report, a list of calls with its twin, and which refusal comes first
 -- where several apply. Assumes nothing.
 use mathlib.Core.Path.{_≡_, refl}
 use mathlib.Core.List.{List, [], _∷_, _++_}
@@ -24,7 +24,7 @@ use Rattle.rules.specs.Buffers.{Buffers, Lengths, needsBy, fits, fitsSta
 use Rattle.rules.specs.Run.{running, certified, spent, Run, next, iterate, sound, admits, callOn, call, start}
 use Rattle.rules.specs.Calls.{Call, lentCall, countedBy}
 use Rattle.rules.specs.Report.{Line, certifiedLine, spentLine, frameLine}
-use Rattle.rules.specs.Question.{Question, fileIs, cutIs, judged, startIs, callIs, lineIs, listIs, countIs, Case, asked, said, answerTo}
+use Rattle.rules.specs.Question.{Question, fileIs, cutIs, judged, startIs, callIs, shows, lineIs, listIs, countIs, Case, asked, said, answerTo}
 use Rattle.rules.specs.Question.{Place, Said, reply, shown, buffers, dirty, leaving, line, places, counts}
 use Rattle.rules.specs.Frames.{threeBits, oneBit, frameA, withMultiplier, word000}
 
@@ -69,7 +69,9 @@ files =
     ∷ row (fileIs (1 ∷ 0 ∷ 1 ∷ 0 ∷ 0 ∷ 0 ∷ 33 ∷ [])) (reply (no 5))
     -- a bad count in the last check, a wrong start in the first: 3 before 4
     ∷ row (fileIs (twoChecks 1 1 1 33)) (reply (no 3))
-    ∷ row (fileIs (twoChecks 0 0 0 1)) (reply (no 3))
+    -- the second check starts where an empty one does, with one member too many behind; and beyond it
+    ∷ row (fileIs (twoChecks 0 0 0 1)) (reply (no 5))
+    ∷ row (fileIs (twoChecks 0 0 1 1)) (reply (no 4))
     ∷ row (fileIs (twoChecks 0 1 2 1)) (reply (no 4))
     -- 257 checks of 32 edges, no bodies: 4 before 5
     ∷ row (fileIs (32 ∷ 0 ∷ 1 ∷ 1 ∷ regular 257 32 0)) (reply (no 4))
@@ -126,6 +128,34 @@ certificates =
     -- a broken check comes before the gap; no entries at all: the bound is the sum of sizes
     ∷ row (judged threeBits frameA (1 ∷ 0 ∷ 0 ∷ []) (two 0 1 0 4)) (reply (yes (pos 0 ∷ pos 0 ∷ [])))
     ∷ row (judged threeBits frameA word000 (0 ∷ 0 ∷ 1 ∷ 0 ∷ [])) (reply (yes (pos 2 ∷ pos 4000 ∷ [])))
+    ∷ []
+
+-- ---- empty checks: document 01's check is number 1 of four, the others have lost their members
+emptied : List ℕ
+emptied = 3 ∷ 0 ∷ 4 ∷ 0 ∷ 0 ∷ 0 ∷ 0 ∷ 0 ∷ 0 ∷ 0 ∷ 3 ∷ 0 ∷ 3 ∷ 0 ∷ 0 ∷ 0 ∷ 3 ∷ 0 ∷ 0 ∷ 0 ∷ 0 ∷ 0 ∷ 1 ∷ 0 ∷ 2 ∷ 0 ∷ []
+
+empties : List Case
+empties =
+    row (fileIs emptied) (reply (yes (pos 3 ∷ pos 4 ∷ pos 3 ∷ [])))
+    -- no check has members: the bit stands in none
+    ∷ row (fileIs (1 ∷ 0 ∷ 1 ∷ 0 ∷ 0 ∷ 0 ∷ 0 ∷ 0 ∷ [])) (reply (no 7))
+    ∷ row (cutIs emptied (pos 1365 ∷ pos 1365 ∷ negsuc 1366 ∷ []) 0) (reply (yes []))
+    ∷ row (cutIs emptied (pos 1365 ∷ pos 1365 ∷ negsuc 1366 ∷ []) 1) (reply (yes (pos 4 ∷ [])))
+    ∷ row (cutIs emptied (pos 1365 ∷ pos 1365 ∷ negsuc 1366 ∷ []) 3) (reply (yes []))
+    ∷ row (cutIs emptied (pos 1365 ∷ pos 1365 ∷ negsuc 1366 ∷ []) 4) (reply (no 17))
+    -- the broken check by its own number
+    ∷ row (judged emptied frameA (1 ∷ 0 ∷ 0 ∷ []) (0 ∷ 0 ∷ 1 ∷ 0 ∷ [])) (reply (yes (pos 0 ∷ pos 1 ∷ [])))
+    -- an entry on an empty check: 12 by its multiplier, else 13 by any mask, before 14
+    ∷ row (judged emptied frameA word000 (one 1 1 0 0 1)) (reply (no 12))
+    ∷ row (judged emptied frameA word000 (one 1 1 0 1 0)) (reply (no 13))
+    ∷ row (judged emptied frameA word000 (one 1 1 0 1 1)) (reply (no 13))
+    ∷ row (judged emptied frameA word000 (two 1 4 3 1)) (reply (no 13))
+    ∷ row (judged emptied frameA word000 (two 1 4 0 1)) (reply (no 13))
+    -- rounds, word and multiplier as without the empty checks; the certificate names check 1
+    ∷ row (shows emptied frameA 1024) (leaving (yes (pos 1 ∷ [])) 3
+    (pos 3364 ∷ pos 3364 ∷ pos 2636 ∷ []) (pos 3365 ∷ pos 3365 ∷ pos 2635 ∷ []) (pos 3333 ∷ pos 3333 ∷ negsuc 3332 ∷ [])
+    (0 ∷ 3333 ∷ 0 ∷ 0 ∷ []) (0 ∷ 4 ∷ 0 ∷ 0 ∷ []) word000 (1 ∷ 0 ∷ 1 ∷ 0 ∷ 1 ∷ 0 ∷ 0x05 ∷ 0x0D ∷ 0 ∷ 0 ∷ 4 ∷ 0 ∷ 0 ∷ 0 ∷ replicate 30 0))
+    ∷ row (lineIs emptied frameA) (line (certifiedLine 3 (pos 6000) 1))
     ∷ []
 
 -- ---- scales: (40, 40, −20) run as (4000, 4000, −2000). Document 01's multipliers 1999, 2000, 4000 and 4001 have at scale 100 the gaps that they have there
@@ -247,10 +277,10 @@ counted-44 : (countedBy (refused 44) 7 2 ≡ 2) × (countedBy (refused 43) 7 2 �
 counted-44 = (refl, refl, refl)
 
 pub cases : List Case
-cases = files ++ cuts ++ certificates ++ scales ++ calls ++ rounds ++ lists ++ report
+cases = files ++ cuts ++ certificates ++ empties ++ scales ++ calls ++ rounds ++ lists ++ report
 
 pub examples : asked cases ≡ said cases
-unfolding cases fourBits frameD frameE files cuts certificates scales calls rounds lists report regular onBit0 callsOf threeBits oneBit frameA answerTo must then replyOf u16At u32At agreement
+unfolding cases fourBits emptied frameD frameE files cuts certificates empties scales calls rounds lists report regular onBit0 callsOf threeBits oneBit frameA answerTo must then replyOf u16At u32At agreement
     maskRight ones lib.Count.onesIn inRange contents countsRight startsRight totalCount numbersAt bodies ascends membersRight bitsRight fileOf codeFile codeFileReply onFrame onWord
     onPoint onCheck cut cutSearch cutReply lastWhere multiplier step reduced bound gap total divided spin round certificateOf itemsAt follows onItem onItems onCertificate verdict
     judge judgeReply fits fitsStart next iterate sound admits callOn call start lentCall frameLine clipZ

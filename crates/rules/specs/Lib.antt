@@ -15,6 +15,7 @@ pub mod Scatter
 pub mod Round
 pub mod Certificate
 pub mod Judge
+pub mod Empty
 pub mod Scaled
 pub mod Buffers
 pub mod Run

@@ -5,15 +5,12 @@ use Prim.Native.Nat.{ℕ, _+_, _-_, _*_}
 abbrev pub unit : ℕ
 unit = 4096
 
--- "n and m are 1 to 2,048, a count (degree) 1 to 32, E at most 8,192, and each bit stands in 1 to 32 checks"
+-- "n and m are 1 to 2,048", a count (degree) at most 32, "E at most 8,192, and each bit stands in 1 to 32 checks"
 abbrev pub maxBits : ℕ
 maxBits = 2048
 
 abbrev pub maxChecks : ℕ
 maxChecks = 2048
-
-abbrev pub minDegree : ℕ
-minDegree = 1
 
 abbrev pub maxDegree : ℕ
 maxDegree = 32

@@ -2,7 +2,7 @@
 use mathlib.Core.List.{List, [], _∷_}
 use Prim.Native.Nat.{ℕ, _+_, _≤_, _<_}
 use lib.ListN.{length}
-use Rattle.rules.specs.Limits.{maxBits, maxChecks, minDegree, maxDegree, maxEdges, maxBitDegree}
+use Rattle.rules.specs.Limits.{maxBits, maxChecks, maxDegree, maxEdges, maxBitDegree}
 use Rattle.rules.specs.Table.{Table, edges, edgesOf, checksOf, degreeOf}
 
 -- members are bits
@@ -25,7 +25,7 @@ AllAscending (ms ∷ cs) = Ascending 0 ms × AllAscending cs
 
 abbrev pub Degrees : List (List ℕ) → Type 0
 Degrees [] = Unit {0}
-Degrees (ms ∷ cs) = ((minDegree ≤ length ms) × (length ms ≤ maxDegree)) × Degrees cs
+Degrees (ms ∷ cs) = (length ms ≤ maxDegree) × Degrees cs
 
 pub record Sound (t : Table) : Type 0 where
   pub bits : (1 ≤ t .bits) × (t .bits ≤ maxBits)

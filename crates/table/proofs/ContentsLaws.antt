@@ -5,11 +5,11 @@ use mathlib.Core.List.{List, [], _∷_}
 use Prim.Native.Nat.{ℕ, _+_, _*_, _-_, _≤_, _<_}
 use native.Mathlib.Omega.{arith}
 use native.Mathlib.Nat.{sub-eq-zero-of-le}
-use lib.Dec.{eqb}
+use lib.Dec.{leb, eqb}
 use Rattle.integers.specs.Count.{left-more}
-use Rattle.rules.specs.Limits.{minDegree, maxDegree}
+use Rattle.rules.specs.Limits.{maxDegree}
 use Rattle.rules.specs.Bytes.{u16At}
-use Rattle.rules.specs.CodeFile.{Content, contentAt, inRange, contents, countsRight, startsRight, totalCount}
+use Rattle.rules.specs.CodeFile.{Content, contentAt, contents, countsRight, startsRight, totalCount}
 
 -- what is left from entry j on
 abbrev pub contentsFrom : List ℕ → ℕ → ℕ → List Content
@@ -18,7 +18,7 @@ contentsFrom file m j = contents file j (m - j)
 pub contents-all : (file : List ℕ) (m : ℕ) → contentsFrom file m 0 ≡ contents file 0 m
 contents-all file m = ap (contents file 0) (omega arith)
 
-counts-cons : (e : Content) (es : List Content) → countsRight (e ∷ es) ≡ (inRange minDegree maxDegree (e .count) && countsRight es)
+counts-cons : (e : Content) (es : List Content) → countsRight (e ∷ es) ≡ (leb (e .count) maxDegree && countsRight es)
 unfolding countsRight
 counts-cons e es = refl
 
@@ -36,7 +36,7 @@ module _ (file : List ℕ) (m j : ℕ) where
   contents-end h = ap (contents file j) (sub-eq-zero-of-le h)
 
   -- ---- counts
-  pub counts-more : (d : ℕ) → j < m → d ≡ u16At file (6 + 4 * j) → countsRight (contentsFrom file m j) ≡ (inRange minDegree maxDegree d && countsRight (contentsFrom file m (j + 1)))
+  pub counts-more : (d : ℕ) → j < m → d ≡ u16At file (6 + 4 * j) → countsRight (contentsFrom file m j) ≡ (leb d maxDegree && countsRight (contentsFrom file m (j + 1)))
   counts-more d h e = ap countsRight (contents-more h) ∙ counts-cons (contentAt file j) (contentsFrom file m (j + 1)) ∙ rw e refl
 
   pub counts-end : m ≤ j → countsRight (contentsFrom file m j) ≡ true

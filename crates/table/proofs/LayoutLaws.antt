@@ -5,9 +5,9 @@ use Prim.Native.Nat.{ℕ, zero, suc, _+_, _-_, _≤_, _<_}
 use native.Mathlib.Nat.{add-assoc, add-comm, add-sub-cancel-left}
 use native.Mathlib.Omega.{arith}
 use native.Mathlib.Numerals.{add-one}
-use lib.ListN.{length, getD, take, drop, length-append, length-take, length-drop}
+use lib.ListN.{length, getD, take, drop, length-append, length-drop}
 use lib.Seq.{take-at, drop-at, length-take-le}
-use Rattle.rules.specs.Limits.{maxBits, maxChecks, minDegree, maxDegree, maxEdges}
+use Rattle.rules.specs.Limits.{maxBits, maxChecks, maxDegree, maxEdges}
 use Rattle.rules.specs.Refusal.{refused, gives}
 use Rattle.rules.specs.Table.{Table, edges, edgesOf, checksOf}
 use Rattle.rules.specs.CodeFile.{tableAt, codeFile, codeFileReply}
@@ -99,17 +99,14 @@ module _ (n : ℕ) (ss ms : List ℕ) (h : Holds n ss ms) where
     pub part-lent : {a e : ℕ} → a ≡ getD ss j 0 → e ≡ getD ss (j + 1) 0 → take (e - a) (drop a ms) ≡ getD (checksFrom ss ms) j []
     part-lent p q = ap₂ (λ x y. take (y - x) (drop x ms)) p q ∙ part-is
 
-    pub part-degree : (minDegree ≤ length (getD (checksFrom ss ms) j [])) × (length (getD (checksFrom ss ms) j []) ≤ maxDegree)
+    pub part-degree : length (getD (checksFrom ss ms) j []) ≤ maxDegree
     part-degree = degree-at cs j hj (h .sound .degrees)
 
     pub part-below : Below n (getD (checksFrom ss ms) j [])
     part-below = judged.members-below n cs j hj (h .sound .below)
 
     pub part-in : (getD ss j 0 ≤ getD ss (j + 1) 0) × (getD ss (j + 1) 0 ≤ length ms)
-    part-in =
-        let a = getD ss j 0 in
-        let e = getD ss (j + 1) 0 in
-        omega (arith, start-next, part-degree, ap length part-is, length-take (e - a) (drop a ms), length-drop a ms)
+    part-in = omega (arith, start-next, start-is (j + 1) (omega arith), before-most cs (j + 1), members-long)
 
     pub start-held : Start ss j
     start-held = record { room = omega (arith, starts-long); order = part-in .0; degree = omega (arith, start-next, part-degree) }

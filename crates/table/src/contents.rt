@@ -1,9 +1,7 @@
 // The contents: m entries of start and count.
-use super::numbers::in_range;
 use super::numbers::u16_at;
 use limits::MAX_DEGREE;
 use limits::MAX_EDGES;
-use limits::MIN_DEGREE;
 ghost use mathlib.Core.Path.{_≡_};
 ghost use mathlib.Core.Bool.{_&&_};
 ghost use Prim.Native.Nat.{_+_, _*_, _≤_, _<_};
@@ -37,14 +35,14 @@ pub(crate) fn count_at(code: &[u8], j: usize) -> usize
     u16_at(code, 6 + 4 * j)
 }
 
-// "A count (degree) 1 to 32."
+// "Refusal 3 is for counts above 32 only."
 pub(crate) fn counts_right(code: &[u8], m: usize) -> bool
     requires { ⌜ contentsEnd m ≤ length (now code) ⌝ }
     ensures { λ r. ⌜ r ≡ countsRight (contents (now (code .entry)) 0 m) ⌝ }
 {
     let mut j: usize = 0;
     while j < m {
-        if !in_range(MIN_DEGREE, MAX_DEGREE, count_at(code, j)) {
+        if MAX_DEGREE < count_at(code, j) {
             return false;
         }
         j += 1;

@@ -48,7 +48,7 @@ members-cut-requires c κs =
     let start = c .before .before .before .before .before .before .before in
     let n = length (start .args .spins .now) in
     subst (λ l. (length l ≤ maxDegree) × Below n l) (sym (part-lent _ _ _ (start .pre .0) _ (check start) (c .before .before .before .wide .ensures) (c .before .wide2 .ensures)))
-    (part-degree _ _ _ (start .pre .0) _ (check start) .1, part-below _ _ _ (start .pre .0) _ (check start))
+    (part-degree _ _ _ (start .pre .0) _ (check start), part-below _ _ _ (start .pre .0) _ (check start))
 
 returns : tie.Need-returns
 returns c =

@@ -2,7 +2,7 @@
 use mathlib.Core.Path.{_≡_, sym, _∙_, ap}
 use Prim.Native.Nat.{_-_, _≤_}
 use native.Mathlib.Omega.{arith}
-use borrow.Author.Tests.{not-true, not-false}
+use borrow.Author.Tests.{le-leb, lt-leb}
 use Rattle.rules.specs.CodeFile.{contents, countsRight}
 use Rattle.table.proofs.AnswerLaws.{and-fails, and-holds}
 use Rattle.table.proofs.ContentsLaws.{contents-all, counts-more, counts-end}
@@ -20,16 +20,16 @@ loop-holds c = (omega arith, sym (ap countsRight (contents-all _ _)))
 
 returns : tie.Need-returns Inv-loop μ-loop
 returns c =
-    sym (c .before .before .before .before .loop .inv .1
-    ∙ counts-more _ _ _ _ (c .before .before .before .loop-test .taken) (c .before .before .count-at .ensures .0)
-    ∙ and-fails _ _ (sym (c .before .in-range .ensures) ∙ not-true _ (c .if1 .taken)))
+    sym (c .before .before .before .loop .inv .1
+    ∙ counts-more _ _ _ _ (c .before .before .loop-test .taken) (c .before .count-at .ensures .0)
+    ∙ and-fails _ _ (lt-leb _ _ (c .if1 .taken)))
 
 loop-again : tie.Need-loop-again Inv-loop μ-loop
 loop-again c = (
   omega arith,
-  c .before .before .before .before .loop .inv .1
-      ∙ counts-more _ _ _ _ (c .before .before .before .loop-test .taken) (c .before .before .count-at .ensures .0)
-      ∙ and-holds _ _ (sym (c .before .in-range .ensures) ∙ not-false _ (c .if1 .left)),
+  c .before .before .before .loop .inv .1
+      ∙ counts-more _ _ _ _ (c .before .before .loop-test .taken) (c .before .count-at .ensures .0)
+      ∙ and-holds _ _ (le-leb _ _ (c .if1 .left)),
 )
 
 returns-2 : tie.Need-returns-2 Inv-loop μ-loop
@@ -43,7 +43,6 @@ counts-right-spec =
     μ-loop
     loop-holds
     (λ c κs. omega arith)
-    (λ c κs. tt)
     returns
     (λ c. omega arith)
     (λ c. omega arith)

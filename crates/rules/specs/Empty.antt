@@ -1,0 +1,36 @@
+-- Checks without members, as shortening leaves them (document 02, #106), and a table without them. Definitions only. Assumes nothing.
+use mathlib.Core.Path.{_≡_}
+use mathlib.Core.List.{List, [], _∷_}
+use Prim.Native.Nat.{ℕ, _≤_}
+use lib.ListN.{length}
+use Rattle.rules.specs.Table.{Table}
+use Rattle.rules.specs.Bound.{Row}
+use Rattle.rules.specs.Round.{Round}
+
+-- the checks that have members
+abbrev pub filled : List (List ℕ) → List (List ℕ)
+filled [] = []
+filled ([] ∷ cs) = filled cs
+filled ((m ∷ ms) ∷ cs) = (m ∷ ms) ∷ filled cs
+
+abbrev pub withoutEmpty : Table → Table
+withoutEmpty t = record { bits = t .bits; checks = filled (t .checks) }
+
+-- of one thing per check, those of the checks that have members
+abbrev pub atFilled : {A : Type 0} → List (List ℕ) → List A → List A
+atFilled [] xs = []
+atFilled (ms ∷ cs) [] = []
+atFilled ([] ∷ cs) (x ∷ xs) = atFilled cs xs
+atFilled ((m ∷ ms) ∷ cs) (x ∷ xs) = x ∷ atFilled cs xs
+
+-- a round on a table, and one on the table without its empty checks
+pub record SameRound (t : Table) (x y : Round) : Type 0 where
+  pub spins : y .spins ≡ x .spins
+  pub state : y .state ≡ x .state
+  pub entries : y .entries ≡ atFilled (t .checks) (x .entries)
+  pub word : y .word ≡ x .word
+
+-- no row is that of an empty check: so no multiplier is counted d − 2 = −2 times
+abbrev pub AllFilled : List Row → Type 0
+AllFilled [] = Unit {0}
+AllFilled (r ∷ rs) = (1 ≤ length (r .members)) × AllFilled rs
