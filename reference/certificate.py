@@ -52,14 +52,15 @@ def entry_at(data, count, number):
 def check_entry(code, entry, before):
     refuse_if(entry.check >= len(code.checks), 12)
     refuse_if(not 1 <= entry.multiplier <= MULTIPLIER_LIMIT, 12)
-    degree = len(code.checks[entry.check])
+    degree = len(code.checks[entry.check])              # 0: no odd mask is below 1 << 0
     refuse_if(entry.mask.bit_count() % 2 == 0 or entry.mask >= 1 << degree, 13)
     if before is not None:
         refuse_if((entry.check, entry.mask) <= (before.check, before.mask), 14)
 
 
 def entries_of_round(multipliers, masks):
-    """The cuts of one round, in check order.  A check without a cut has multiplier 0."""
+    """The cuts of one round, in check order.  A check without a cut has multiplier 0, and so
+    a check without members never stands here."""
     return [Entry(check, multiplier, mask)
             for check, (multiplier, mask) in enumerate(zip(multipliers, masks))
             if multiplier > 0]
@@ -98,7 +99,8 @@ def reduced_numbers(code, frame, scale, entries):
 
 def dual_bound(code, frame, scale, entries):
     """What no codeword's agreement, times the scale, exceeds.  It may be negative: a check
-    of one member has d - 2 = -1."""
+    of one member has d - 2 = -1.  The -2 of a check without members never counts, as no entry
+    that is read (13) or written (no cut) names one."""
     sizes = sum(abs(number) for number in reduced_numbers(code, frame, scale, entries))
     return sizes + sum(entry.multiplier * (len(code.checks[entry.check]) - 2) for entry in entries)
 

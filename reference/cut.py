@@ -31,8 +31,10 @@ def known_cut(spins):
 
     The negative spins are the set with the least left side of all.  If their number is even,
     the cheapest way to an odd set is to move the member nearest to 0; `min` takes the first
-    on a tie.
+    on a tie.  A check without members has no odd set, and so no cut.
     """
+    if not spins:
+        return None
     mask = sum(1 << member for member, spin in enumerate(spins) if spin < 0)
     if mask.bit_count() % 2 == 0:
         nearest = min(range(len(spins)), key=lambda member: abs(spins[member]))

@@ -114,6 +114,14 @@ def longest_files(rng):
     return files + [head + bytes(RECORD_LIMIT - 4), rng.bytes(RECORD_LIMIT)]
 
 
+def empty_check_files(rng):
+    """Checks without members: accepted, up to m and E at their limits, and refused for
+    something else."""
+    made = tables.emptied_tables(rng, 16) + [tables.mostly_empty(), tables.emptied_band(rng)]
+    return ([code_file(table) for table in made]
+            + [claim.data for claim in damage.empty_check_claims(rng)])
+
+
 def code_file_records():
     """The code files of this kind, in a fixed order."""
     rng = Prng(20_01)
@@ -124,7 +132,8 @@ def code_file_records():
                for fault in damage.FAULTS[7]]
     return (shortest_files(rng) + header_files() + count_files() + crowd_files()
             + [claim.data for claim in claims] + valid_files(rng) + nearly_valid(rng, 60)
-            + wrong_members(rng, 40) + random_files(rng, 40) + longest_files(rng))
+            + wrong_members(rng, 40) + random_files(rng, 40) + longest_files(rng)
+            + empty_check_files(rng))
 
 
 def code_file_line(data):

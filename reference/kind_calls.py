@@ -20,7 +20,10 @@ def call_script():
             + spoilt.filled_runs() + spoilt.single_edges(rng) + spoilt.ended_states()
             + spoilt.resumed_half_done(rng) + spoilt.farthest_offsets() + spoilt.short_parts()
             + spoilt.starts() + spoilt.damaged_files(rng) + spoilt.limit_files(rng)
-            + spoilt.bad_frames() + spoilt.several_faults(rng) + spoilt.peeled_faults(rng))
+            + spoilt.bad_frames() + spoilt.several_faults(rng) + spoilt.peeled_faults(rng)
+            + scripts.emptied_runs(rng) + scripts.mostly_empty(rng)
+            + scripts.empty_checks_put_in() + spoilt.emptied_half_done(rng)
+            + spoilt.emptied_edges() + spoilt.emptied_parts() + spoilt.emptied_files(rng))
 
 
 def case_calls():

@@ -189,13 +189,45 @@ def damaged_files(rng):
                     CutCase(unused, [0] * 7, 0), CutCase(b"", [], 0)]
 
 
+# --- empty checks ----------------------------------------------------------------------------
+
+def empty_checks(rng):
+    """An empty check has no cut at any point, and those beside it keep theirs."""
+    cases = []
+    for n, checks in tables.emptied_tables(rng, 12):
+        data, spins = code_file((n, checks)), inputs.random_spins(rng, n)
+        cases += [CutCase(data, spins, number) for number in range(len(checks))]
+    n, checks = table = tables.with_empty(tables.hamming(), [0, 2, 3])
+    points = [[spin] * n for spin in ENDS] + [inputs.random_spins(rng, n) for _ in range(3)]
+    return cases + [CutCase(code_file(table), spins, number) for spins in points
+                    for number, members in enumerate(checks) if not members]
+
+
+def empty_checks_refused(rng):
+    """16 and 17 where empty checks stand first and last, and damaged files with some."""
+    n, checks = table = tables.with_empty(tables.hamming(), [0, 2, 3])
+    data, last = code_file(table), len(checks) - 1
+    cases = [CutCase(data, [0] * (n - 1) + [UNIT + 1], last), CutCase(data, [0] * (n + 1), 0),
+             CutCase(data, [], last), CutCase(data, [0] * n, last + 1),
+             CutCase(data, [-UNIT - 1] * n, last + 1)]
+    return cases + [CutCase(claim.data, inputs.random_spins(rng, n), 0)
+                    for claim in rng.sample(damage.empty_check_claims(rng), 10)]
+
+
+def mostly_empty(rng):
+    """m 2,048: first and last check, both empty; the one with members; and none such."""
+    data, spins = code_file(tables.mostly_empty()), [UNIT] * 31 + [-UNIT]
+    return [CutCase(data, spins, number) for number in (0, 1024, 2047, 2048)]
+
+
 # --- the kind --------------------------------------------------------------------------------
 
 def cut_records():
     rng = Prng(20_02)
     return (document_examples() + telling_values() + edge_of_the_inequality(rng)
             + top_members(rng) + zeros_and_ties(rng) + bad_points(rng) + bad_check_numbers(rng)
-            + damaged_files(rng) + random_points(rng, 320) + large_tables(rng))
+            + damaged_files(rng) + random_points(rng, 320) + large_tables(rng)
+            + empty_checks(rng) + empty_checks_refused(rng) + mostly_empty(rng))
 
 
 def cut_line(case):

@@ -5,14 +5,14 @@ length and code file, u32 count and frame (i16), u32 length and word, u32 length
 certificate.
 """
 
-from itertools import permutations
+from itertools import permutations, product
 
 import make_damage as damage
 import make_inputs as inputs
 import make_runs
 import make_tables as tables
 import make_verdicts as verdicts
-from certificate import BrokenCheck, Gap, write_certificate
+from certificate import MULTIPLIER_LIMIT, BrokenCheck, Entry, Gap, write_certificate
 from decoder import answer, judge, syndrome, word_agreement
 from make_tables import code_file
 from make_verdicts import NO_ENTRIES, JudgeCase
@@ -72,6 +72,62 @@ def claimed_refusals(rng):
     return [JudgeCase(*claim.arguments) for claim in make_runs.judge_claims(rng)]
 
 
+# --- empty checks ----------------------------------------------------------------------------
+
+# The checks 0, 2, 5 and 6 are empty, the others those of the Hamming code.
+EMPTIED = tables.with_empty(tables.hamming(), [0, 1, 3, 3])
+
+
+def emptied_case(*entries, word=(0,) * 7):
+    return JudgeCase(code_file(EMPTIED), [100, 200, 300, 400, 500, -600, 700], list(word),
+                     write_certificate([Entry(*entry) for entry in entries]))
+
+
+def named_empty_checks():
+    """An entry that names an empty check: 12 for its multiplier, otherwise 13 for any mask."""
+    masks = (0, 1, 2, 3, 7, 1 << 31, (1 << 32) - 1)
+    multipliers = (0, 1, 8000, MULTIPLIER_LIMIT, MULTIPLIER_LIMIT + 1, (1 << 32) - 1)
+    return ([emptied_case((2, multiplier, mask))
+             for multiplier, mask in product(multipliers, masks)]
+            + [emptied_case((check, 5, 1)) for check in (0, 5, 6)])
+
+
+def named_in_turn():
+    """The same behind and before other entries, good ones and bad ones, and broken words."""
+    empty, void, good, after = (2, 5, 1), (2, 0, 1), (1, 60, 2), (3, 70, 8)
+    cases = [emptied_case(*entries) for entries in [
+        (good, empty), (empty, after), (good, void), (void, after), (good, empty, after),
+        (after, empty), (empty, empty), ((0, 5, 1), (2, 0, 0)), (good, good, empty),
+        (empty, (7, 5, 1)), ((7, 5, 1), empty), (good, (3, 5, 3), (5, 5, 1)), (good, (6, 5, 0)),
+        (good, after), (after, good), (good, (1, 60, 7), after)]]
+    broken = [1] + [0] * 6
+    return cases + [emptied_case(empty, word=broken), emptied_case(good, after, word=broken),
+                    emptied_case(word=[0] * 6 + [1]), emptied_case(word=[0, 0, 0, 1, 0, 0, 0])]
+
+
+def emptied_runs(rng):
+    """Certificates of runs on tables with empty checks, and the same altered."""
+    cases = []
+    for table in tables.emptied_tables(rng, 12):
+        frame = inputs.noisy_frame(rng, table[0])
+        written = inputs.run_certificate(table, frame)
+        if written is not None:
+            case = JudgeCase(code_file(table), frame, *written)
+            cases += [case, rng.choice(verdicts.altered_frames(case)),
+                      rng.choice(verdicts.altered_words(case))]
+    return cases
+
+
+def mostly_empty():
+    """m 2,048: the one check with members alone can be broken, and named."""
+    data, top = code_file(tables.mostly_empty()), 1 << 31
+    frame = [1000] * 31 + [-1]
+    return ([JudgeCase(data, frame, [0] * 31 + [bit], write_certificate([Entry(1024, 1, top)]))
+             for bit in (0, 1)]
+            + [JudgeCase(data, frame, [0] * 32, write_certificate([Entry(check, 1, 1)]))
+               for check in (1023, 2047)])
+
+
 # --- the kind --------------------------------------------------------------------------------
 
 def judge_records():
@@ -81,7 +137,8 @@ def judge_records():
             + verdicts.tight_cases(rng, 40) + verdicts.wide_cases() + verdicts.long_cases()
             + verdicts.heavy_cases() + verdicts.large_cases(rng) + entry_orders()
             + numbers_at_the_ends() + broken_words(rng) + damaged_files(rng) + plain_inputs()
-            + claimed_refusals(rng))
+            + claimed_refusals(rng) + named_empty_checks() + named_in_turn() + emptied_runs(rng)
+            + mostly_empty())
 
 
 def verdict(found, met):

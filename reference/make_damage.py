@@ -108,8 +108,9 @@ def descending_members(position):
 FIELD_FAULTS = {
     2: [header(n=0), header(n=2049), header(n=65535), header(m=0), header(m=2049),
         header(m=65535), header(n=0, m=0), header(n=2049, m=2049), header(n=0, m=65535)],
+    # The low byte of 256 is a good count.
     3: [count_is(position, value) for position in ("first", "middle", "last")
-        for value in (0, 33, 65535)],
+        for value in (256, 33, 65535)],
     4: [start_off(position, by) for position in ("first", "middle", "last")
         for by in (-1, 1, 256)],
     6: [member_above("first", 0), member_above("middle", 0), member_above("last", 0),
@@ -218,13 +219,62 @@ def limit_claims(rng):
         Claim(5, whole[:4 + 4 * 2048 - 1]), Claim(5, whole + bytes(30000 - len(whole))),
         Claim(4, contents_only(2048, 32)), Claim(4, pair_of_limits.to_bytes()),
         Claim(5, contents_only(256, 32)), Claim(3, contents_only(248, 33)),
-        Claim(3, contents_only(249, 33)), Claim(3, contents_only(2048, 0)),
+        Claim(3, contents_only(249, 33)), Claim(7, contents_only(2048, 0)),
         Claim(5, contents_only(2048, 4)), Claim(4, contents_only(2048, 5)),
         Claim(7, tables.code_file((2048, [[2047]]))), Claim(7, tables.code_file((2048, [[0]]))),
         Claim(7, tables.code_file(tables.stacked_singles(33))),
         Claim(7, tables.code_file((2, [[0, 1]] * 33))),
         Claim(3, tables.code_file(tables.one_wide_check(33))),
-        Claim(3, tables.code_file((2, [[0, 1], []]))), Claim(3, tables.code_file((1, [[]]))),
+        Claim(7, tables.code_file((3, [[0, 1], []]))), Claim(7, tables.code_file((1, [[]]))),
         Claim(2, tables.code_file(tables.identity(2049))),
         Claim(2, tables.code_file((1, [[0]] * 2049))), Claim(2, bytes(30000)),
     ]
+
+
+# --- files with empty checks -----------------------------------------------------------------
+
+def spoilt(table, fault):
+    """The code file of the table with a fault of single fields."""
+    layout = tables.layout(table)
+    fault(layout)
+    return layout.to_bytes()
+
+
+def emptied_counts():
+    """A count made 0, or one of 0 made 1, where the bodies stay: the next start is wrong, or
+    the length if there is none."""
+    table = tables.hamming()
+    return [Claim(4, spoilt(table, count_is("first", 0))),
+            Claim(4, spoilt(table, count_is("middle", 0))),
+            Claim(5, spoilt(table, count_is("last", 0))),
+            Claim(5, spoilt(tables.one_bit(), count_is("first", 0))),
+            Claim(5, spoilt((1, [[]]), count_is("first", 1))),
+            Claim(4, spoilt((1, [[], [0]]), count_is("first", 1)))]
+
+
+def empty_starts():
+    """An empty check, too, starts where the one before ends."""
+    table = tables.with_empty(tables.hamming(), [0, 1, 2, 3, 3])
+    return [Claim(4, spoilt(table, start_off(position, by)))
+            for position, by in [("first", 1), ("first", 12), ("middle", -4), ("middle", 4),
+                                 ("last", -12), ("last", -1), ("last", 1)]]
+
+
+def empty_and_lost():
+    """A bit that has lost its last check, or stands in 33, or E above its limit, with empty
+    checks about; and bodies where every check is empty."""
+    above = tables.Layout(2048, 260, [0, *(32 * k for k in range(257)), 8193, 8193],
+                          [0] + [32] * 256 + [1, 0, 0], [])
+    lost = [(1, [[]] * 3), (2, [[], [0]]), (2, [[1], []]), (32, [[]] * 32),
+            tables.with_empty(tables.stacked_singles(33), [0, 7, 7, 33])]
+    return ([Claim(7, tables.code_file(table)) for table in lost]
+            + [Claim(5, tables.code_file((1, [[]])) + bytes(2)), Claim(4, above.to_bytes())])
+
+
+def empty_check_claims(rng):
+    """Refused files with empty checks; also one fault of each number among empty checks."""
+    table = tables.with_empty(tables.hamming(), [0, 1, 1, 3, 3])
+    return (emptied_counts() + empty_starts() + empty_and_lost()
+            + [damaged(table, {kind: rng.choice(faults)}) for kind, faults in FAULTS.items()]
+            + [damaged(table, {kind: rng.choice(FAULTS[kind]) for kind in rng.sample(ORDER, 2)})
+               for _ in range(6)])

@@ -168,11 +168,13 @@ def random_mask(rng, degree):
 
 
 def handmade_entries(rng, table, tries, largest):
-    """Well-formed entries that no decoder wrote; several masks of one check are allowed."""
+    """Well-formed entries that no decoder wrote; several masks of one check are allowed.  No
+    mask fits an empty check."""
     _, checks = table
+    filled = [check for check, members in enumerate(checks) if members]
     wanted = set()
     for _ in range(tries):
-        check = rng.between(0, len(checks) - 1)
+        check = rng.choice(filled)
         wanted.add((check, random_mask(rng, len(checks[check]))))
     return [Entry(check, rng.between(1, largest), mask) for check, mask in sorted(wanted)]
 
@@ -192,7 +194,8 @@ def many_entries(count, multiplier=1):
 
 def tight_entries(rng, table, word, per_check, largest):
     """Entries whose inequalities the codeword meets exactly: its ones on the check, with one
-    member turned.  Each check has `per_check` masks, or as many as it has members."""
+    member turned.  Each check has `per_check` masks, or as many as it has members: an empty
+    one has none."""
     entries = []
     for check, members in enumerate(table[1]):
         ones = sum(word[bit] << k for k, bit in enumerate(members))

@@ -128,6 +128,45 @@ def swaps():
     return script + use_small + calls([1, 1024], exact(small))
 
 
+def emptied_runs(rng):
+    """Runs on tables with empty checks: document 01's frame, every ending, round 1,024 and the
+    one that would be too late, and lists with refusals."""
+    extremes = Fill(*(kept.extreme for kept in vars(KEPT).values()))
+    three, frame = tables.with_empty(tables.three_bits(), [0, 1, 1]), [4000, 4000, -2000]
+    script = fresh(three, frame, extremes) + calls([0] + [1] * 4, exact(three))
+    script += fresh(three, [0, 0, 0]) + calls([1, 1024, 1], exact(three))
+    for ending, table, frame in [LATE_RUNS[0], LATE_RUNS[3], LATE_RUNS[8]]:
+        table = tables.emptied(rng, table, 3)
+        script += fresh(table, frame) + calls([ending - 2, 1, 1, 1], exact(table))
+    for table in tables.emptied_tables(rng, 14):
+        script += fresh(table, inputs.lively_frame(rng, table[0]), extremes)
+        script += calls([1, 4, 150], exact(table)) + random_calls(rng, exact(table))
+    return script
+
+
+def mostly_empty(rng):
+    """m 2,048 and 32 edges: multipliers, masks and certificate are as long as for full checks."""
+    table = tables.mostly_empty()
+    lengths = exact(table)
+    script = fresh(table, inputs.channel_frame(rng, 32, 3000, 3000)) + calls([1], lengths)
+    for name in ("multipliers", "masks", "certificate"):
+        script += calls([1], changed(lengths, **{name: vars(lengths)[name] - 1}))
+    script += calls([1023], lengths) + [StartRun(32, 31), StartRun(32, 32)]
+    return script + [UseFrame([-FRAME_LIMIT] * 31 + [FRAME_LIMIT])] + calls([1, 1023], CAPACITY)
+
+
+def empty_checks_put_in():
+    """A run handed on between a table and the same with empty checks goes on alike: its copies
+    and offsets are the same, and 43 asks for no more."""
+    plain, frame = tables.hamming(), [-35, -40, -33, 0, 33, -11, 12]
+    holed = tables.with_empty(plain, [0, 1, 1, 3])
+    script = fresh(plain, frame) + calls([3], exact(plain))
+    script += [UseCode(code_file(holed)), *calls([0, 3], exact(holed))]
+    script += [UseCode(code_file(plain)), *calls([3], exact(plain))]
+    return script + [UseCode(code_file(holed)), *calls([1], exact(plain)),
+                     *calls([1024, 1], exact(holed))]
+
+
 def random_calls(rng, lengths):
     """A call list as demand 3 has them: refused calls included, parts of several lengths."""
     listed = []

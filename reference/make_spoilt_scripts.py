@@ -92,6 +92,58 @@ def farthest_offsets():
     return script + calls([1024, 0], exact(tables.three_bits()))
 
 
+# --- runs on tables with empty checks --------------------------------------------------------
+
+HOLED = tables.with_empty(HAMMING, [0, 1, 1, 3])
+
+
+def emptied_half_done(rng):
+    """Half-done runs whose multipliers and masks are junk, at empty checks too: 43 does not
+    look at them, and the next round puts them right."""
+    script, far = [], 2**32 - 1
+    for table in tables.emptied_tables(rng, 11):
+        code = parse_code_file(code_file(table))
+        done = rng.choice([0, 1, 40, 1022, 1023])
+        state = make_runs.random_half_done(rng, code, done)
+        script += opening(table, inputs.random_frame(rng, code.bits),
+                          Fill(multiplier=far, mask=far, rounds=done))
+        script += [PutEdge("copies", edge, copy) for edge, copy in enumerate(state.copies)]
+        script += [PutEdge("offsets", edge, y) for edge, y in enumerate(state.offsets)]
+        script += calls([0, 1, 30], exact(table))
+    return script
+
+
+def emptied_edges():
+    """43 on the first and the last edge, and on the element after, where an empty check starts
+    that has no edge; 42 before it."""
+    script, lengths = opening(HOLED, GOOD_FRAME), exact(HOLED)
+    for index in (0, lengths.copies - 1, lengths.copies):
+        for name, value in [("copies", -UNIT - 1), ("offsets", 8192 * 3 + 1),
+                            ("offsets", 8192 * 3)]:
+            script += [Fill(copy=0, offset=0, rounds=3), PutEdge(name, index, value)]
+            script += calls([1], lengths)
+    script += [Fill(copy=0, offset=0, rounds=1024), *calls([0], lengths)]
+    return script + [Fill(status=CERTIFIED), *calls([0, 1], lengths)]
+
+
+def emptied_parts():
+    """Each part one too short and exact: empty checks count in m, and in no other length."""
+    script, lengths = fresh(HOLED, LATE_FRAME), exact(HOLED)
+    for name in BUFFER_NAMES:
+        needed = vars(lengths)[name]
+        script += calls([1], changed(CAPACITY, **{name: needed - 1}))
+        script += calls([1], changed(CAPACITY, **{name: needed}))
+    return script + [StartRun(11, 12), StartRun(12, 11), StartRun(12, 12), *calls([1024], lengths)]
+
+
+def emptied_files(rng):
+    """Damaged files with empty checks in mid-run."""
+    script = fresh(HOLED, LATE_FRAME) + calls([2], exact(HOLED))
+    for claim in rng.sample(damage.empty_check_claims(rng), 12):
+        script += [UseCode(claim.data), *calls([1], CAPACITY), StartRun(8300, 8300)]
+    return script + [UseCode(code_file(HOLED)), *calls([1, 1024], exact(HOLED))]
+
+
 # --- refused starts and calls ----------------------------------------------------------------
 
 def short_parts():

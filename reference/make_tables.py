@@ -157,6 +157,51 @@ def one_wide_check(n=32):
     return n, [list(range(n))]
 
 
+# --- tables with empty checks ----------------------------------------------------------------
+
+def with_empty(table, places):
+    """An empty check before each check of these numbers; m is the place after the last."""
+    n, checks = table
+    numbered = [(place, []) for place in places] + list(enumerate(checks))
+    return n, [members for _, members in sorted(numbered, key=lambda one: one[0])]
+
+
+def emptied(rng, table, count):
+    """So many empty checks put in anywhere."""
+    return with_empty(table, [rng.between(0, len(table[1])) for _ in range(count)])
+
+
+def shortened(table, kept):
+    """The table on the kept bits alone: a check may lose all its members."""
+    number = {bit: place for place, bit in enumerate(sorted(kept))}
+    return len(number), [[number[bit] for bit in members if bit in number]
+                         for members in table[1]]
+
+
+def emptied_tables(rng, count):
+    """Empty checks first, between, last, in rows, all but one; by shortening; and anywhere in
+    random tables, all with n up to 12."""
+    fixed = [with_empty(three_bits(), [0]), with_empty(three_bits(), [1]),
+             with_empty(hamming(), [1]), with_empty(hamming(), [0, 2, 2, 2, 3, 3]),
+             with_empty(one_bit(), [0] * 5 + [1] * 4), with_empty(repeated_checks(), [0, 5, 7, 7]),
+             shortened(regular_table(rng, 24, 2, 4), rng.sample(range(24), 4)),
+             shortened(regular_table(rng, 24, 3, 6), rng.sample(range(24), 3))]
+    return fixed + [emptied(rng, small_table(rng), rng.between(1, 6))
+                    for _ in range(count - len(fixed))]
+
+
+def mostly_empty():
+    """m = 2048: one check of degree 32 among 2,047 empty ones."""
+    return with_empty(one_wide_check(), [0] * 1024 + [1] * 1023)
+
+
+def emptied_band(rng):
+    """m = 2048 and E = 8192 with 256 checks of degree 32 among 1,792 empty ones."""
+    return emptied(rng, band(), 1792)
+
+
+# --- lists of tables -------------------------------------------------------------------------
+
 def small_tables(rng, count):
     """A mix of fixed and random small tables, all with n up to 12."""
     fixed = [one_bit(), three_bits(), hamming(), repeated_checks(), stacked_singles(3),

@@ -54,8 +54,8 @@ def heads():
 
 
 SINGLE_FAULTS = [
-    ("first count 0", 3, damage.count_is("first", 0)),
-    ("last count 0", 3, damage.count_is("last", 0)),
+    ("first count 33", 3, damage.count_is("first", 33)),
+    ("last count 256", 3, damage.count_is("last", 256)),
     ("last count 33", 3, damage.count_is("last", 33)),
     ("middle count 65535", 3, damage.count_is("middle", 65535)),
     ("first start 1", 4, damage.start_off("first", 1)),
@@ -71,8 +71,8 @@ SINGLE_FAULTS = [
 
 # Of two faults the first of document 01's order is told.
 TWO_FAULTS = [
-    ("contents short, count 0", {"contents": damage.contents_short_by(1),
-                                 3: damage.count_is("first", 0)}),
+    ("contents short, count 33", {"contents": damage.contents_short_by(1),
+                                  3: damage.count_is("first", 33)}),
     ("wrong start, then count 33", {4: damage.start_off("first", 1),
                                     3: damage.count_is("last", 33)}),
     ("no bodies, wrong start", {5: damage.bodies_missing, 4: damage.start_off("last", 1)}),
@@ -87,6 +87,18 @@ def faults():
     both = [(name, damage.damaged(tables.hamming(), kinds)) for name, kinds in TWO_FAULTS]
     return ([refused(claim.number, name, claim.data + FRAMES_BEHIND) for name, claim in single]
             + [refused(claim.number, name, claim.data) for name, claim in both])
+
+
+def no_members():
+    """A count of 0 is no fault by itself.  Where it is the last one, the body that is left over
+    is frames, and its bits stand in no check."""
+    first, last = (damage.spoilt(tables.hamming(), damage.count_is(position, 0))
+                   for position in ("first", "last"))
+    return [refused(4, "first count 0", first), refused(7, "last count 0", last),
+            refused(7, "one empty check", code_file((1, [[]])) + FRAMES_BEHIND),
+            refused(7, "2048 empty checks", damage.contents_only(2048, 0)),
+            refused(5, "an empty check, contents a byte short", code_file((1, [[0], []]))[:11]),
+            refused(5, "an empty check, no bodies", code_file((1, [[], [0]]))[:12])]
 
 
 def too_many_edges(rng):
@@ -146,6 +158,22 @@ def endings():
                    ["certified", "spent", "refused 9", "certified"])]
 
 
+def empty_checks(rng):
+    """Empty checks change the head's number of checks, and no frame's line."""
+    frames = [LEANING, [9000, 0, 0], SPENT, GOOD]
+    tells = ["certified", "refused 9", "spent", "certified", "refused 8"]
+    one_bit = tables.with_empty(tables.one_bit(), [0] * 5 + [1] * 4)
+    large = tables.emptied(rng, tables.half_rate(rng), 1024)
+    clear = inputs.channel_frame(rng, 2048, 5000, 1500)
+    return ([framed(f"empty checks at {places}", tables.with_empty(THREE, places), frames, tells,
+                    b"\5") for places in ([0], [1], [0, 0, 1, 1, 1])]
+            + [framed("all but one check empty", one_bit, [[-5], [5]], ["certified"] * 2),
+               framed("2047 empty checks", tables.mostly_empty(), [[10] * 32], ["certified"]),
+               framed("1024 empty checks of 2048", large, [clear, clear[:-1] + [-32768]],
+                      ["certified", "refused 9"]),
+               framed("empty checks, longest code file", tables.emptied_band(rng), [], [])])
+
+
 def long_lists(rng):
     """More bytes than a pipe holds; and a large table."""
     table, largest = tables.hamming(), tables.largest_regular(rng)
@@ -159,7 +187,7 @@ def long_lists(rng):
 def report_inputs():
     rng = Prng(20_06)
     return (early_ends(rng) + heads() + faults() + too_many_edges(rng) + last_frames(rng)
-            + out_of_range() + endings() + long_lists(rng))
+            + out_of_range() + endings() + long_lists(rng) + no_members() + empty_checks(rng))
 
 
 # --- the command line ------------------------------------------------------------------------

@@ -66,7 +66,8 @@ def spins_of_bits(code, frame, copies, offsets):
 def settle_check(values):
     """Step 2 on one check: copies, multiplier and mask.
 
-    The cut search sees the clipped values, the multiplier search the unclipped ones.
+    The cut search sees the clipped values, the multiplier search the unclipped ones.  A check
+    without members is settled like every other one that has no cut.
     """
     clipped = [cut.clip(value) for value in values]
     mask = cut.known_cut(clipped)

@@ -9,7 +9,7 @@ from dataclasses import dataclass
 UNIT = 4096                 # U: spin +U is bit 0, spin -U is bit 1
 BITS_LIMIT = 2048
 CHECKS_LIMIT = 2048
-DEGREE_LIMIT = 32           # members of a check, and also checks of a bit
+DEGREE_LIMIT = 32           # members of a check, from 0, and checks of a bit, from 1
 EDGES_LIMIT = 8192
 FRAME_LIMIT = 8191
 
@@ -55,7 +55,7 @@ def read_contents(data):
     refuse_if(len(data) < 4 + 4 * checks, 5)
     starts = [number_at(data, 4 + 4 * check) for check in range(checks)]
     counts = [number_at(data, 6 + 4 * check) for check in range(checks)]
-    refuse_if(any(not 1 <= count <= DEGREE_LIMIT for count in counts), 3)
+    refuse_if(any(count > DEGREE_LIMIT for count in counts), 3)
     edges = 0
     for start, count in zip(starts, counts):
         refuse_if(start != edges, 4)
@@ -116,7 +116,8 @@ def check_check_number(code, number):
 
 
 def first_broken_check(code, word):
-    """The number of the first parity check with an odd number of ones, or None."""
+    """The number of the first parity check with an odd number of ones, or None.  A check
+    without members has none, and is always met."""
     for number, members in enumerate(code.checks):
         if sum(word[bit] for bit in members) % 2 == 1:
             return number

@@ -28,7 +28,7 @@ def negation_changes_nothing_else(account):
     account.announce("negated lists", "negated lists certified", "negated under ones",
                      "refused calls in lists", "lists on the negated frame")
     rng = Prng(51)
-    for table in tables.small_tables(rng, 40):
+    for table in tables.small_tables(rng, 40) + tables.emptied_tables(rng, 10):
         words = inputs.codewords(table)
         for _ in range(3):
             frame, codeword = inputs.lively_frame(rng, table[0]), rng.choice(words)
@@ -146,7 +146,7 @@ def buffers_show_the_last_round(account):
     """Every round of a run, step by step, against rounds from the definitions."""
     account.announce("rounds compared", "word and certificate left alone")
     rng = Prng(53)
-    for table in tables.small_tables(rng, 40):
+    for table in tables.small_tables(rng, 40) + tables.emptied_tables(rng, 12):
         frame = inputs.lively_frame(rng, table[0])
         run = Run(table, frame, rng)
         copies, offsets = [0] * run.code.edges, [0] * run.code.edges
@@ -228,7 +228,7 @@ def half_done_runs_go_on(account):
     """States at the near side of 43 are taken, and give a round by the same rule."""
     account.announce("half-done runs resumed", "half-done runs ended")
     rng = Prng(58)
-    for table in tables.small_tables(rng, 12):
+    for table in tables.small_tables(rng, 12) + tables.emptied_tables(rng, 10):
         code = parse_code_file(tables.code_file(table))
         states = make_runs.accepted_half_done(code)
         states += [make_runs.random_half_done(rng, code, done) for done in (0, 1, 7, 900, 1023)]
@@ -278,7 +278,8 @@ def larger_tables_run(account):
     """A few rounds at the limits of n, m, E and both degrees; certificates are judged."""
     account.announce("rounds on limit tables", "limit tables certified")
     rng = Prng(61)
-    for table in tables.limit_tables(rng)[:4] + [tables.full_square(), tables.stacked_singles(32)]:
+    for table in tables.limit_tables(rng)[:4] + [tables.full_square(), tables.stacked_singles(32),
+                                                 tables.mostly_empty(), tables.emptied_band(rng)]:
         run = Run(table, inputs.noisy_frame(rng, table[0]), rng)
         seen = run.call(Call(4, None))
         account.add("rounds on limit tables", seen.rounds_done)

@@ -122,6 +122,30 @@ def second_best_frame():
     expect_equal(run.call(Call(1019, None)).word, [0, 0, 0, 0], "best codeword")
 
 
+def empty_check_frame():
+    """(4000, 4000, -2000) once more, with an empty check before and after the one with members:
+    the same rounds, and 0 for the others whatever stood there."""
+    run = fresh((3, [[], [0, 1, 2], []]), [4000, 4000, -2000])
+    expect_round(run, RUNNING, multipliers=[0, 1968, 0], masks=[0, 4, 0],
+                 copies=[2032, 2032, -32], offsets=[1968, 1968, -1968])
+    expect_round(run, RUNNING, multipliers=[0, 3334, 0], masks=[0, 4, 0])
+    expect_round(run, CERTIFIED, multipliers=[0, 3333, 0], masks=[0, 4, 0])
+    expect_ending(run, 3, [0, 0, 0], "01 00 01 00 01 00 05 0D 00 00 04 00 00 00")
+    expect_equal([cut_search(run.code_file, [1365, 1365, -1367], check) for check in range(3)],
+                 [None, 4, None], "cuts beside empty checks")
+
+
+def empty_check_named():
+    """011 is a codeword of agreement 2000 where 000 has 6000.  An entry of 4000 on the empty
+    check would take 2 x 4000 from the bound of 10000, and so pass it: no mask may fit."""
+    data, frame = tables.code_file((3, [[0, 1, 2], []])), [4000, 4000, -2000]
+    for multiplier, mask, number in [(4000, 1, 13), (4000, 0, 13), (4000, 1 << 31, 13),
+                                     (0, 1, 12), (1 << 24, 1, 12)]:
+        written = write_certificate([Entry(1, multiplier, mask)])
+        expect_equal(decoder.answer(decoder.judge, data, frame, [0, 1, 1], written),
+                     f"refused {number}", f"entry {multiplier} {mask} on an empty check")
+
+
 def report_edges():
     """Readings 5 and 6: surplus bytes are frames, a short frame is 8, bad files stand alone."""
     head = bytes.fromhex("01 00 01 00 00 00 01 00 00 00")
@@ -137,7 +161,7 @@ def report_edges():
 
 FRAME_TESTS = [cut_examples, leaning_frame, two_ones_frame, four_gaps, one_bit_frame,
                three_frame_report, odd_total_frame, side_change_frame, second_best_frame,
-               report_edges]
+               empty_check_frame, empty_check_named, report_edges]
 
 
 def worked_examples(account):

@@ -76,10 +76,17 @@ def kind_of(text):
     return "number" if text.lstrip("-").isdigit() else text.split()[0]
 
 
+def empty_checks(data):
+    """The numbers of the empty checks of a code file, if it is a good one."""
+    code = decoder.answer(parse_code_file, data)
+    return [] if isinstance(code, str) else [check for check, members in enumerate(code.checks)
+                                             if not members]
+
+
 # --- case_cuts and case_judge ----------------------------------------------------------------
 
 def case_cuts_cover_all(account):
-    account.announce("case_cuts: mask with bit 31")
+    account.announce("case_cuts: mask with bit 31", "case_cuts: none of an empty check")
     stream, text = kind_cuts.case_cuts()
     expect(len(stream) < 1_000_000, "size of IN")
     records = Reader(stream).records(lambda r: (r.block(), r.numbers("i"), r.field("I")))
@@ -89,6 +96,9 @@ def case_cuts_cover_all(account):
                    ["mask", "none", *refusals(*range(1, 8), 16, 17)])
     account.add("case_cuts: mask with bit 31",
                 sum(line.startswith("mask") and int(line[5:]) >> 31 for line in said))
+    account.add("case_cuts: none of an empty check",
+                sum(line == "none" and check in empty_checks(data)
+                    for (data, _, check), line in zip(records, said)))
 
 
 def case_judge_cover_all(account):
@@ -99,11 +109,22 @@ def case_judge_cover_all(account):
     said = text.splitlines()
     expect_equal([kind_judge.judge_line(kind_judge.JudgeCase(*one)) for one in records], said,
                  "verdicts")
+    expect_covered(account, "entries on empty checks", entries_on_empty(records, said),
+                   refusals(12, 13, 14))
     judged, checked, agreed = zip(*(map(kind_of, line.split(" ; ")) for line in said))
     expect_covered(account, "case_judge", judged,
                    ["broken", "certified", "gap", *refusals(*range(1, 16))])
     expect_covered(account, "syndromes", checked, ["broken", "met", *refusals(*range(1, 8), 15)])
     expect_covered(account, "agreements", agreed, ["number", *refusals(*range(1, 10), 15)])
+
+
+def entries_on_empty(records, said):
+    """What is said of certificates of good length with an entry that names an empty check."""
+    for (data, _, _, certified), line in zip(records, said):
+        if certified and len(certified) == 4 + 10 * inputs.entry_count(certified):
+            named = {entry.check for entry in inputs.read_entries(certified)[1]}
+            if named & set(empty_checks(data)):
+                yield kind_of(line.split(" ; ")[0])
 
 
 def tight_certificates_have_gap_0(account):
@@ -154,11 +175,30 @@ def case_calls_cover_all(account):
     expect_within_capacity(script)
     told = {"start": [], "rounds": []}
     for line in text.splitlines():
-        call, rest = line.split(" ", 1)
-        told[call].append(kind_of(" ".join(rest.split()[:2 if "refused" in rest else 1])))
+        told[line.split(" ", 1)[0]].append(answer_of(line))
     expect_covered(account, "starts", told["start"], ["started", *refusals(*range(1, 8), 41)])
     expect_covered(account, "calls for rounds", told["rounds"],
                    ["running", "certified", "spent", *refusals(*range(1, 10), 17, 41, 42, 43)])
+    expect_covered(account, "calls on empty checks",
+                   map(answer_of, lines_on_empty(script, text.splitlines())),
+                   ["started", "running", "certified", "spent", *refusals(17, 41, 42, 43)])
+
+
+def answer_of(line):
+    _, rest = line.split(" ", 1)
+    return kind_of(" ".join(rest.split()[:2 if "refused" in rest else 1]))
+
+
+def lines_on_empty(script, said):
+    """The lines of starts and calls on good tables with empty checks."""
+    told, holed = iter(said), False
+    for call in script:
+        if isinstance(call, UseCode):
+            holed = empty_checks(call.data) != []
+        elif isinstance(call, (StartRun, CallRounds)):
+            line = next(told)
+            if holed:
+                yield line
 
 
 def expect_within_capacity(script):

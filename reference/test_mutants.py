@@ -34,6 +34,28 @@ def round_one_again(right_round):
         code, frame, [0] * code.edges, [0] * code.edges)
 
 
+def empty_refused(right_contents):
+    def contents(data):
+        bits, counts = right_contents(data)
+        table.refuse_if(0 in counts, 3)
+        return bits, counts
+    return contents
+
+
+def empty_never_met(right_broken):
+    return lambda code, word: (code.checks.index([]) if [] in code.checks
+                               else right_broken(code, word))
+
+
+def multiplier_on_empty(right_settle):
+    return lambda values: right_settle(values) if values else ([], 1, 0)
+
+
+def any_mask_on_empty(right_check):
+    return lambda code, entry, before: (None if code.checks[entry.check] == []
+                                        else right_check(code, entry, before))
+
+
 MUTANTS = {
     "side change omitted": (cut, "known_cut", cut_without_side_change),
     "division downward": (rounds, "divide_toward_zero", lambda total, count: total // count),
@@ -42,6 +64,12 @@ MUTANTS = {
     "any codeword certified by a run": (rounds, "certified_word", any_codeword),
     "any codeword certified by the judge": (certificate, "gap", lambda *arguments: 0),
     "no cut ever": (cut, "known_cut", lambda spins: None),
+    "empty check refused": (table, "read_contents", empty_refused(table.read_contents)),
+    "empty check never met": (table, "first_broken_check",
+                              empty_never_met(table.first_broken_check)),
+    "empty check with a multiplier": (rounds, "settle_check",
+                                      multiplier_on_empty(rounds.settle_check)),
+    "empty check named": (certificate, "check_entry", any_mask_on_empty(certificate.check_entry)),
     "round 1 repeated": (rounds, "one_round", round_one_again(rounds.one_round)),
     "always the zero word": (rounds, "candidate", lambda spins: [0] * len(spins)),
     "nothing written": (rounds, "write_over", lambda buffer, values: None),

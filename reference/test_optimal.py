@@ -15,7 +15,7 @@ def certified_words_are_best(account):
     """Brute force over all codewords of small tables; each certificate is judged again."""
     account.announce("runs certified", "runs spent", "certificates with cuts", "negative bounds")
     rng = Prng(41)
-    for table in tables.small_tables(rng, 36):
+    for table in tables.small_tables(rng, 36) + tables.emptied_tables(rng, 12):
         words = inputs.codewords(table)
         for frame in inputs.frames(rng, table[0]):
             written = inputs.run_certificate(table, frame)
@@ -58,7 +58,7 @@ def gaps_are_never_negative(account):
     """Certificates of no decoder: broken words, gaps of 0 and above, never below."""
     account.announce("judged broken", "judged certified", "judged with a gap")
     rng = Prng(42)
-    for table in tables.small_tables(rng, 40):
+    for table in tables.small_tables(rng, 40) + tables.emptied_tables(rng, 12):
         words = inputs.codewords(table)
         for _ in range(60):
             frame = inputs.lively_frame(rng, table[0])
@@ -100,7 +100,7 @@ def in_relaxation(checks, point, unit):
 
 
 def near_point(rng, n, unit):
-    """Small numbers: inside whenever every check has three members or more."""
+    """Small numbers: inside whenever no check has one or two members."""
     reach = rng.choice([unit // 3, unit // 2, unit])
     return [rng.between(-reach, reach) for _ in range(n)]
 
@@ -135,7 +135,7 @@ def no_point_agrees_better(account):
     """Demand 3's first part, and weak duality for certificates of any scale."""
     account.announce("points compared", "fractional points", "points meeting the bound")
     rng = Prng(44)
-    for table in tables.small_tables(rng, 30):
+    for table in tables.small_tables(rng, 30) + tables.emptied_tables(rng, 10):
         words = inputs.codewords(table)
         points = relaxation_points(rng, table, words, 12)
         points += half_points(table) if table[0] <= 5 else []

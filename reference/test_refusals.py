@@ -22,6 +22,7 @@ def claimed_refusals(account):
     rng = Prng(71)
     claims = damage.single_faults(rng) + damage.fault_pairs(rng, 4)
     claims += damage.fault_triples(rng, 120) + damage.limit_claims(rng)
+    claims += damage.empty_check_claims(rng)
     calls = [make_runs.CallClaim(claim.number, "parse_code_file", [claim.data]) for claim in claims]
     for number, call, arguments in calls + make_runs.call_claims(rng):
         kept = copy.deepcopy(arguments)
@@ -43,7 +44,7 @@ def code_file_faults(data):
     if len(data) < 4 + 4 * m:
         return faults | {"contents"}
     contents = list(struct.iter_unpack("<HH", data[4:4 + 4 * m]))
-    if any(count == 0 or count > 32 for _, count in contents):
+    if any(count > 32 for _, count in contents):
         faults.add(3)
     follow = [(0, 0)] + contents
     if (any(start != before + count for (before, count), (start, _) in zip(follow, contents))
@@ -113,7 +114,7 @@ def spoilt(rng, data):
 def certificates_by_condition(account):
     account.announce("certificates refused by condition", "certificates read")
     rng = Prng(73)
-    for table in tables.small_tables(rng, 30):
+    for table in tables.small_tables(rng, 30) + tables.emptied_tables(rng, 12):
         for _ in range(50):
             data = spoilt(rng, inputs.handmade_certificate(rng, table))
             number = certificate_fault(table[1], data)

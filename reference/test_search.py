@@ -2,6 +2,7 @@
 
 import cut
 import make_inputs as inputs
+import make_tables as tables
 from prng import Prng
 from support import expect, expect_equal
 from table import UNIT
@@ -28,6 +29,21 @@ def count_search(account, spins, violated):
     account.add("cuts with a zero spin", bool(violated) and 0 in spins)
     account.add("cuts by a side change", bool(violated) and even)
     account.add("spins tied for the side change", even and sizes[:1] == sizes[1:2])
+
+
+def empty_checks_have_no_cut(account):
+    """No odd set is to be had of no members, though the left side of the empty set is 0."""
+    account.announce("searches on an empty check")
+    expect_equal((cut.all_cuts([]), cut.known_cut([])), ([], None), "cut of no spins")
+    expect(cut.is_violated([], 0), "the empty set is even, and short of 2U")
+    rng = Prng(35)
+    for table in tables.emptied_tables(rng, 20):
+        spins = inputs.random_spins(rng, table[0])
+        for check, members in enumerate(table[1]):
+            if not members:
+                expect_equal(cut.cut_search(tables.code_file(table), spins, check), None,
+                             f"cut of check {check} of {table}")
+                account.add("searches on an empty check")
 
 
 def ties_are_never_cut(account):
@@ -93,5 +109,5 @@ def multiplier_is_least(account):
         account.add("large multipliers", least > 8192)
 
 
-TESTS = [known_against_exhaustive, ties_are_never_cut, wide_checks_by_hand,
-         fast_multiplier_against_counting, multiplier_is_least]
+TESTS = [known_against_exhaustive, empty_checks_have_no_cut, ties_are_never_cut,
+         wide_checks_by_hand, fast_multiplier_against_counting, multiplier_is_least]

@@ -12,6 +12,10 @@ Accepted beside that: lists in any order; zeros after a list's numbers, as many 
 blank lines anywhere; comments, from `#`, `%` or `//` to the end of the line; a byte-order mark;
 Windows line ends. A list is never spread over lines, and a line never has two.
 
+A row of weight 0 has a line of zeros, or none: blank lines say nothing. If the next line that
+says something has zeros only, it is that row's. Written is a line of zeros, as for the others. A
+column of weight 0 is refused, since a bit stands in a check.
+
 IN and OUT may be `-`, standard input and output. What is refused is told in one line on standard
 error that names the file's own line, with status 1, and nothing is written.
 """
@@ -28,11 +32,11 @@ from plain import Refused
 
 COMMENT = re.compile(rb"#|%|//")
 
-# A side of the table: what a line is called, what its numbers are called, and which of the code
-# file's limits holds for its weights.
-Side = namedtuple("Side", "name listed limit")
-COLUMN = Side("column", "row", f"a bit stands in 1 to {DEGREE_LIMIT} checks")
-ROW = Side("row", "column", f"a check has 1 to {DEGREE_LIMIT} members")
+# A side of the table: what a line is called, what its numbers are called, its least weight, and
+# which of the code file's limits holds for its weights.
+Side = namedtuple("Side", "name listed least limit")
+COLUMN = Side("column", "row", 1, f"a bit stands in 1 to {DEGREE_LIMIT} checks")
+ROW = Side("row", "column", 0, f"a check has 0 to {DEGREE_LIMIT} members")
 
 # The numbers of a column or row, without padding, and where they stand.
 Listed = namedtuple("Listed", "line numbers")
@@ -43,11 +47,25 @@ class Reader:
 
     def __init__(self, stream):
         self.lines = ((number, text) for number, text in plain.lines(stream, COMMENT) if text)
+        self.put_back = None                # a line that was looked at and not taken
         self.number = 0                     # of the line last taken, from 1
+
+    def next_line(self):
+        """Number and text of the next line, or None."""
+        line, self.put_back = self.put_back or next(self.lines, None), None
+        return line
+
+    def pass_zeros(self):
+        """Takes the next line if it has zeros only."""
+        line = self.next_line()
+        if line is not None and any(plain.whole_numbers(*line)):
+            self.put_back = line
+        elif line is not None:
+            self.number, _ = line
 
     def take(self, wanted):
         """The next line's numbers."""
-        self.number, text = next(self.lines, (self.number + 1, None))
+        self.number, text = self.next_line() or (self.number + 1, None)
         if text is None:
             self.refuse(f"the file ends where {wanted} should stand")
         return plain.whole_numbers(self.number, text)
@@ -56,8 +74,9 @@ class Reader:
         raise Refused(f"line {line or self.number}: {reason}")
 
     def refuse_more(self):
-        for number, _ in self.lines:
-            self.refuse("text after the last row", number)
+        line = self.next_line()
+        if line is not None:
+            self.refuse("text after the last row", line[0])
 
 
 # --- alist to table --------------------------------------------------------------------------
@@ -104,7 +123,7 @@ def read_weights(reader, side, count):
     if len(weights) != count:
         reader.refuse(f"{plain.counted(len(weights), f'{side.name} weight')}, {count} wanted")
     for number, weight in enumerate(weights, 1):
-        if not 1 <= weight <= DEGREE_LIMIT:
+        if not side.least <= weight <= DEGREE_LIMIT:
             reader.refuse(f"{side.name} {number} has weight {weight}; in a code file {side.limit}")
     return weights
 
@@ -129,7 +148,10 @@ def refuse_edges(reader, column_weights, row_weights):
 
 
 def read_list(reader, side, number, weight, highest):
-    """One column or row; zeros may follow its numbers."""
+    """One column or row; zeros may follow its numbers, and stand for none."""
+    if weight == 0:
+        reader.pass_zeros()
+        return Listed(reader.number, [])
     name = f"{side.name} {number}"
     numbers = reader.take(f"the list of {name}")
     found = sum(item != 0 for item in numbers)

@@ -1,6 +1,7 @@
 """The code file, read and written (docs/FORMATS.md).
 
-A table is a pair (n, checks); a check is an ascending list of bit numbers, from 0.
+A table is a pair (n, checks); a check is an ascending list of bit numbers, from 0. It may be
+empty.
 """
 
 from collections import Counter
@@ -72,8 +73,8 @@ def read_counts(data, m):
     contents = numbers_at(data, 4, 2 * m)
     starts, counts = contents[0::2], contents[1::2]
     for check, count in enumerate(counts):
-        if not 1 <= count <= DEGREE_LIMIT:
-            raise CodeFileRefused(3, f"check {check} has count {count}, 1 to {DEGREE_LIMIT} wanted")
+        if count > DEGREE_LIMIT:
+            raise CodeFileRefused(3, f"check {check} has count {count}, 0 to {DEGREE_LIMIT} wanted")
     for check, (start, wanted) in enumerate(zip(starts, accumulate(counts, initial=0))):
         if start != wanted:
             raise CodeFileRefused(4, f"check {check} starts at {start}, {wanted} wanted")

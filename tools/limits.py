@@ -3,7 +3,7 @@ place (docs/FORMATS.md has them all)."""
 
 BITS_LIMIT = 2048
 CHECKS_LIMIT = 2048
-DEGREE_LIMIT = 32           # members of a check, and also checks of a bit
+DEGREE_LIMIT = 32           # members of a check, from 0, and checks of a bit, from 1
 EDGES_LIMIT = 8192
 FRAME_LIMIT = 8191
 ROUNDS_LIMIT = 1024
@@ -11,7 +11,7 @@ ROUNDS_LIMIT = 1024
 CODE_FILE_REFUSALS = {
     1: "code file under 4 bytes",
     2: "n or m out of range",
-    3: "a count out of range",
+    3: f"a count above {DEGREE_LIMIT}",
     4: f"a start wrong or E above {EDGES_LIMIT}",
     5: "length wrong",
     6: "a member not below n, or not ascending",

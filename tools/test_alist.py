@@ -8,7 +8,7 @@ from pathlib import Path
 
 import alist
 import codefile
-from testing import (HAMMING, LIMIT_TABLES, THREE_BITS, random_tables, refusal_of, run_tool)
+from testing import HAMMING, LIMIT_TABLES, THREE_BITS, random_tables, refusal_of, run_tool
 
 # The (7,4) Hamming code, padded, one list a line: lines 5 to 11 are columns, 12 to 14 rows.
 HAMMING_TEXT = """7 3
@@ -25,6 +25,22 @@ HAMMING_TEXT = """7 3
 1 3 5 7
 2 3 6 7
 4 5 6 7
+"""
+
+
+# Rows 1, 3 and 4 have no members: lines 8, 10 and 11.
+EMPTY_ROWS = (3, [[], [0, 1, 2], [], []])
+EMPTY_ROWS_TEXT = """3 4
+1 3
+1 1 1
+0 3 0 0
+2
+2
+2
+0 0 0
+1 2 3
+0 0 0
+0 0 0
 """
 
 
@@ -54,9 +70,9 @@ LIMITS = [
      with_line(3, "1 1 2 0 2 2 3")),
     ("line 3: column 7 has weight 33; in a code file a bit stands in 1 to 32 checks",
      with_line(3, "1 1 2 1 2 2 33")),
-    ("line 4: row 2 has weight 0; in a code file a check has 1 to 32 members",
-     with_line(4, "4 0 4")),
-    ("line 4: row 3 has weight 33; in a code file a check has 1 to 32 members",
+    ("line 4: row 2 has weight -1; in a code file a check has 0 to 32 members",
+     with_line(4, "4 -1 4")),
+    ("line 4: row 3 has weight 33; in a code file a check has 0 to 32 members",
      with_line(4, "4 4 33")),
     ("line 4: 8224 edges, too many from row 257 on; a code file has at most 8192",
      "257 257\n32 32\n" + 2 * ("32 " * 257 + "\n")),
@@ -80,6 +96,8 @@ MALFORMED = [
     ("line 4: 2 row weights, 3 wanted", with_line(4, "4 4")),
     ("line 4: the file ends where the row weights should stand", up_to(3)),
     ("line 4: the row weights add up to 11, the column weights to 12", with_line(4, "4 4 3")),
+    ("line 4: the row weights add up to 8, the column weights to 12", with_line(4, "4 0 4")),
+    ("line 4: the row weights add up to 0, the column weights to 1", "1 2\n1 0\n1\n0 0\n1\n"),
     ("line 5: 2 numbers beside 0 for column 1, 1 wanted (values", with_line(5, "1 1")),
     ("line 5: 0 numbers beside 0 for column 1, 1 wanted", with_line(5, "0 0 0")),
     ("line 7: 2 numbers beside 0 for column 2, 1 wanted", with_line(5, "")),
@@ -111,6 +129,26 @@ MALFORMED = [
 ]
 
 
+# Lines that are wrong where rows have no members.
+EMPTY_MALFORMED = [
+    ("line 9: 2 numbers beside 0 for row 2, 3 wanted", {9: "1 2 0"}),
+    ("line 8: 1 number beside 0 for row 2, 3 wanted", {8: "1 0 0"}),
+    ("line 10: text after the last row", {10: "0 1 0"}),
+    ("line 11: text after the last row", {11: "3"}),
+    ("line 12: text after the last row", {11: "0 0 0\n0 0 0"}),
+    ("line 10: 'none' is not a whole number", {10: "none"}),
+    ("line 9: row 2 lists column 3 twice", {8: "", 9: "1 3 3"}),
+    ("line 12: the file ends where the list of row 2 should stand",
+     {8: "", 9: "", 10: "", 11: "0"}),
+    ("line 9: 0 numbers beside 0 for row 2, 3 wanted", {9: "0 0 0"}),
+]
+
+
+def empty_rows_with(lines):
+    text = EMPTY_ROWS_TEXT.split("\n")
+    return "\n".join(lines.get(number, line) for number, line in enumerate(text, 1))
+
+
 class Refusals(unittest.TestCase):
     def expect(self, cases):
         for message, text in cases:
@@ -124,6 +162,9 @@ class Refusals(unittest.TestCase):
 
     def test_malformed(self):
         self.expect(MALFORMED)
+
+    def test_malformed_among_empty_rows(self):
+        self.expect((message, empty_rows_with(lines)) for message, lines in EMPTY_MALFORMED)
 
     def test_no_damage_slips_through(self):
         """A number changed anywhere is refused."""
@@ -140,6 +181,10 @@ class Conversion(unittest.TestCase):
     def test_hamming(self):
         self.assertEqual(read(HAMMING_TEXT), HAMMING)
         self.assertEqual(alist.write(HAMMING).decode(), HAMMING_TEXT)
+
+    def test_empty_rows(self):
+        self.assertEqual(read(EMPTY_ROWS_TEXT), EMPTY_ROWS)
+        self.assertEqual(alist.write(EMPTY_ROWS).decode(), EMPTY_ROWS_TEXT)
 
     def test_round_trip_is_exact(self):
         for table in [THREE_BITS, *LIMIT_TABLES, *random_tables(200)]:
@@ -162,6 +207,18 @@ class Accepted(unittest.TestCase):
         self.loosened(None, lambda _, place, line: (
             line if place <= 4 else " ".join(word for word in line.split() if word != "0"))
             + "\n")
+
+    def test_an_empty_row_may_have_no_line(self):
+        """Each of the three lines there, blank, or left out; the next line is never lost."""
+        for first in ("0\n", "0 0 0 0\n", "\n", "# empty\n", ""):
+            for last in ("0\n0\n", "0 0\n", "\n\n", "\n0\n", "0\n# 1 2 3\n", ""):
+                text = "".join(EMPTY_ROWS_TEXT.splitlines(keepends=True)[:7])
+                self.assertEqual(read(text + first + "1 2 3\n" + last), EMPTY_ROWS)
+
+    def test_many_empty_rows_without_lines(self):
+        checks = [[]] * 1024 + [[0]] + [[]] * 1023
+        weights = " ".join(str(len(members)) for members in checks)
+        self.assertEqual(read(f"1 2048\n1 1\n1\n{weights}\n1025\n1\n"), (1, checks))
 
     def test_padding_of_any_length(self):
         self.loosened(random.Random(5), lambda rng, place, line: (

@@ -23,7 +23,8 @@ ONE_WORD = (2, [[0], [0, 1]])
 class Words(unittest.TestCase):
     def test_ranks(self):
         for table, rank in ((THREE_BITS, 1), (HAMMING, 3), (ARRAY, 37), (ONE_WORD, 2),
-                            ((3, [[0, 1], [1, 2], [0, 2]]), 2)):
+                            ((3, [[0, 1], [1, 2], [0, 2]]), 2),
+                            ((3, [[], [0, 1, 2], []]), 1)):
             code = Codewords(table)
             self.assertEqual((code.rank(), code.dimension()), (rank, table[0] - rank))
 

@@ -22,11 +22,11 @@ REFUSED = [
     (2, "m is 0", numbers(1, 0)),
     (2, "m is 2049", numbers(1, 2049)),
     (5, "contents alone end at 12", numbers(2, 2, 0, 1)),
-    (3, "check 0 has count 0", numbers(1, 1, 0, 0)),
-    (3, "check 0 has count 33", numbers(40, 1, 0, 33)),
-    (3, "check 1 has count 0", numbers(1, 2, 9, 1, 1, 0)),      # ahead of the wrong start
+    (3, "a count above 32 (check 0 has count 33, 0 to 32 wanted)", numbers(40, 1, 0, 33)),
+    (3, "check 1 has count 256", numbers(1, 2, 9, 1, 1, 256)),  # ahead of the wrong start
     (4, "check 0 starts at 1, 0 wanted", numbers(1, 1, 1, 1, 0)),
     (4, "check 1 starts at 2, 1 wanted", numbers(1, 2, 0, 1, 2, 1, 0, 0)),
+    (4, "check 1 starts at 0, 1 wanted", numbers(1, 2, 0, 1, 0, 0, 0)),     # an empty check
     (4, "E is 8224", numbers(32, 257) + b"".join(numbers(32 * k, 32) for k in range(257))),
     (5, "8 bytes where the contents say 10", numbers(1, 1, 0, 1)),
     (5, "12 bytes where the contents say 10", numbers(1, 1, 0, 1, 0, 0)),
@@ -34,6 +34,8 @@ REFUSED = [
     (6, "check 0 has member 1 after 1", numbers(3, 1, 0, 3, 0, 1, 1)),
     (6, "check 0 has member 0 after 2", numbers(3, 1, 0, 3, 1, 2, 0)),
     (7, "bit 2 stands in 0", numbers(3, 1, 0, 2, 0, 1)),
+    (7, "bit 0 stands in 0", numbers(1, 1, 0, 0)),
+    (7, "bit 1 stands in 0", codefile.write((2, [[], [0], []]))),
     (7, "bit 0 stands in 33", codefile.write((1, [[0]] * 33))),
 ]
 
@@ -65,6 +67,10 @@ class CodeFile(unittest.TestCase):
     def test_read_back(self):
         for table in [THREE_BITS, HAMMING, *LIMIT_TABLES, *random_tables(200)]:
             self.assertEqual(codefile.read(codefile.write(table)), table)
+
+    def test_empty_checks(self):
+        self.assertEqual(codefile.read(numbers(2, 4, 0, 0, 0, 2, 2, 0, 2, 0, 0, 1)),
+                         (2, [[], [0, 1], [], []]))
 
     def test_refusals(self):
         for number, place, data in REFUSED:
