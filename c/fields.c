@@ -13,6 +13,9 @@ static const uint8_t three[] = {3, 0, 1, 0, 0, 0, 3, 0, 0, 0, 1, 0, 2, 0};
 static const uint8_t hamming[] = {7, 0, 3, 0, 0, 0, 4, 0, 4, 0, 4, 0, 8, 0, 4, 0, 0, 0, 2, 0,
                                   4, 0, 6, 0, 1, 0, 2, 0, 5, 0, 6, 0, 3, 0, 4, 0, 5, 0, 6, 0};
 
+/* Three checks, of which only the second has members: bits 0, 1 and 2. */
+static const uint8_t shortened[] = {3, 0, 3, 0, 0, 0, 0, 0, 0, 0, 3, 0, 3, 0, 0, 0, 0, 0, 1, 0, 2, 0};
+
 static const int16_t leaning[BITS] = {4000, 4000, -2000};
 static const int16_t too_large[BITS] = {4000, 4000, JUGNAYAP_MAX_FRAME + 1};
 
@@ -40,6 +43,8 @@ static void tables(void)
 {
     same_table("table", jugnayap_check_table(hamming, sizeof hamming),
                (JugnayapTable){.number = 0, .bits = 7, .checks = 3, .edges = 12});
+    same_table("table with checks without members", jugnayap_check_table(shortened, sizeof shortened),
+               (JugnayapTable){.number = 0, .bits = 3, .checks = 3, .edges = 3});
     same_table("table a byte short", jugnayap_check_table(hamming, sizeof hamming - 1),
                (JugnayapTable){.number = JUGNAYAP_REFUSED_LENGTH_WRONG});
     same_table("no table", jugnayap_check_table(NULL, 0),
@@ -65,6 +70,10 @@ static void cuts(void)
              (JugnayapCut){.mask = 0});
     same_cut("1365 1365 -1367", jugnayap_search_cut(three, sizeof three, cut, BITS, 0),
              (JugnayapCut){.mask = 4});
+    for (size_t check = 0; check < 3; check++)
+        same_cut("checks without members on either side",
+                 jugnayap_search_cut(shortened, sizeof shortened, cut, BITS, check),
+                 (JugnayapCut){.mask = check == 1 ? 4 : 0});
 }
 
 /* One entry, scale 1, mask 4, on word 000. */
@@ -97,6 +106,29 @@ static void verdicts(void)
                  (JugnayapVerdict){.number = JUGNAYAP_REFUSED_ENTRY_RANGE});
     same_verdict("no frame", jugnayap_judge(three, sizeof three, NULL, 0, NULL, 0, NULL, 0),
                  (JugnayapVerdict){.number = JUGNAYAP_REFUSED_FRAME_LENGTH});
+}
+
+/* An entry on one of three checks of which only the second has members; scale 1, word 000. */
+static JugnayapVerdict judged_on(uint8_t check, uint16_t multiplier, uint8_t mask)
+{
+    const uint8_t word[BITS] = {0, 0, 0};
+    const uint8_t certificate[CERTIFICATE] = {
+        1, 0, 1, 0, check, 0, (uint8_t)multiplier, (uint8_t)(multiplier >> 8), 0, 0, mask};
+    return jugnayap_judge(shortened, sizeof shortened, leaning, BITS, word, BITS, certificate, CERTIFICATE);
+}
+
+/* No mask fits a check without members. */
+static void checks_without_members(void)
+{
+    same_verdict("check 1", judged_on(1, 2000, 4), (JugnayapVerdict){.kind = JUGNAYAP_PASSED});
+    for (uint8_t mask = 0; mask < 8; mask++) {
+        same_verdict("check 0, without members", judged_on(0, 2000, mask),
+                     (JugnayapVerdict){.number = JUGNAYAP_REFUSED_MASK_WRONG});
+        same_verdict("check 2, without members", judged_on(2, 1, mask),
+                     (JugnayapVerdict){.number = JUGNAYAP_REFUSED_MASK_WRONG});
+    }
+    same_verdict("multiplier 0 on no members", judged_on(0, 0, 1),
+                 (JugnayapVerdict){.number = JUGNAYAP_REFUSED_ENTRY_RANGE});
 }
 
 /* A gap of more than 32 bits: one check on 32 bits, the masks 1, 2, 4, 7 and 8 with the greatest
@@ -138,6 +170,7 @@ int main(void)
     tables();
     cuts();
     verdicts();
+    checks_without_members();
     large_gap();
     agreements();
     return account("fields");

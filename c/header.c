@@ -103,6 +103,9 @@ static void codes(void)
     same_shape("a check more", (Shape){1, JUGNAYAP_MAX_CHECKS + 1, 1, 1}, JUGNAYAP_REFUSED_SIZE_RANGE);
     same_shape("the largest check", (Shape){degree, 1, degree, degree}, 0);
     same_shape("a member more", (Shape){degree + 1, 1, degree + 1, degree + 1}, JUGNAYAP_REFUSED_COUNT_RANGE);
+    same_shape("a check without members", (Shape){3, 2, 3, 0}, 0);
+    same_shape("all but one without", (Shape){1, JUGNAYAP_MAX_CHECKS, 0, 1}, 0);
+    same_shape("all without", (Shape){1, JUGNAYAP_MAX_CHECKS, 0, 0}, JUGNAYAP_REFUSED_BIT_DEGREE);
     same_shape("a bit in all checks that it may be in", (Shape){1, degree, 1, 1}, 0);
     same_shape("in one more", (Shape){1, degree + 1, 1, 1}, JUGNAYAP_REFUSED_BIT_DEGREE);
     same_shape("a member that is no bit", (Shape){3, 1, 4, 4}, JUGNAYAP_REFUSED_MEMBER_WRONG);
@@ -190,6 +193,25 @@ static void written_length(void)
                  (JugnayapVerdict){.kind = JUGNAYAP_PASSED});
 }
 
+/* A second check without members: its multiplier and mask become 0, and no entry names it. */
+static void check_without_members(void)
+{
+    static const int16_t frame[3] = {4000, 4000, -2000};
+    const Code code = code_of((Shape){3, 2, 3, 0});
+    left.multipliers[1] = left.masks[1] = 7;
+    const JugnayapCalled got = decoded(&code, frame, 3, 3, CERTIFICATE);
+    same("no members", "status", 0, got.run.status, JUGNAYAP_CERTIFIED);
+    same("no members", "multipliers", 0, left.multipliers[0], 3333);
+    same("no members", "multipliers", 1, left.multipliers[1], 0);
+    same("no members", "masks", 0, left.masks[0], 4);
+    same("no members", "masks", 1, left.masks[1], 0);
+    const size_t length = jugnayap_certificate_length(left.certificate);
+    same("no members", "length", 0, (int64_t)length, JUGNAYAP_CERTIFICATE_LENGTH(1));
+    same_verdict("no members",
+                 jugnayap_judge(code.bytes, code.length, frame, 3, left.word, 3, left.certificate, length),
+                 (JugnayapVerdict){.kind = JUGNAYAP_PASSED});
+}
+
 /* ---- certificates of two entries on each check of the largest code, as far as q goes ---- */
 
 typedef struct {
@@ -235,6 +257,7 @@ int main(void)
     frames_and_points();
     rounds();
     written_length();
+    check_without_members();
     certificates();
     return account("header");
 }

@@ -7,7 +7,8 @@
  *   code         n and m (16 bits each: bits, checks), then m entries of start and count (16 bits each),
  *                then the bodies: bit numbers, 16 bits each, strictly ascending within a check. The first
  *                start is 0, each later one the start before it plus its count. E is the sum of counts:
- *                an edge is one body number. 4 + 4m + 2E bytes.
+ *                an edge is one body number. 4 + 4m + 2E bytes. A check with count 0 is met by every word
+ *                and never cut.
  *   frame        n numbers from -8191 to 8191.
  *   word         n bytes, each 0 or 1.
  *   spins        n numbers from -U to U; +U is bit 0, -U is bit 1.
@@ -46,7 +47,7 @@ extern "C" {
 #define JUGNAYAP_UNIT 4096               /* U */
 #define JUGNAYAP_MAX_BITS 2048           /* n, from 1 */
 #define JUGNAYAP_MAX_CHECKS 2048         /* m, from 1 */
-#define JUGNAYAP_MAX_DEGREE 32           /* members of a check, and checks of a bit, from 1 */
+#define JUGNAYAP_MAX_DEGREE 32           /* members of a check, from 0, and checks of a bit, from 1 */
 #define JUGNAYAP_MAX_EDGES 8192          /* E */
 #define JUGNAYAP_MAX_FRAME 8191          /* a frame number, from -8191 */
 #define JUGNAYAP_MAX_ROUNDS 1024         /* of a run */
@@ -74,7 +75,7 @@ enum JugnayapRefusal {
     /* because of what was handed in */
     JUGNAYAP_REFUSED_HEADER_SHORT = 1,       /* code under 4 bytes */
     JUGNAYAP_REFUSED_SIZE_RANGE = 2,         /* n or m out of range */
-    JUGNAYAP_REFUSED_COUNT_RANGE = 3,        /* a count out of range */
+    JUGNAYAP_REFUSED_COUNT_RANGE = 3,        /* a count above JUGNAYAP_MAX_DEGREE */
     JUGNAYAP_REFUSED_START_WRONG = 4,        /* a start wrong, or E above JUGNAYAP_MAX_EDGES */
     JUGNAYAP_REFUSED_LENGTH_WRONG = 5,       /* code not as long as its contents say */
     JUGNAYAP_REFUSED_MEMBER_WRONG = 6,       /* a member not below n, or not ascending */

@@ -3,6 +3,7 @@
 pub mod certificate;
 pub mod code;
 pub mod damage;
+pub mod empty;
 pub mod frame;
 pub mod rng;
 pub mod state;

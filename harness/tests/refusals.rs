@@ -36,8 +36,8 @@ fn code_files() {
     table_refused(&code[..3], 1);
     table_refused(&set(&code, 0, 0), 2);
     table_refused(&set(&code, 2, 2049), 2);
-    table_refused(&set(&code, 6, 0), 3);
-    table_refused(&set(&code, 10, 33), 3);
+    table_refused(&set(&code, 6, 33), 3);
+    table_refused(&set(&code, 10, u16::MAX), 3);
     table_refused(&set(&code, 4, 1), 4);
     table_refused(&set(&code, 8, 1), 4);
     table_refused(&code[..code.len() - 1], 5);
@@ -51,13 +51,47 @@ fn code_files() {
 fn code_files_in_order() {
     let code = chain();
     // Contents that don't fit come before a wrong count, and a wrong count before a wrong start.
-    table_refused(&set(&code, 6, 0)[..11], 5);
-    table_refused(&set(&set(&code, 4, 9), 10, 0), 3);
+    table_refused(&set(&code, 6, 33)[..11], 5);
+    table_refused(&set(&set(&code, 4, 9), 10, 33), 3);
     // Too many edges are refused though the bodies are missing.
     let large = bytes_of(2048, &vec![(0..32).collect(); 257]);
     table_refused(&large[..4 + 4 * 257], 4);
     // A wrong member in the last check comes before a bit without checks.
     table_refused(&set(&set(&code, 0, 4), 18, 1), 6);
+}
+
+/// Three checks, the second one empty. Starts are at bytes 4, 8 and 12, counts at 6, 10 and 14, members from
+/// 16 on.
+fn with_empty() -> Vec<u8> {
+    bytes_of(3, &[vec![1, 2], vec![], vec![0, 1, 2]])
+}
+
+#[test]
+fn code_files_with_empty_checks() {
+    let accepted = |code: &[u8], bits, checks, edges| {
+        for decoder in ALL {
+            let sizes = Sizes { bits, checks, edges };
+            assert_eq!(decoder.check_table(code), Ok(sizes), "{}", decoder.name());
+        }
+    };
+    let code = with_empty();
+    accepted(&code, 3, 3, 5);
+    accepted(&bytes_of(1, &[vec![], vec![0]]), 1, 2, 1);
+    accepted(&bytes_of(1, &[vec![0], vec![]]), 1, 2, 1);
+    // Of a count set to 0 the next start is wrong, and then the length.
+    table_refused(&set(&code, 6, 0), 4);
+    table_refused(&set(&code, 14, 0), 5);
+    // An empty check has a start like the others.
+    table_refused(&set(&code, 8, 0), 4);
+    table_refused(&set(&code, 8, 3), 4);
+    table_refused(&bytes_of(3, &[vec![1, 2], vec![], vec![0, 2, 1]]), 6);
+    table_refused(&bytes_of(3, &[vec![1, 3], vec![], vec![0, 1, 2]]), 6);
+    // Every bit stands in a check, so there is an edge.
+    table_refused(&bytes_of(1, &[vec![]]), 7);
+    table_refused(&bytes_of(2048, &vec![vec![]; 2048]), 7);
+    table_refused(&bytes_of(3, &[vec![0, 1], vec![], vec![0, 1]]), 7);
+    // A count too large is refused before an empty check's wrong start.
+    table_refused(&set(&set(&code, 8, 9), 14, 33), 3);
 }
 
 fn judge_refused(frame: &[i16], word: &[u8], certificate: &[u8], number: u32) {
@@ -67,7 +101,7 @@ fn judge_refused(frame: &[i16], word: &[u8], certificate: &[u8], number: u32) {
     }
 }
 
-/// A certificate of scale 1 for three bits.
+/// A certificate of scale 1.
 fn certificate(entries: &[(u16, u32, u32)]) -> Vec<u8> {
     let mut bytes = vec![entries.len() as u8, 0, 1, 0];
     for (check, multiplier, _) in entries {
@@ -101,6 +135,36 @@ fn certificates() {
     let mut long = vec![0; 4 + 10 * 4097];
     (long[0], long[1]) = (0x01, 0x10);
     judge_refused(&frame, &word, &long, 10);
+}
+
+/// An entry that names the empty check meets 12 by its multiplier, or 13 whatever its mask is.
+#[test]
+fn certificates_naming_empty_checks() {
+    let refused = |word: &[u8], entries: &[(u16, u32, u32)], number| {
+        for decoder in ALL {
+            let verdict = decoder.judge(&with_empty(), &[5, 5, 5], word, &certificate(entries));
+            assert_eq!(verdict, Err(Refusal(number)), "{} {entries:?}", decoder.name());
+        }
+    };
+    for mask in [0, 1, 2, 3, 7, 1 << 31, u32::MAX >> 1, u32::MAX] {
+        for multiplier in [1, 5, 16_777_215] {
+            refused(&[0, 0, 0], &[(1, multiplier, mask)], 13);
+            // A word that breaks a check is no sooner seen.
+            refused(&[1, 0, 0], &[(1, multiplier, mask)], 13);
+        }
+        for multiplier in [0, 16_777_216, u32::MAX] {
+            refused(&[0, 0, 0], &[(1, multiplier, mask)], 12);
+        }
+    }
+    // In its turn: after what is wrong with entries before it, before its own order and the entries behind.
+    refused(&[0, 0, 0], &[(0, 5, 1), (1, 5, 1), (2, 0, 1)], 13);
+    refused(&[0, 0, 0], &[(2, 5, 1), (1, 5, 1)], 13);
+    refused(&[0, 0, 0], &[(0, 5, 2), (0, 5, 1), (1, 5, 1)], 14);
+    refused(&[0, 0, 0], &[(3, 5, 1), (1, 5, 1)], 12);
+    for decoder in ALL {
+        let passed = decoder.judge(&with_empty(), &[5; 3], &[0; 3], &certificate(&[(0, 1, 1), (2, 1, 1)]));
+        assert_eq!(passed, Ok(Verdict::Certified), "{}", decoder.name());
+    }
 }
 
 #[test]

@@ -2,8 +2,9 @@
 //!
 //! N columns (bits) and M rows (checks), numbered from 1: a line N M; a line of the greatest column and row
 //! weights; the N column weights; the M row weights; for each column a line of its rows; for each row a line
-//! of its columns. Each list may be followed by zeros, any number of them. Blank lines, comments (from `#`,
-//! `%` or `//` to the end of the line) and a byte-order mark are passed over.
+//! of its columns. Each list may be followed by zeros, any number of them. A row of weight 0, which shortening
+//! leaves, has a line of zeros alone, or no line. Blank lines, comments (from `#`, `%` or `//` to the end of
+//! the line) and a byte-order mark are passed over.
 
 use std::fmt;
 
@@ -27,14 +28,15 @@ impl fmt::Display for Error {
 
 impl std::error::Error for Error {}
 
-/// A side of the table: what a line is called, and what its numbers are called.
+/// A side of the table: what a line is called, what its numbers are called, and how few they may be.
 struct Side {
     name: &'static str,
     listed: &'static str,
+    least_weight: usize,
 }
 
-const COLUMN: Side = Side { name: "column", listed: "row" };
-const ROW: Side = Side { name: "row", listed: "column" };
+const COLUMN: Side = Side { name: "column", listed: "row", least_weight: 1 };
+const ROW: Side = Side { name: "row", listed: "column", least_weight: 0 };
 
 /// A line of numbers, with its number in the file.
 struct Line {
@@ -48,7 +50,8 @@ impl Line {
     }
 }
 
-/// The list of a column or row, without the zeros behind it.
+/// The list of a column or row, without the zeros behind it, and its line; an empty list may have none.
+#[derive(Default)]
 struct List {
     at: usize,
     items: Vec<usize>,
@@ -70,16 +73,22 @@ fn parse_number(at: usize, word: &str) -> Result<usize, Error> {
 /// The lines that have numbers, one after the other.
 struct Lines<'t> {
     rest: std::iter::Enumerate<std::str::Split<'t, char>>,
+    /// The next line, if it was looked at and left.
+    left: Option<Result<Line, Error>>,
     last: usize,
 }
 
 impl<'t> Lines<'t> {
     fn of(text: &'t str) -> Lines<'t> {
         let text = text.strip_prefix('\u{feff}').unwrap_or(text);
-        Lines { rest: text.split('\n').enumerate(), last: text.lines().count().max(1) }
+        Lines { rest: text.split('\n').enumerate(), left: None, last: text.lines().count().max(1) }
     }
 
     fn next(&mut self) -> Option<Result<Line, Error>> {
+        self.left.take().or_else(|| self.read())
+    }
+
+    fn read(&mut self) -> Option<Result<Line, Error>> {
         self.rest.by_ref().find_map(|(place, line)| {
             let mut words = without_comment(line).split_ascii_whitespace().peekable();
             words.peek()?;
@@ -93,6 +102,14 @@ impl<'t> Lines<'t> {
         let last = self.last;
         let ended = || Error { line: last, message: format!("the file ends where {wanted} should stand") };
         self.next().unwrap_or_else(|| Err(ended()))
+    }
+
+    /// Takes the next line if it has nothing but zeros.
+    fn pass_zeros(&mut self) {
+        match self.next() {
+            Some(Ok(line)) if line.numbers.iter().all(|&number| number == 0) => {}
+            other => self.left = other,
+        }
     }
 
     fn refuse_more(&mut self) -> Result<(), Error> {
@@ -165,13 +182,14 @@ fn read_weights(lines: &mut Lines, side: &Side, count: usize) -> Result<Line, Er
         return line
             .refuse(format!("{}, {count} wanted", counted(line.numbers.len(), &format!("{name} weight"))));
     }
-    let wrong = |weight: &usize| !(1..=limits::DEGREE).contains(weight);
+    let wrong = |weight: &usize| !(side.least_weight..=limits::DEGREE).contains(weight);
     match line.numbers.iter().position(wrong) {
         None => Ok(line),
         Some(place) => line.refuse(format!(
-            "{name} {} has weight {}, 1 to {} wanted",
+            "{name} {} has weight {}, {} to {} wanted",
             place + 1,
             line.numbers[place],
+            side.least_weight,
             limits::DEGREE
         )),
     }
@@ -211,6 +229,10 @@ fn read_list(
     weight: usize,
     highest: usize,
 ) -> Result<List, Error> {
+    if weight == 0 {
+        lines.pass_zeros();
+        return Ok(List::default());
+    }
     let name = format!("{} {number}", side.name);
     let mut line = lines.take(&format!("the list of {name}"))?;
     let end = line.numbers.iter().rposition(|&item| item != 0).map_or(0, |place| place + 1);

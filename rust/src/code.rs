@@ -28,7 +28,8 @@ impl Code {
         Ok(Code { file, sizes })
     }
 
-    /// From the checks' members, each list ascending. Refusals: 2, 3, 4, 6, 7.
+    /// From the checks' members, each list ascending. A list may be empty: that check is always met. Refusals:
+    /// 2, 3, 4, 6, 7.
     pub fn from_checks<M: AsRef<[u16]>>(bits: usize, checks: &[M]) -> Result<Code, Refusal> {
         let mut contents = vec![bits, checks.len()];
         let mut start = 0;

@@ -4,7 +4,7 @@
 pub const BITS: usize = 2048;
 /// Parity checks of a code, 1 to this.
 pub const CHECKS: usize = 2048;
-/// Members of a check, and checks of a bit, 1 to this.
+/// Members of a check, 0 to this, and checks of a bit, 1 to this.
 pub const DEGREE: usize = 32;
 /// Edges of a code, at most.
 pub const EDGES: usize = 8192;

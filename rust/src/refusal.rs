@@ -32,7 +32,7 @@ macro_rules! refusals {
 refusals! {
     FILE_SHORT = 1, "code file under 4 bytes";
     FILE_SIZES = 2, "number of bits or of checks out of range";
-    FILE_COUNT = 3, "a check's count out of range";
+    FILE_COUNT = 3, "a check's count above 32";
     FILE_START = 4, "a check's start wrong, or more than 8192 edges";
     FILE_LENGTH = 5, "code file's length wrong";
     FILE_MEMBER = 6, "a member that is no bit, or not ascending";

@@ -5,12 +5,16 @@ use crate::decoder::Record;
 use crate::gen::certificate::{self, Draft};
 use crate::gen::rng::Rng;
 use crate::gen::state::{lent_lengths, Lengths, Shape, State};
-use crate::gen::{code, damage, frame};
+use crate::gen::{code, damage, empty, frame};
 use crate::independent::limits::ROUND_LIMIT;
 use crate::independent::table::Table;
 
-/// Edges times rounds of a usual case; few are longer.
+/// Edges, or checks where they are more, times rounds of a usual case; few are longer.
 const USUAL_WORK: usize = 60_000;
+
+fn usual_rounds(checks: usize, edges: usize) -> u32 {
+    (USUAL_WORK / edges.max(checks)).clamp(1, ROUND_LIMIT as usize) as u32
+}
 
 pub fn case(rng: &mut Rng) -> Case {
     let sound = code::any(rng);
@@ -21,7 +25,7 @@ pub fn case(rng: &mut Rng) -> Case {
     }
     match rng.below(20) {
         0..=1 => table(rng, code),
-        2..=4 => cut(rng, code, &shape),
+        2..=4 => cut(rng, code, &sound),
         5..=8 => judge(rng, code, &sound),
         9 => agreement(rng, code, &shape),
         10..=15 => Case::Run(Box::new(fresh(rng, code, &shape))),
@@ -36,15 +40,16 @@ fn table(rng: &mut Rng, mut code: Vec<u8>) -> Case {
     Case::Table { code }
 }
 
-fn cut(rng: &mut Rng, code: Vec<u8>, shape: &Shape) -> Case {
-    let mut point = frame::point(rng, shape.bits);
+fn cut(rng: &mut Rng, code: Vec<u8>, sound: &[u8]) -> Case {
+    let table = Table::parse(sound).expect("a sound code");
+    let mut point = frame::point(rng, table.bits);
     if rng.one_in(12) {
         frame::damage_point(rng, &mut point);
     }
-    let check = if rng.one_in(12) {
-        rng.pick(&[shape.checks, shape.checks + 1, 65_536, usize::MAX])
-    } else {
-        rng.below(shape.checks)
+    let check = match empty::one_of(rng, &table) {
+        Some(empty) if rng.one_in(2) => empty,
+        _ if rng.one_in(12) => rng.pick(&[table.checks(), table.checks() + 1, 65_536, usize::MAX]),
+        _ => rng.below(table.checks()),
     };
     Case::Cut { code, point, check }
 }
@@ -70,12 +75,15 @@ fn agreement(rng: &mut Rng, code: Vec<u8>, shape: &Shape) -> Case {
 fn judge(rng: &mut Rng, code: Vec<u8>, sound: &[u8]) -> Case {
     let table = Table::parse(sound).expect("a sound code");
     let mut frame = frame::valid(rng, table.bits);
-    let rounds = (USUAL_WORK / table.edges()).clamp(1, ROUND_LIMIT as usize) as u32;
+    let rounds = usual_rounds(table.checks(), table.edges());
     let (mut draft, certified) = Draft::of_run(sound, &frame, rounds);
     if rng.one_in(4) {
         draft = Draft::random(rng, &table);
     } else if rng.one_in(2) {
         draft.rescale(rng);
+    }
+    if let Some(check) = empty::one_of(rng, &table).filter(|_| rng.one_in(3)) {
+        draft.name_empty(rng, check);
     }
     if rng.one_in(2) {
         draft.edit_entry(rng, &table);
@@ -107,7 +115,7 @@ fn wanted(rng: &mut Rng, shape: &Shape) -> u32 {
         38 => beyond,
         _ => rng.pick(&[ROUND_LIMIT + 1, u32::MAX, 1 << 16]),
     };
-    let usual = (USUAL_WORK / shape.edges).max(1) as u32;
+    let usual = usual_rounds(shape.checks, shape.edges);
     if choice <= ROUND_LIMIT && choice > usual && !rng.one_in(40) {
         usual
     } else {

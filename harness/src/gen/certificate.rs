@@ -1,5 +1,6 @@
 //! Certificates: from runs, edited, and random ones of the right form.
 
+use super::empty::{checks_where, layout_of};
 use super::rng::Rng;
 use super::state::{Shape, State};
 use crate::decoder::{Decoder, Record};
@@ -32,7 +33,9 @@ impl Draft {
     pub fn random(rng: &mut Rng, table: &Table) -> Draft {
         let most = if rng.one_in(12) { ENTRY_LIMIT } else { 12 };
         let large = rng.one_in(3);
-        let mut entries: Vec<Entry> = (0..rng.between(0, most)).map(|_| entry(rng, table, large)).collect();
+        let checks = checks_where(true, &layout_of(table));
+        let count = rng.between(0, most);
+        let mut entries: Vec<Entry> = (0..count).map(|_| entry(rng, table, &checks, large)).collect();
         entries.sort_unstable_by_key(|entry| (entry.check, entry.mask));
         entries.dedup_by_key(|entry| (entry.check, entry.mask));
         let scale = if rng.one_in(2) { SCALE_LIMIT } else { rng.between(1, 1023) as u16 };
@@ -59,17 +62,27 @@ impl Draft {
         self.entries.iter_mut().for_each(|entry| entry.multiplier *= scale as u32);
     }
 
+    /// Adds an entry that names an empty check, in its order: 13 whatever the mask, unless the multiplier meets
+    /// 12 first.
+    pub fn name_empty(&mut self, rng: &mut Rng, check: usize) {
+        let multiplier = rng.pick(&[0, 1, 5, MULTIPLIER_LIMIT, MULTIPLIER_LIMIT + 1, u32::MAX]);
+        let mask = rng.pick(&[0, 1, 3, 7, 1 << 31, u32::MAX >> 1, u32::MAX]);
+        let at = self.entries.partition_point(|entry| entry.check < check);
+        self.entries.insert(at, Entry { check, multiplier, mask });
+    }
+
     /// One edit of an entry: some keep the form, some meet 12, 13 or 14.
     pub fn edit_entry(&mut self, rng: &mut Rng, table: &Table) {
         if self.entries.is_empty() {
-            return self.entries.push(entry(rng, table, false));
+            let checks = checks_where(true, &layout_of(table));
+            return self.entries.push(entry(rng, table, &checks, false));
         }
         let at = rng.below(self.entries.len());
         let place = 1 << rng.below(32);
         let chosen = &mut self.entries[at];
         match rng.below(9) {
-            0 => chosen.multiplier += 1,
-            1 => chosen.multiplier -= 1,
+            0 => chosen.multiplier = chosen.multiplier.wrapping_add(1),
+            1 => chosen.multiplier = chosen.multiplier.wrapping_sub(1),
             2 => chosen.multiplier = rng.pick(&[0, MULTIPLIER_LIMIT, MULTIPLIER_LIMIT + 1, u32::MAX]),
             3 => chosen.check = rng.pick(&[table.checks(), table.checks() - 1, 65_535]),
             4 => chosen.mask ^= place,
@@ -81,9 +94,9 @@ impl Draft {
     }
 }
 
-/// A random entry of the right form.
-fn entry(rng: &mut Rng, table: &Table, large: bool) -> Entry {
-    let check = rng.below(table.checks());
+/// A random entry of the right form, on one of these checks, which have members.
+fn entry(rng: &mut Rng, table: &Table, checks: &[usize], large: bool) -> Entry {
+    let check = rng.pick(checks);
     let degree = table.row(check).len() as u32;
     let mut mask = rng.draw() as u32 & (u32::MAX >> (32 - degree));
     if mask.count_ones().is_multiple_of(2) {

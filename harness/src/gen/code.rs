@@ -1,5 +1,6 @@
 //! Code files: regular, random, and at the limits.
 
+use super::empty;
 use super::rng::Rng;
 use crate::independent::limits::{code_length, DEGREE_LIMIT, EDGE_LIMIT, SIZE_LIMIT};
 
@@ -112,7 +113,8 @@ impl Draft {
     }
 }
 
-/// A random code of about that many bits: any shape, equal checks and checks of one member included.
+/// A random code of about that many bits: any shape, equal checks and checks of one member included. No check
+/// is empty.
 pub fn random(rng: &mut Rng, most_bits: usize) -> Vec<u8> {
     let bits = rng.between(1, most_bits);
     let checks = rng.between((bits / 12).max(1), (2 * bits).min(SIZE_LIMIT).min(16 * bits));
@@ -153,8 +155,17 @@ fn wheel(first: usize, bits: usize, degree: usize) -> Vec<u16> {
     ascending(&members)
 }
 
-/// A code of any size, mostly small.
+/// A code of any size, mostly small; one in four has empty checks.
 pub fn any(rng: &mut Rng) -> Vec<u8> {
+    let code = of_any_size(rng);
+    if rng.one_in(4) {
+        empty::put_in(rng, &code)
+    } else {
+        code
+    }
+}
+
+fn of_any_size(rng: &mut Rng) -> Vec<u8> {
     match rng.below(100) {
         0..=59 => random(rng, 8),
         60..=89 => random(rng, 40),

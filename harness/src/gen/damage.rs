@@ -3,7 +3,7 @@
 use super::code::bytes_of;
 use super::rng::Rng;
 use crate::independent::limits::{DEGREE_LIMIT, SIZE_LIMIT};
-use crate::independent::table::u16_at;
+use crate::independent::table::{u16_at, Table};
 
 fn set_u16(code: &mut [u8], place: usize, value: u16) {
     code[place..place + 2].copy_from_slice(&value.to_le_bytes());
@@ -20,16 +20,18 @@ fn once(rng: &mut Rng, code: &mut Vec<u8>) {
     if code.len() < 10 {
         return code.push(rng.draw() as u8);
     }
-    match rng.below(10) {
+    match rng.below(11) {
         0 => code.truncate(rng.below(4)),
         1 => set_u16(code, 2 * rng.below(2), rng.pick(&[0, SIZE_LIMIT as u16 + 1, u16::MAX])),
         2 => code.truncate(rng.between(4, code.len() - 1)),
+        // A count of 0 is wrong only beside the next start or the length.
         3 => wrong_entry(rng, code, 2, &[0, DEGREE_LIMIT as u16 + 1, u16::MAX]),
         4 => wrong_start(rng, code),
         5 => resize(rng, code),
         6 => wrong_member(rng, code),
         7 => *code = bit_count(rng),
         8 => *code = too_many_edges(rng),
+        9 => empty_checks(rng, code),
         _ => {
             let place = rng.below(code.len());
             code[place] ^= 1 << rng.below(8);
@@ -79,6 +81,14 @@ fn bit_count(rng: &mut Rng) -> Vec<u8> {
     let mut checks = vec![vec![0]; times - 1];
     checks.push((0..=rest).collect());
     bytes_of(usize::from(bits), &checks)
+}
+
+/// The members of one check, or of all, taken out of a sound file: sound again, or bits are left in no check.
+fn empty_checks(rng: &mut Rng, code: &mut Vec<u8>) {
+    let Ok(table) = Table::parse(code) else { return };
+    let (chosen, all) = (rng.below(table.checks()), rng.one_in(4));
+    let row = |check| if all || check == chosen { Vec::new() } else { table.members_of(check).to_vec() };
+    *code = bytes_of(table.bits, &(0..table.checks()).map(row).collect::<Vec<_>>());
 }
 
 /// More edges than allowed, by one or by many; the bodies may be missing.

@@ -7,6 +7,7 @@ use crate::decoder::Refusal;
 
 /// The odd set which the values, from −U to U, violate; 0 if they violate none.
 pub fn mask_of(values: impl Iterator<Item = i32>) -> u32 {
+    // Without values the least stays above U, so nothing is violated.
     let (mut mask, mut left, mut least, mut nearest) = (0u32, 0, UNIT + 1, 0);
     for (place, value) in values.enumerate() {
         mask |= u32::from(value < 0) << place;

@@ -20,7 +20,7 @@ struct Bits {
     reciprocals: [u32; SIZE_LIMIT],
 }
 
-/// Calls a method for a constant degree, so that its loops have a known length.
+/// Calls a method for a constant degree above 0, so that its loops have a known length.
 macro_rules! with_degree {
     ($degree:expr, $part:ident.$method:ident($($argument:expr),*)) => {
         with_degree!(@ $degree, $part, $method, ($($argument),*),
@@ -29,7 +29,7 @@ macro_rules! with_degree {
     (@ $degree:expr, $part:ident, $method:ident, $arguments:tt, $($d:literal)*) => {
         match $degree {
             $($d => $part.$method::<$d> $arguments,)*
-            _ => unreachable!("a degree is from 1 to {DEGREE_LIMIT}"),
+            _ => unreachable!("a degree is at most {DEGREE_LIMIT}"),
         }
     };
 }
@@ -97,7 +97,10 @@ fn pass(table: &Table, bits: &mut Bits, lent: &mut Buffers) -> bool {
             multipliers: &mut lent.multipliers[run.checks.clone()],
             masks: &mut lent.masks[run.checks.clone()],
         };
-        broken |= with_degree!(run.degree, part.relax(bits));
+        broken |= match run.degree {
+            0 => part.clear(),
+            degree => with_degree!(degree, part.relax(bits)),
+        };
     }
     broken >= 0
 }
@@ -112,6 +115,13 @@ struct Part<'a> {
 }
 
 impl Part<'_> {
+    /// Empty checks: met by any spins, and without a cut.
+    fn clear(self) -> i32 {
+        self.multipliers.fill(0);
+        self.masks.fill(0);
+        0
+    }
+
     /// Answers a negative number if the spins have an odd number of ones on some check.
     fn relax<const D: usize>(self, bits: &mut Bits) -> i32 {
         let mut broken = 0;

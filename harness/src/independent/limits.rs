@@ -6,7 +6,7 @@ pub const UNIT: i32 = 4_096;
 pub const FACET: i32 = 2 * UNIT;
 /// Most bits, and most checks.
 pub const SIZE_LIMIT: usize = 2_048;
-/// Most members of a check, and most checks of a bit.
+/// Most members of a check, which may have none, and most checks of a bit, which is in one at least.
 pub const DEGREE_LIMIT: usize = 32;
 pub const EDGE_LIMIT: usize = 8_192;
 pub const FRAME_LIMIT: i16 = 8_191;

@@ -85,10 +85,12 @@ fn rows(starts: &[u16]) -> impl Iterator<Item = Range<usize>> + '_ {
 /// Whether members ascend within checks and are bits. Passes over all edges at once are vectorised.
 fn members_sound(bits: usize, starts: &[u16], members: &[u16]) -> bool {
     let descends = |(before, member): (&u16, &u16)| u16::from(before >= member);
-    let descents: u16 = members.iter().zip(&members[1..]).map(descends).sum();
-    // A check may begin with a smaller member than the last one's; no other descent is allowed.
-    let inner_starts = starts[1..starts.len() - 1].iter().map(|&start| usize::from(start));
-    let at_starts: u16 = inner_starts.map(|start| descends((&members[start - 1], &members[start]))).sum();
+    let after = members.get(1..).unwrap_or_default();
+    let descents: u16 = members.iter().zip(after).map(descends).sum();
+    // A check may begin with a smaller member than the last one's; no other descent is allowed. An empty
+    // check begins with none, and shares its start with the next one.
+    let inner = rows(starts).filter(|row| row.start > 0 && !row.is_empty());
+    let at_starts: u16 = inner.map(|row| descends((&members[row.start - 1], &members[row.start]))).sum();
     let largest = members.iter().fold(0, |largest, &member| largest.max(member));
     descents == at_starts && usize::from(largest) < bits
 }
@@ -139,7 +141,7 @@ fn starts(contents: &[u8]) -> Result<Vec<u16>, Refusal> {
     let (mut counts_sound, mut starts_sound, mut next) = (true, true, 0);
     for (entry, after) in contents.chunks_exact(4).zip(&mut starts[1..]) {
         let count = usize::from(u16_at(entry, 2));
-        counts_sound &= count.wrapping_sub(1) < DEGREE_LIMIT;
+        counts_sound &= count <= DEGREE_LIMIT;
         starts_sound &= usize::from(u16_at(entry, 0)) == next;
         next += count;
         *after = next as u16;

@@ -11,7 +11,7 @@ use crate::gen::rng::Rng;
 fn cut_search_is_exact() {
     let mut rng = Rng::new(1);
     for _ in 0..4_000 {
-        let degree = 1 + rng.below(8);
+        let degree = rng.below(9);
         let reach = [3, 400, UNIT][rng.below(3)];
         let values: Vec<i32> = (0..degree).map(|_| spin_near(&mut rng, reach)).collect();
         let left = |mask: u32| -> i32 {

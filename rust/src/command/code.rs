@@ -47,11 +47,12 @@ fn write(operand: &OsStr, bytes: &[u8]) -> Result<(), Failure> {
 
 fn description(code: &Code) -> String {
     let (bits, checks) = (code.bits(), code.checks());
+    let check_degrees: Vec<usize> = (0..checks).map(|check| code.members(check).len()).collect();
     let mut text = format!("bits {bits} checks {checks} edges {}\n", code.edges());
     text += &degrees("bits", code.bit_degrees());
-    text += &degrees("checks", (0..checks).map(|check| code.members(check).len()));
-    // Checks that follow from others make it higher.
-    let information = bits.saturating_sub(checks);
+    text += &degrees("checks", check_degrees.iter().copied());
+    // An empty check asks nothing of the bits. Checks that follow from others make it higher.
+    let information = bits.saturating_sub(check_degrees.iter().filter(|&&degree| degree > 0).count());
     text + &format!("rate at least {information}/{bits} = {:.4}\n", information as f64 / bits as f64)
 }
 

@@ -86,6 +86,41 @@ fn byte_order_mark_and_line_ends() {
     assert_hamming(HAMMING.trim_end());
 }
 
+/// Four of six rows are empty: lines 8, 10, 11 and 13.
+pub const SHORTENED: &str = "\
+3 6
+2 3
+1 2 2
+0 3 0 0 2 0
+2 0
+2 5
+2 5
+0 0 0
+1 2 3
+0 0 0
+0 0 0
+2 3 0
+0 0 0
+";
+
+/// An empty row's line has zeros, any number of them, or nothing, or is not there.
+#[test]
+fn empty_rows() {
+    let checks: [&[u16]; 6] = [&[], &[0, 1, 2], &[], &[], &[1, 2], &[]];
+    let code = Code::from_checks(3, &checks).unwrap();
+    assert_eq!(code.to_alist(), SHORTENED);
+    let forms = ["0 0 0\n", "0\n", "0 0 0 0 0 0 0\r\n", "\n", " \r\n\n", "", "# none\n", "// 0\n0 % 1\n"];
+    let mut rng = Rng::new(7);
+    for _ in 0..500 {
+        let line = |(place, line): (usize, &str)| match place + 1 {
+            8 | 10 | 11 | 13 => forms[rng.between(0, forms.len() - 1)].to_string(),
+            _ => format!("{line}\n"),
+        };
+        let text: String = SHORTENED.lines().enumerate().map(line).collect();
+        assert_eq!(Code::from_alist(text.as_bytes()), Ok(code.clone()), "{text}");
+    }
+}
+
 #[test]
 fn lists_in_any_order() {
     let mut rng = Rng::new(1);
@@ -127,8 +162,8 @@ impl Reached {
 }
 
 fn mark(seen: &mut Vec<bool>, degrees: impl Iterator<Item = usize>) {
-    seen.resize(limits::DEGREE, false);
-    degrees.for_each(|degree| seen[degree - 1] = true);
+    seen.resize(limits::DEGREE + 1, false);
+    degrees.for_each(|degree| seen[degree] = true);
 }
 
 #[test]
@@ -137,8 +172,8 @@ fn generated_codes_come_back() {
     let mut reached = Reached::default();
     for checks in [1, 2, 3, 8, 40, 300, limits::CHECKS] {
         for most in [1, 2, 6, 20, limits::DEGREE] {
-            for _ in 0..4 {
-                let code = Table::random(&mut rng, checks, most).code();
+            for most_empty in [0, 0, 2, 100] {
+                let code = Table::random(&mut rng, checks, most).with_empty(&mut rng, most_empty).code();
                 reached.note(&code);
                 let alist = code.to_alist();
                 assert_eq!(Code::from_alist(alist.as_bytes()).unwrap(), code);
@@ -146,9 +181,11 @@ fn generated_codes_come_back() {
             }
         }
     }
-    let all = vec![true; limits::DEGREE];
+    let check_degrees = vec![true; limits::DEGREE + 1];
+    let mut bit_degrees = check_degrees.clone();
+    bit_degrees[0] = false;
     let (bits, checks, edges) = (limits::BITS, limits::CHECKS, limits::EDGES);
-    assert_eq!(reached, Reached { bits, checks, edges, check_degrees: all.clone(), bit_degrees: all });
+    assert_eq!(reached, Reached { bits, checks, edges, check_degrees, bit_degrees });
 }
 
 #[test]

@@ -2,7 +2,7 @@
 
 use jugnayap::Code;
 
-use crate::alist::HAMMING;
+use crate::alist::{HAMMING, SHORTENED};
 
 fn assert_refused(text: impl AsRef<[u8]>, message: &str) {
     let error = Code::from_alist(text.as_ref()).expect_err(message);
@@ -43,8 +43,7 @@ fn weights() {
     line_refused(4, "4", "1 row weight, 3 wanted");
     line_refused(3, "1 1 2 0 2 2 3", "column 4 has weight 0, 1 to 32 wanted");
     line_refused(3, "1 1 2 1 2 2 33", "column 7 has weight 33, 1 to 32 wanted");
-    line_refused(4, "0 4 4", "row 1 has weight 0, 1 to 32 wanted");
-    line_refused(4, "4 33 4", "row 2 has weight 33, 1 to 32 wanted");
+    line_refused(4, "4 33 4", "row 2 has weight 33, 0 to 32 wanted");
 }
 
 #[test]
@@ -60,6 +59,9 @@ fn greatest_weights() {
 #[test]
 fn sums() {
     line_refused(4, "4 4 3", "the row weights add up to 11, the column weights to 12");
+    line_refused(4, "0 4 4", "the row weights add up to 8, the column weights to 12");
+    let none = with_line(4, "0 0 0").replace("\n3 4\n", "\n3 0\n");
+    assert_refused(none, "line 4: the row weights add up to 0, the column weights to 12");
     let text = with_line(3, "1 1 2 1 2 1 3");
     assert_refused(text, "line 4: the row weights add up to 12, the column weights to 11");
 }
@@ -80,6 +82,30 @@ fn lengths_of_lists() {
     line_refused(7, "1 0 2", "3 numbers for column 3, 2 wanted");
     line_refused(12, "1 3 5", "3 numbers for row 1, 4 wanted");
     line_refused(14, "4 5 6 7 1 0", "5 numbers for row 3, 4 wanted");
+}
+
+/// A line with other numbers than zeros is never an empty row's, but the next row's.
+#[test]
+fn lines_of_empty_rows() {
+    let with = |number: usize, text: &str| {
+        let mut lines: Vec<&str> = SHORTENED.lines().collect();
+        lines[number - 1] = text;
+        lines.join("\n") + "\n"
+    };
+    assert_refused(with(8, "1 0 0"), "line 8: 1 number for row 2, 3 wanted");
+    assert_refused(with(8, "0 0 1"), "line 8: row 2 lists column 0, 1 to 3 wanted");
+    assert_refused(with(8, "none"), "line 8: \"none\" is not a whole number");
+    assert_refused(with(10, "1 2 3"), "line 10: 3 numbers for row 5, 2 wanted");
+    assert_refused(with(13, "3"), "line 13: numbers after the last row");
+    assert_refused(with(13, "0\n0"), "line 14: numbers after the last row");
+    // One line of zeros too many in front of a row that has members.
+    assert_refused(with(8, "0\n0"), "line 9: 0 numbers for row 2, 3 wanted");
+    assert_refused(with(9, "# row 2"), "line 10: 0 numbers for row 2, 3 wanted");
+    let ended: String = SHORTENED.split_inclusive('\n').take(8).collect();
+    assert_refused(ended, "line 8: the file ends where the list of row 2 should stand");
+    // Of a column, no line and no weight may be missing.
+    assert_refused(with(5, "0 0"), "line 5: 0 numbers for column 1, 1 wanted");
+    assert_refused(with(3, "0 2 3"), "line 3: column 1 has weight 0, 1 to 32 wanted");
 }
 
 #[test]
@@ -142,7 +168,7 @@ fn huge_numbers() {
     line_refused(1, "18446744073709551616 3", "\"18446744073709551616\" is not a whole number");
     // What is 7, 4 or 1 in 16 bits.
     line_refused(1, "65543 3", "65543 bits, 1 to 2048 wanted");
-    line_refused(4, "4 4 65540", "row 3 has weight 65540, 1 to 32 wanted");
+    line_refused(4, "4 4 65540", "row 3 has weight 65540, 0 to 32 wanted");
     line_refused(5, "65537 0 0", "column 1 lists row 65537, 1 to 3 wanted");
 }
 

@@ -8,7 +8,7 @@ use crate::gen::{Rng, Table};
 fn tells_what_it_was_made_of() {
     let mut rng = Rng::new(3);
     for checks in [1, 2, 9, 60, 500] {
-        let table = Table::random(&mut rng, checks, limits::DEGREE);
+        let table = Table::random(&mut rng, checks, limits::DEGREE).with_empty(&mut rng, 9);
         let code = table.code();
         let members: Vec<Vec<u16>> = (0..code.checks()).map(|check| code.members(check)).collect();
         assert_eq!((code.bits(), &members), (table.bits, &table.checks));
@@ -54,7 +54,7 @@ fn numbers_of_bits_and_checks() {
 
 #[test]
 fn counts_and_edges() {
-    for degree in [0, 33, 2048, u16::MAX] {
+    for degree in [33, 2048, u16::MAX] {
         refused(2048, &[vec![0, 1], (0..degree).collect()], Refusal::FILE_COUNT);
     }
     // 65,536 + 2 members: a count of 2 in 16 bits.
@@ -64,6 +64,25 @@ fn counts_and_edges() {
     checks.push(vec![0]);
     refused(32, &checks, Refusal::FILE_START);
     refused(32, &rows(2048, 32), Refusal::FILE_START);
+}
+
+#[test]
+fn empty_checks() {
+    let checks: [Vec<u16>; 5] = [vec![], vec![1, 2], vec![], vec![], vec![0]];
+    let code = Code::from_checks(3, &checks).unwrap();
+    let contents = [3, 0, 5, 0, 0, 0, 0, 0, 0, 0, 2, 0, 2, 0, 0, 0, 2, 0, 0, 0, 2, 0, 1, 0];
+    assert_eq!(code.file(), [&contents[..], &[1, 0, 2, 0, 0, 0]].concat());
+    assert_eq!((code.checks(), code.edges(), code.bit_degrees()), (5, 3, vec![1, 1, 1]));
+    assert_eq!([0, 1, 2, 3, 4].map(|check| code.members(check)), checks);
+    // All but one of as many as there may be.
+    let mut checks = vec![vec![]; limits::CHECKS];
+    checks[1000].push(0);
+    assert_eq!(Code::from_checks(1, &checks).map(|code| code.edges()), Ok(1));
+    checks.push(vec![]);
+    refused(1, &checks, Refusal::FILE_SIZES);
+    // Each bit stands in a check.
+    refused(1, &[vec![]], Refusal::FILE_BIT);
+    refused(3, &[vec![0, 1], vec![]], Refusal::FILE_BIT);
 }
 
 #[test]
@@ -82,7 +101,7 @@ fn order_of_refusals() {
     refused(0, &[vec![0; 70_000]], Refusal::FILE_SIZES);
     refused(70_000, &rows(300, 33), Refusal::FILE_SIZES);
     let mut checks = rows(257, 32);
-    checks[256].clear();
+    checks[256].push(32);
     checks.push(vec![9; 32]);
     refused(2, &checks, Refusal::FILE_COUNT);
     refused(2, &rows(257, 32), Refusal::FILE_START);

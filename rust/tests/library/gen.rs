@@ -50,6 +50,15 @@ impl Table {
         table
     }
 
+    /// With empty checks among its own, so many at most, where there is room.
+    pub fn with_empty(mut self, rng: &mut Rng, most: usize) -> Table {
+        for _ in 0..rng.between(0, most).min(limits::CHECKS - self.checks.len()) {
+            let place = rng.between(0, self.checks.len());
+            self.checks.insert(place, Vec::new());
+        }
+        self
+    }
+
     /// Puts other bits in the places of some, so that the bits' degrees become uneven.
     fn vary(&mut self, rng: &mut Rng, times: usize) {
         let mut degrees = vec![0; self.bits];
@@ -92,10 +101,10 @@ fn dealt(rng: &mut Rng, bits: usize, degrees: &[usize]) -> Vec<Vec<u16>> {
     degrees.iter().map(|&degree| deal.by_ref().take(degree).collect()).collect()
 }
 
-/// A code of a few checks.
+/// A code of a few checks, some of them empty.
 pub fn small(rng: &mut Rng) -> Code {
     let (checks, most) = (rng.between(1, 9), rng.between(2, 7));
-    Table::random(rng, checks, most).code()
+    Table::random(rng, checks, most).with_empty(rng, 2).code()
 }
 
 /// Numbers about the mean, `reach` either way.

@@ -1,6 +1,6 @@
 //! Runs, round by round and whole.
 
-use jugnayap::{Answer, Code, Refusal, Run};
+use jugnayap::{Answer, Code, Refusal, Run, Verdict};
 
 use crate::gen::{frame, small, Rng};
 
@@ -26,6 +26,26 @@ fn shows_what_a_round_leaves() {
     let (spins, copies, offsets) = ([4000, 4000, -2000], [2032, 2032, -32], [1968, 1968, -1968]);
     let left: View = (1, [&spins, &copies, &offsets], [&[1968], &[4]]);
     assert_eq!(view(&run), left);
+}
+
+/// The same frame with an empty check on either side.
+#[test]
+fn empty_checks_have_no_cut() {
+    let checks: [&[u16]; 3] = [&[], &[0, 1, 2], &[]];
+    let code = Code::from_checks(3, &checks).unwrap();
+    let (mut run, frame) = (Run::start(&code), [4000, 4000, -2000]);
+    let Answer::Certified(found) = run.rounds(&frame, 1024).unwrap() else { panic!("spent") };
+    assert_eq!((found.rounds, found.word.to_string().as_str()), (3, "000"));
+    assert_eq!(found.certificate.to_string(), "scale 1 1:3333:4");
+    assert_eq!((run.multipliers(), run.masks()), (&[0, 3333, 0][..], &[0, 4, 0][..]));
+    assert_eq!(code.search_cut(&[-4096, 4096, 4096], 2), Ok(None));
+    assert_eq!(code.judge(&frame, &found.word, &found.certificate), Ok(Verdict::Certified));
+    for (entry, refusal) in
+        [("0:1:1", Refusal::ENTRY_MASK), ("2:1:0", Refusal::ENTRY_MASK), ("0:0:1", Refusal::ENTRY)]
+    {
+        let certificate = format!("scale 1 {entry}").parse().unwrap();
+        assert_eq!(code.judge(&frame, &found.word, &certificate), Err(refusal), "{entry}");
+    }
 }
 
 /// Calls for the rounds given by `wanted` until the run ends.
