@@ -13,6 +13,7 @@ use stream::read_part;
 use stream::whole;
 ghost use Prim.Native.Nat.{_+_, _≤_};
 ghost use lib.ListN.{length};
+ghost use Rattle.case_calls.specs.Rooms.{InRooms};
 
 pub(crate) const SET: u8 = 0;
 
@@ -130,8 +131,7 @@ impl Command {
     }
 
     pub(crate) fn parts(self, code: usize, frame: usize) -> Parts
-        ensures { λ r. ⌜ (r .code ≤ code) × (r .frame ≤ frame)
-            × (r .spins ≤ 2100) × (r .copies ≤ 8300) × (r .offsets ≤ 8300) × (r .multipliers ≤ 2100) × (r .masks ≤ 2100) × (r .word ≤ 2100) × (r .certificate ≤ 20600) ⌝ }
+        ensures { λ r. ⌜ (r .code ≤ code) × (r .frame ≤ frame) × InRooms r ⌝ }
     {
         Parts {
             wanted: self.number(0),

@@ -10,6 +10,7 @@ use lib.ListN.{length}
 use lib.IntN.{ℤ, pos, negsuc, negℤ, natAbs, _+ℤ_}
 use lib.Signed.{ltZ}
 use Rattle.integers.specs.Linear.{lin, arithZ, _⩽_, up, up-neg, dn-neg, lt-out}
+use Rattle.integers.specs.Order.{nltZ-le}
 use Rattle.integers.specs.Product.{natAbs-is, natAbs-≤, abs-neg}
 use Rattle.integers.specs.Clip.{clipZ, clip-low, clip-high, clip-mid, Place, below, above, inside, place}
 use Rattle.rules.specs.Limits.{unit}
@@ -20,7 +21,7 @@ use Rattle.rules.specs.Step.{clips}
 use Rattle.cut.specs.Heights.{height, higher, highest}
 use Rattle.cut.specs.Scan.{sights, rooms}
 use Rattle.cut.proofs.ValueLaws.{up-none, up-mono}
-use Rattle.cut.proofs.HeightLaws.{is-above, not-above}
+use Rattle.cut.proofs.HeightLaws.{is-above}
 
 -- ---- one value
 clip-size : (u : ℕ) (v : ℤ) → natAbs (clipZ u v) ≡ min (natAbs v) u
@@ -93,7 +94,7 @@ higher-size u m n a b h k = go (ltZ a b) refl
   where
     go : (t : Bool) → ltZ a b ≡ t → min m n + up (cond t b a) ≡ u
     go true e = omega (arith, up-mono a b (is-above a b e))
-    go false e = omega (arith, up-mono b a (not-above a b e))
+    go false e = omega (arith, up-mono b a (nltZ-le a b e))
 
 -- the smallest size has the greatest height
 pub smallest-high : (vs : List ℤ) → smallest unit (clips unit vs) + up (highest (sights vs)) ≡ unit

@@ -12,7 +12,7 @@ use lib.Signed.{_≤ℤ_, _<ℤ_, ltZ, ≤ℤ-refl}
 use mir.Syntax.{w32}
 use mir.Val.{SFits}
 use Rattle.integers.specs.Linear.{lin, arithZ, _⩽_, lt-ltZ, le-ltZ}
-use Rattle.integers.specs.Order.{le-trans, le-antisym, le-or-lt, le-total}
+use Rattle.integers.specs.Order.{le-trans, le-antisym, le-or-lt, le-total, nltZ-le}
 use Rattle.rules.specs.Limits.{unit}
 use Rattle.rules.specs.Cut.{isNeg}
 use Rattle.cut.specs.Heights.{height, higher, highest}
@@ -25,9 +25,6 @@ floor = highest []
 -- ---- the higher of two
 pub is-above : (a b : ℤ) → ltZ a b ≡ true → a ⩽ b
 is-above a b = simp lin (omega arithZ)
-
-pub not-above : (a b : ℤ) → ltZ a b ≡ false → b ⩽ a
-not-above a b = simp lin (omega arithZ)
 
 pub higher-left : (a b : ℤ) → b ⩽ a → higher a b ≡ a
 higher-left a b h = ap (λ t. cond t b a) (le-ltZ a b h)
@@ -51,7 +48,7 @@ higher-second a b = go (ltZ a b) refl
   where
     go : (t : Bool) → ltZ a b ≡ t → b ⩽ cond t b a
     go true e = ≤ℤ-refl b
-    go false e = not-above a b e
+    go false e = nltZ-le a b e
 
 higher-most : (a b c : ℤ) → a ⩽ c → b ⩽ c → higher a b ⩽ c
 higher-most a b c h k = go (ltZ a b)

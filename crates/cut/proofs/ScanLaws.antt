@@ -13,6 +13,7 @@ use lib.Signed.{ltZ}
 use mir.Syntax.{w32}
 use mir.Val.{SFits}
 use Rattle.integers.specs.Linear.{_⩽_, up}
+use Rattle.integers.specs.Order.{nltZ-le}
 use Rattle.rules.specs.Limits.{unit}
 use Rattle.rules.specs.Table.{at}
 use Rattle.rules.specs.Mask.{digit, maskOf}
@@ -25,7 +26,7 @@ use Rattle.cut.specs.Heights.{higher, highest}
 use Rattle.cut.specs.Scan.{scanned, ownHeight, sights, rooms, Highest, Scanned}
 use Rattle.cut.proofs.ValueLaws.{up-mono}
 use Rattle.cut.proofs.GatherLaws.{set-more}
-use Rattle.cut.proofs.HeightLaws.{floor, is-above, not-above, higher-left, higher-right, highest-more, height-low, height-top, sights-length, sights-more}
+use Rattle.cut.proofs.HeightLaws.{floor, is-above, higher-left, higher-right, highest-more, height-low, height-top, sights-length, sights-more}
 
 pub negatives-length : (ss : List ℤ) → length (negatives ss) ≡ length ss
 negatives-length [] = refl
@@ -116,7 +117,7 @@ peak-more (a ∷ hs) h k f p = go (ltZ (highest (a ∷ hs)) h) refl
   where
     go : (b : Bool) → ltZ (highest (a ∷ hs)) h ≡ b → Holds ((a ∷ hs) ++ (h ∷ [])) (cond b (length (a ∷ hs)) k)
     go true q = last-highest (a ∷ hs) h f (is-above (highest (a ∷ hs)) h q)
-    go false q = still-highest (a ∷ hs) h k f (not-above (highest (a ∷ hs)) h q) p
+    go false q = still-highest (a ∷ hs) h k f (nltZ-le (highest (a ∷ hs)) h q) p
 
 with-more : (vs : List ℤ) (s : Scan) (v : ℤ) → floor ⩽ ownHeight v → Scanned vs s → Scanned (vs ++ (v ∷ [])) (scanned s v (ownHeight v) (length vs))
 with-more vs s v f p =

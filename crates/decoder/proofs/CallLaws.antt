@@ -1,6 +1,6 @@
 -- A call for rounds: refused as it stands, or performed on the first parts of its buffers. Assumes nothing.
 use mathlib.Core.Path.{_≡_, refl, sym, _∙_, ap, ap₂, subst, fun-ext}
-use mathlib.Core.Bool.{true, false≢true, cond}
+use mathlib.Core.Bool.{cond}
 use mathlib.Core.List.{List}
 use Prim.Native.Nat.{ℕ, _+_, _≤_, _<_}
 use borrow.Author.Tests.{eq-eqb}
@@ -11,10 +11,11 @@ use Rattle.rules.specs.Refusal.{Answer, refused, gives, multiplierLarge}
 use Rattle.rules.specs.Table.{Table, edges, edgesOf, checksOf}
 use Rattle.rules.specs.CodeFile.{codeFile}
 use Rattle.rules.specs.Buffers.{Buffers, by-name, lengthsOf, needs, over}
-use Rattle.rules.specs.Run.{Status, running, certified, spent, Run, stateIn, iterate, isRunning, answerAt, refusedAt, perform, callOn, callBy, call, Safe}
+use Rattle.rules.specs.Run.{Status, running, certified, spent, Run, stateIn, iterate, answerAt, refusedAt, perform, callOn, callBy, call, Safe}
 use Rattle.rules.proofs.AnswerLaws.{refused≢gives, gives-inj}
 use Rattle.rules.proofs.Tables.{file-sound}
 use Rattle.rules.proofs.BufferLaws.{fits-part}
+use Rattle.rules.proofs.CallPasses.{running-is}
 use Rattle.rules.proofs.Counted.{all-counted}
 use Rattle.table.specs.Starts.{startsOf}
 use Rattle.table.specs.Layout.{Opened}
@@ -50,11 +51,6 @@ refused-by k (refused j) l wanted r ss ms e = ap (λ x. record { answer = x; run
 refused-by k (gives t) l wanted r ss ms e = sym (ap (perform t l wanted r) (admits-refused t l wanted (lengthsOf (r .buffers)) r k (sym e)))
 
 -- ---- admitted
-running-is : (s : Status) → isRunning s ≡ true → s ≡ running
-running-is running e = refl
-running-is certified e = absurd (false≢true e)
-running-is spent e = absurd (false≢true e)
-
 -- a run that has not ended has done every round that was due
 pub answers : (s : Status) (a b : ℕ) → (s ≡ running → a ≡ b) → gives s ≡ answerAt s a b
 answers running a b h = ap (λ t. cond t (gives running) (refused multiplierLarge)) (sym (eq-eqb a b (h refl)))

@@ -163,14 +163,14 @@ pub record CodeTwins (file : List ℕ) (t : Table) (l : List ℤ) (c : List Bool
   pub twin : CodeRun file (turns c l) calls b db
 
 -- every list on the frame certifies w after k rounds, with multipliers bs, once its calls not refused want together at least that many
-abbrev pub AllCertify : List ℕ → Table → List ℤ → List Bool → ℕ → List ℕ → Type 0
-AllCertify file t l w k bs = (calls : List Call) (b : Buffers) (ds : List Called) → CodeRun file l calls b ds → k ≤ wantedIn calls ds → CertifiesOn t w k bs ds
+abbrev pub CodeRunsCertify : List ℕ → Table → List ℤ → List Bool → ℕ → List ℕ → Type 0
+CodeRunsCertify file t l w k bs = (calls : List Call) (b : Buffers) (ds : List Called) → CodeRun file l calls b ds → k ≤ wantedIn calls ds → CertifiesOn t w k bs ds
 
 pub record CodeDemand3 (file : List ℕ) (t : Table) (l : List ℤ) (c : List Bool) (calls : List Call) (a : Buffers) (da db : List Called) : Type 0 where
   pub best : (w : List Bool) (k : ℕ) (bs : List ℕ) → CertifiesOn t w k bs da → Best t l w
   pub done : RoundsDone t l calls (startedRun file a) da
   pub twin : SamePlaces t c da db
-  pub others : (w : List Bool) (k : ℕ) (bs : List ℕ) → CertifiesOn t w k bs da → AllCertify file t (turns c l) (plus c w) k bs
+  pub others : (w : List Bool) (k : ℕ) (bs : List ℕ) → CertifiesOn t w k bs da → CodeRunsCertify file t (turns c l) (plus c w) k bs
 
 -- of every table, frame, codeword and list
 abbrev pub MeetsDemand3 : Type 0

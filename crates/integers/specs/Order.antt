@@ -1,6 +1,6 @@
 -- The order of ℤ: total, kept by sums, turned round by negation. Each law is one line of `lin`: cite none of them inside a linear proof, which proves it anew. Assumes nothing.
 use mathlib.Core.Path.{_≡_}
-use mathlib.Core.Bool.{true}
+use mathlib.Core.Bool.{true, false}
 use mathlib.Core.Logic.{_⊎_, inl, inr}
 use Prim.Native.Nat.{ℕ, _≤_, _<_, _+_}
 use native.Mathlib.Decide.{decLe}
@@ -48,12 +48,18 @@ sub-nonneg a b = simp lin (omega arithZ)
 pub sub-zero : (a b : ℤ) → a -ℤ b ≡ pos 0 → a ≡ b
 sub-zero a b = simp lin (omega arithZ)
 
+pub pos-le : (m n : ℕ) → m ≤ n → pos m ⩽ pos n
+pos-le m n = simp lin (omega arithZ)
+
 pub le-lt-trans : (a b c : ℤ) → a ⩽ b → b <ℤ c → a <ℤ c
 le-lt-trans a b c = simp lin (omega arithZ)
 
 -- what a test's flag says
 pub ltZ-lt : (a b : ℤ) → ltZ a b ≡ true → a <ℤ b
 ltZ-lt a b = simp lin (omega arithZ)
+
+pub nltZ-le : (a b : ℤ) → ltZ a b ≡ false → b ⩽ a
+nltZ-le a b = simp lin (omega arithZ)
 
 -- at most, and not equal: less. So `!=` of two numbers that are ordered tells which is the less
 pub lt-of-ne : {a b : ℤ} → a ≤ℤ b → (a ≡ b → ⊥) → a <ℤ b

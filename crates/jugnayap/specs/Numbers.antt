@@ -112,5 +112,5 @@ callNumbers file l wanted h b = callLeft h (call file l wanted (runFrom h b))
 abbrev pub StartBecomes : (Buffers → Left) → JugnayapCalled → Slice ℤ → Slice ℤ → Type 0
 StartBecomes f r z y = leftAs r (startLent (left z) (left y)) ≡ f (startLent (came z) (came y))
 
-abbrev pub CallBecomes : (Buffers → Left) → JugnayapCalled → Both Buffers Buffers → Type 0
-CallBecomes f r b = leftAs r (b .exit) ≡ f (b .entry)
+abbrev pub NumbersBecome : (Buffers → Left) → JugnayapCalled → Both Buffers Buffers → Type 0
+NumbersBecome f r b = leftAs r (b .exit) ≡ f (b .entry)

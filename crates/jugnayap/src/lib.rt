@@ -15,7 +15,7 @@ ghost use Rattle.rules.specs.CodeFile.{codeFileReply};
 ghost use Rattle.rules.specs.Cut.{cutReply};
 ghost use Rattle.rules.specs.Judge.{judgeReply, agreementOf, agreementValues};
 ghost use Rattle.run.specs.Slices.{slices};
-ghost use Rattle.jugnayap.specs.Numbers.{version, tableFrom, cutFrom, verdictFrom, agreementFrom, startNumbers, callNumbers, StartBecomes, CallBecomes};
+ghost use Rattle.jugnayap.specs.Numbers.{version, tableFrom, cutFrom, verdictFrom, agreementFrom, startNumbers, callNumbers, StartBecomes, NumbersBecome};
 
 // `number` is 0 or the refusal's number; a refused call has zeros in the other fields.
 #[repr(C)]
@@ -186,7 +186,7 @@ pub extern "C" fn jugnayap_rounds(
     word: &mut [u8],
     certificate: &mut [u8],
 ) -> JugnayapCalled
-    ensures { λ r. ⌜ CallBecomes (callNumbers (now (code .entry)) (now (frame .entry)) wanted run) r (slices spins copies offsets multipliers masks word certificate) ⌝ }
+    ensures { λ r. ⌜ NumbersBecome (callNumbers (now (code .entry)) (now (frame .entry)) wanted run) r (slices spins copies offsets multipliers masks word certificate) ⌝ }
 {
     let handed = record_of(run);
     let called = decoder::rounds(

@@ -105,10 +105,10 @@ pub record Admitted (t : Table) (l : List ℤ) (r : Run) : Type 0 where
   pub frame : Framed t l
   pub begins : r .progress .status ≡ running
 
-runs : (s : Status) → isRunning s ≡ true → s ≡ running
-runs running e = refl
-runs certified e = absurd (false≢true e)
-runs spent e = absurd (false≢true e)
+pub running-is : (s : Status) → isRunning s ≡ true → s ≡ running
+running-is running e = refl
+running-is certified e = absurd (false≢true e)
+running-is spent e = absurd (false≢true e)
 
 pub admitted : (t : Table) (l : List ℤ) (v : ℕ) (n : Lengths) (r : Run) → admits t l v n r ≡ gives tt → Admitted t l r
 unfolding admits onFrame
@@ -118,7 +118,7 @@ admitted t l v n r e =
     let c = must-gives (leb v roundLimit) askedTooMuch _ tt (b .1) in
     let d = must-gives (fits (needs t) n) bufferShort _ tt (c .1) in
     let f = must-gives (isRunning (r .progress .status)) runEnded _ tt (d .1) in
-    record { frame = record { size = eqb-true (length l) (t .bits) (a .0); range = b .0 }; begins = runs (r .progress .status) (f .0) }
+    record { frame = record { size = eqb-true (length l) (t .bits) (a .0); range = b .0 }; begins = running-is (r .progress .status) (f .0) }
 
 -- ---- the call
 -- what holds of every run that ends certified holds of a call that answers so

@@ -8,6 +8,7 @@ use native.Mathlib.Nat.{add-zero, zero-add}
 use lib.Dec.{leb, eqb}
 use lib.ListN.{length, drop, length-append}
 use lib.Seq.{drop-drop}
+use Rattle.integers.specs.Count.{one-on}
 use borrow.Author.Tests.{lt-ltb, le-leb, eq-eqb}
 use Rattle.rules.specs.Limits.{maxBits, maxChecks, maxDegree, maxEdges, maxBitDegree, contentsEnd, fileLength}
 use Rattle.rules.specs.Refusal.{gives, headerShort, sizeRange, countRange, startWrong, lengthWrong, memberWrong, bitDegree}
@@ -18,6 +19,7 @@ use Rattle.rules.specs.FileBytes.{bytes16, contentNumbers, counts, fileB
 use Rattle.rules.specs.Sound.{Below, AllBelow, Ascending, AllAscending, Degrees, Sound}
 use Rattle.rules.proofs.AnswerLaws.{must-true}
 use Rattle.rules.proofs.ByteLaws.{back16, reads16}
+use Rattle.rules.proofs.FileLaws.{count-at, next-entry, past-none, past-one}
 use Rattle.rules.proofs.Duality.{below-more}
 
 -- ---- how long it is
@@ -74,21 +76,12 @@ contents-read f j s [] rest h k = (refl, move f (contentsEnd j) (contentsEnd (j 
 contents-read f j s (d ∷ ds) rest h k =
     let count = next16 f (contentsEnd j) s (d ∷ contentNumbers (s + d) ds ++ rest) h in
     let past = next16 f (contentsEnd j + 2) d (contentNumbers (s + d) ds ++ rest) count in
-    let on = contents-read f (j + 1) (s + d) ds rest (move f (contentsEnd j + 2 + 2) (contentsEnd (j + 1)) (contentNumbers (s + d) ds ++ rest) (four j) past) (later s d (totalOf ds) k) in
+    let on = contents-read f (j + 1) (s + d) ds rest (move f (contentsEnd j + 2 + 2) (contentsEnd (j + 1)) (contentNumbers (s + d) ds ++ rest) (next-entry j) past) (later s d (totalOf ds) k) in
     let first = here16 f (contentsEnd j) s (d ∷ contentNumbers (s + d) ds ++ rest) h (start s d (totalOf ds) k) in
-    let second = ap (u16At f) (six j) ∙ here16 f (contentsEnd j + 2) d (contentNumbers (s + d) ds ++ rest) count (inner s d (totalOf ds) k) in
+    let second = ap (u16At f) (sym (count-at j)) ∙ here16 f (contentsEnd j + 2) d (contentNumbers (s + d) ds ++ rest) count (inner s d (totalOf ds) k) in
     let entry : contentAt f j ≡ record { start = s; count = d } = ap₂ (λ x y. record { start = x; count = y }) first second in
-    (ap₂ _∷_ entry (on .0), move f (contentsEnd (j + 1 + length ds)) (contentsEnd (j + suc (length ds))) rest (ap contentsEnd (shift j (length ds))) (on .1))
+    (ap₂ _∷_ entry (on .0), move f (contentsEnd (j + 1 + length ds)) (contentsEnd (j + suc (length ds))) rest (ap contentsEnd (one-on j (length ds))) (on .1))
   where
-    four : (j : ℕ) → contentsEnd j + 2 + 2 ≡ contentsEnd (j + 1)
-    four j = omega arith
-
-    six : (j : ℕ) → 6 + 4 * j ≡ contentsEnd j + 2
-    six j = omega arith
-
-    shift : (j n : ℕ) → j + 1 + n ≡ j + suc n
-    shift j n = omega arith
-
     start : (s d t : ℕ) → s + (d + t) < u16Limit → s < u16Limit
     start s d t h = omega arith
 
@@ -101,16 +94,10 @@ contents-read f j s (d ∷ ds) rest h k =
 -- ---- the bodies
 numbers-read : (f : List ℕ) (a : ℕ) (ms rest : List ℕ) → Holds f a (ms ++ rest) → Below u16Limit ms → (numbersAt f a (length ms) ≡ ms) × Holds f (a + 2 * length ms) rest
 unfolding numbersAt
-numbers-read f a [] rest h k = (refl, move f a (a + 2 * 0) rest (none a) h)
-  where
-    none : (a : ℕ) → a ≡ a + 2 * 0
-    none a = omega arith
+numbers-read f a [] rest h k = (refl, move f a (a + 2 * 0) rest (past-none a) h)
 numbers-read f a (x ∷ xs) rest h k =
     let on = numbers-read f (a + 2) xs rest (next16 f a x (xs ++ rest) h) (k .1) in
-    (ap₂ _∷_ (here16 f a x (xs ++ rest) h (k .0)) (on .0), move f (a + 2 + 2 * length xs) (a + 2 * suc (length xs)) rest (shift a (length xs)) (on .1))
-  where
-    shift : (a n : ℕ) → a + 2 + 2 * n ≡ a + 2 * suc n
-    shift a n = omega arith
+    (ap₂ _∷_ (here16 f a x (xs ++ rest) h (k .0)) (on .0), move f (a + 2 + 2 * length xs) (a + 2 * suc (length xs)) rest (past-one a (length xs)) (on .1))
 
 bodies-read : (f : List ℕ) (a s : ℕ) (cs : List (List ℕ)) → Holds f a (edges cs) → AllBelow u16Limit cs → bodies f a (contentsOf s (counts cs)) ≡ cs
 unfolding bodies

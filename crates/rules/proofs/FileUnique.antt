@@ -17,7 +17,7 @@ use Rattle.rules.specs.FileBytes.{bytes16, contentNumbers, counts, fileB
 use Rattle.rules.specs.Sound.{Below}
 use Rattle.rules.proofs.Basics.{and-both}
 use Rattle.rules.proofs.ByteLaws.{reads16}
-use Rattle.rules.proofs.FileLaws.{numbers-length, numbers-append, bodies-length, edges-bodies}
+use Rattle.rules.proofs.FileLaws.{count-at, next-entry, numbers-length, numbers-append, bodies-length, edges-bodies}
 use Rattle.rules.proofs.Tables.{passed}
 use Rattle.rules.proofs.FileBytesLaws.{twice, counts-length}
 
@@ -70,14 +70,8 @@ contents-back f j (suc k) s a h =
     let on = contents-back f (j + 1) k (s + d) (a + 2 * d) (p .1) in
     ap (numbersAt f (contentsEnd j)) (sym (twice k))
     ∙ ap₂ (λ x l. x ∷ l) (eqb-true (u16At f (contentsEnd j)) s (p .0))
-    (ap₂ (λ x l. x ∷ l) (ap (u16At f) (six j) ∙ sym long)
-    (ap (λ b. numbersAt f b (2 * k)) (four j) ∙ on ∙ ap (λ n. contentNumbers (s + n) (counts (bodies f (a + 2 * d) (contents f (j + 1) k)))) (sym long)))
-  where
-    six : (j : ℕ) → contentsEnd j + 2 ≡ 6 + 4 * j
-    six j = omega arith
-
-    four : (j : ℕ) → contentsEnd j + 2 + 2 ≡ contentsEnd (j + 1)
-    four j = omega arith
+    (ap₂ (λ x l. x ∷ l) (ap (u16At f) (count-at j) ∙ sym long)
+    (ap (λ b. numbersAt f b (2 * k)) (next-entry j) ∙ on ∙ ap (λ n. contentNumbers (s + n) (counts (bodies f (a + 2 * d) (contents f (j + 1) k)))) (sym long)))
 
 -- ---- so the file is that of its table
 pub file-unique : (f : List ℕ) (t : Table) → Below 256 f → codeFile f ≡ gives t → f ≡ fileBytes t

@@ -29,13 +29,14 @@ use Rattle.rules.specs.Certificate.{Item, membersAt, follows, onItem, on
 use Rattle.rules.specs.Demand3.{Best}
 use Rattle.rules.specs.Judge.{Verdict, breaks, passes, misses, weigh, verdict, MeetsBound, judge}
 use Rattle.rules.proofs.Basics.{and-both, none≢some}
+use Rattle.rules.proofs.ZeroLaws.{isZero-is}
 use Rattle.rules.proofs.Signs.{length-alike}
 use Rattle.rules.proofs.Masks.{mask-odd, set-length}
 use Rattle.rules.proofs.AnswerLaws.{must-gives, then-gives, Followed, gives-inj, range-both}
 use Rattle.rules.proofs.Tables.{file-sound}
 use Rattle.rules.proofs.Pass.{Good}
 use Rattle.rules.proofs.Duality.{Kept, AllKept}
-use Rattle.rules.proofs.Optimal.{Implied, gap-nonneg, gap-optimal, isZero-is}
+use Rattle.rules.proofs.Optimal.{Implied, gap-nonneg, gap-optimal}
 
 -- ---- the verdict
 pub none-broken : (j : ℕ) (w : List Bool) (cs : List (List ℕ)) → firstBroken j w cs ≡ none → meets w cs ≡ true

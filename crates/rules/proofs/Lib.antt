@@ -1,5 +1,6 @@
 pub mod Basics
 pub mod ByteLaws
+pub mod ZeroLaws
 pub mod Signs
 pub mod CutMethod
 pub mod CutRule

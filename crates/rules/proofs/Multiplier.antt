@@ -9,7 +9,7 @@ use native.Mathlib.Decide.{decLe}
 use lib.IntN.{ℤ, pos, negℤ, _+ℤ_}
 use lib.Signed.{_<ℤ_}
 use Rattle.integers.specs.Linear.{lin, arithZ, _⩽_, Within, lt-ltZ, le-ltZ}
-use Rattle.integers.specs.Order.{neg-mono, le-lt-trans, ltZ-lt}
+use Rattle.integers.specs.Order.{neg-mono, pos-le, le-lt-trans, ltZ-lt}
 use Rattle.integers.specs.Clip.{clipZ, clip-mono, clip-top, clip-bottom}
 use Rattle.integers.specs.Sum.{AllWithin}
 use Rattle.rules.specs.Parity.{side, odd, Alike, left}
@@ -19,9 +19,6 @@ use Rattle.rules.proofs.Search.{Turns, last-turns}
 -- ---- the left side does not fall as b grows
 add-le : (v a b : ℤ) → a ⩽ b → v +ℤ a ⩽ v +ℤ b
 add-le v a b = simp lin (omega arithZ)
-
-pos-le : (a b : ℕ) → a ≤ b → pos a ⩽ pos b
-pos-le a b = simp lin (omega arithZ)
 
 side-mono : (u a b : ℕ) (t : Bool) (v : ℤ) → a ≤ b → side t (move u a t v) ⩽ side t (move u b t v)
 side-mono u a b true v h = clip-mono u (v +ℤ pos a) (v +ℤ pos b) (add-le v (pos a) (pos b) (pos-le a b h))

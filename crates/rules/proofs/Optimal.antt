@@ -1,13 +1,13 @@
 -- What a bound is worth on a table: it is above every codeword and every point of the relaxation, so a gap is never negative and a gap of 0 is
 -- optimal. Of any rows that the table's own inequalities imply, whoever chose them; the rows of a round are such. Assumes nothing.
 use mathlib.Core.Path.{_≡_, refl, subst}
-use mathlib.Core.Bool.{Bool, true, false, _&&_, false≢true}
+use mathlib.Core.Bool.{Bool, true, false, _&&_}
 use mathlib.Core.List.{List, [], _∷_}
 use mathlib.Core.Option.{Option, some, none}
 use Prim.Native.Nat.{ℕ, zero, suc, _≤_}
 use native.Mathlib.Omega.{arith}
 use lib.ListN.{length}
-use lib.IntN.{ℤ, pos, negsuc, _*ℤ_}
+use lib.IntN.{ℤ, pos, _*ℤ_}
 use Rattle.integers.specs.Linear.{arithZ, _⩽_, Within}
 use Rattle.integers.specs.Order.{sub-nonneg, within-zero}
 use Rattle.integers.specs.Product.{ring}
@@ -22,6 +22,7 @@ use Rattle.rules.specs.Bound.{Row, rowsOf, bound, gap}
 use Rattle.rules.specs.Demand3.{Best}
 use Rattle.rules.specs.Round.{State, entriesIn, candidate, isZero, certify, round}
 use Rattle.rules.proofs.Basics.{and-both, none≢some, some-inj}
+use Rattle.rules.proofs.ZeroLaws.{isZero-is}
 use Rattle.rules.proofs.Pass.{spinsIn, stepsIn, steps-laid, Good, rows-good}
 use Rattle.rules.proofs.RoundTurns.{meets-even}
 use Rattle.rules.proofs.Duality.{AllKept, weak-duality, optimal, spinsOf, spins-within, codeword-keeps, agreement-is}
@@ -74,11 +75,6 @@ rows-implied n d f (ms ∷ cs) (active m ts ∷ es) b g k = (record { inside = b
 pub record Passed (t : Table) (l : List ℤ) (rs : List Row) (w : List Bool) : Type 0 where
   pub legal : meets w (t .checks) ≡ true
   pub closed : gap (t .bits) 1 l rs w ≡ pos 0
-
-pub isZero-is : (z : ℤ) → isZero z ≡ true → z ≡ pos 0
-isZero-is (pos zero) e = refl
-isZero-is (pos (suc n)) e = absurd (false≢true e)
-isZero-is (negsuc n) e = absurd (false≢true e)
 
 pub keep-is : {A : Type 0} (b : Bool) (a w : A) → keep b a ≡ some w → (b ≡ true) × (a ≡ w)
 keep-is true a w e = (refl, some-inj a w e)

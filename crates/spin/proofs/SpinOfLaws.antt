@@ -6,18 +6,14 @@ use native.Mathlib.Decide.{decLe}
 use native.Mathlib.Nat.{mul-comm, mul-div-cancel, div-le-of-le-mul, le-div-iff-mul-le, lt-of-not-le}
 use lib.IntN.{ℤ, pos, negsuc, negℤ, natAbs, _-ℤ_}
 use lib.Signed.{_≤ℤ_, _<ℤ_}
-use Rattle.integers.specs.Linear.{lin, arithZ, _⩽_, Within}
+use Rattle.integers.specs.Linear.{lin, arithZ, Within}
+use Rattle.integers.specs.Order.{pos-le}
 use Rattle.integers.specs.Clip.{clipZ, clip-low, clip-mid, clip-high, clip-top, clip-neg}
 use Rattle.integers.specs.Division.{divZ, div-neg}
-
-inside : (m n : ℕ) → n ≤ m → Within m (pos n)
-inside m n = simp lin (omega arithZ)
+use Rattle.integers.specs.Signed64.{pos-within}
 
 past : (m n : ℕ) → m < n → pos m <ℤ pos n
 past m n = simp lin (omega arithZ)
-
-pub at-least : (m n : ℕ) → m ≤ n → pos m ⩽ pos n
-at-least m n = simp lin (omega arithZ)
 
 -- of what is not negative
 natural : (u d n : ℕ) → 1 ≤ d → divZ (clipZ (u * d) (pos n)) d ≡ clipZ u (divZ (pos n) d)
@@ -30,9 +26,9 @@ natural u d n h = go (decLe n (u * d))
     high k = le-div-iff-mul-le h .1 (omega arith)
 
     go : Dec (n ≤ u * d) → divZ (clipZ (u * d) (pos n)) d ≡ clipZ u (divZ (pos n) d)
-    go (yes k) = ap (λ z. divZ z d) (clip-mid (u * d) (pos n) (inside (u * d) n k)) ∙ sym (clip-mid u (pos (n / d)) (inside u (n / d) (low k)))
+    go (yes k) = ap (λ z. divZ z d) (clip-mid (u * d) (pos n) (pos-within (u * d) n k)) ∙ sym (clip-mid u (pos (n / d)) (pos-within u (n / d) (low k)))
     go (no f) = ap (λ z. divZ z d) (clip-high (u * d) (pos n) (past (u * d) n (lt-of-not-le f))) ∙ ap pos (mul-div-cancel u h)
-        ∙ sym (clip-top u (pos (n / d)) (at-least u (n / d) (high (lt-of-not-le f))))
+        ∙ sym (clip-top u (pos (n / d)) (pos-le u (n / d) (high (lt-of-not-le f))))
 
 pub clip-first : (u d : ℕ) (t : ℤ) → 1 ≤ d → divZ (clipZ (u * d) t) d ≡ clipZ u (divZ t d)
 clip-first u d (pos n) h = natural u d n h

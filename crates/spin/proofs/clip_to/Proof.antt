@@ -7,7 +7,7 @@ use mir.Syntax.{w32}
 use mir.Val.{toZ, ofZ}
 use mir.Facts.{toZ-ofZ}
 use Rattle.integers.specs.Linear.{lin, arithZ}
-use Rattle.integers.specs.Order.{ltZ-lt}
+use Rattle.integers.specs.Order.{ltZ-lt, nltZ-le}
 use Rattle.integers.specs.Machine.{known}
 use Rattle.spin.proofs.SpinOfLaws.{clipped-low, clipped-high, clipped-mid}
 use Rattle.spin.proofs.clip_to.Statement.{statement}
@@ -23,14 +23,11 @@ minus-is : (c : tie.Start) → toZ w32 (ofZ w32 (pos 0 -ℤ toZ w32 (ofZ w32 (c 
 minus-is c = toZ-ofZ (sub-if1 c) ∙ ap (λ z. pos 0 -ℤ z) (toZ-ofZ (c .fits .limit))
 
 -- what the code's comparisons say
-not-less : (a b : ℤ) → ltZ a b ≡ false → b ≤ℤ a
-not-less a b = simp lin (omega arithZ)
-
 below : (x x' y y' : ℤ) → x ≡ x' → y ≡ y' → ltZ x y ≡ true → x' <ℤ y'
 below x x' y y' e f h = subst (λ z. z <ℤ y') e (subst (λ z. x <ℤ z) f (ltZ-lt x y h))
 
 not-below : (x x' y y' : ℤ) → x ≡ x' → y ≡ y' → ltZ x y ≡ false → y' ≤ℤ x'
-not-below x x' y y' e f h = subst (λ z. y' ≤ℤ z) e (subst (λ z. z ≤ℤ x) f (not-less x y h))
+not-below x x' y y' e f h = subst (λ z. y' ≤ℤ z) e (subst (λ z. z ≤ℤ x) f (nltZ-le x y h))
 
 returns : tie.Need-returns
 returns c =

@@ -4,7 +4,7 @@ use mathlib.Core.Bool.{not, _&&_, and-true, and-false}
 use mir.Syntax.{w32}
 use mir.Val.{ofZ}
 use Rattle.integers.specs.Machine.{eq-lit}
-use Rattle.spin.proofs.DecidedLaws.{is-zero, not-zero}
+use Rattle.rules.proofs.ZeroLaws.{is-zero, not-zero}
 use Rattle.spin.proofs.decided.Statement.{statement}
 use Rattle.spin.proofs.decided.Tie as tie
 

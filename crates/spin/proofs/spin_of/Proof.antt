@@ -10,12 +10,13 @@ use mir.Val.{toZ}
 use mir.Facts.{toZ-ofZ, toZ-pos}
 use borrow.Author.Needs.{needs}
 use Rattle.rules.specs.Limits.{unit}
+use Rattle.integers.specs.Order.{pos-le}
 use Rattle.integers.specs.Clip.{clipZ}
 use Rattle.integers.specs.Division.{divZ}
 use Rattle.integers.specs.Machine.{fit}
 use Rattle.rules.specs.Round.{divided}
 use Rattle.spin.specs.Spin.{spinOf}
-use Rattle.spin.proofs.SpinOfLaws.{at-least, clip-first}
+use Rattle.spin.proofs.SpinOfLaws.{clip-first}
 use Rattle.spin.proofs.spin_of.Statement.{statement}
 use Rattle.spin.proofs.spin_of.Tie as tie
 
@@ -34,10 +35,10 @@ div-by-zero (pos n) = ap pos (div-zero n)
 div-by-zero (negsuc n) = ap (λ k. negℤ (pos k)) (div-zero (suc n))
 
 clip-to-requires : tie.Need-clip-to-requires
-clip-to-requires c κs = subst (λ z. pos 0 ≤ℤ z) (sym (most-is (c .before))) (at-least 0 (unit * c .before .args .degree) (omega arith))
+clip-to-requires c κs = subst (λ z. pos 0 ≤ℤ z) (sym (most-is (c .before))) (pos-le 0 (unit * c .before .args .degree) (omega arith))
 
 divided-requires : tie.Need-divided-requires
-divided-requires c κs = subst (λ z. pos 1 ≤ℤ z) (sym (degree-is (c .before .before))) (at-least 1 (c .before .before .args .degree) (some (c .before .if1 .left)))
+divided-requires c κs = subst (λ z. pos 1 ≤ℤ z) (sym (degree-is (c .before .before))) (pos-le 1 (c .before .before .args .degree) (some (c .before .if1 .left)))
 
 returns : tie.Need-returns
 unfolding spinOf divided clipZ

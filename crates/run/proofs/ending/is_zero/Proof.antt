@@ -3,7 +3,7 @@ use mathlib.Core.Path.{sym, ap}
 use mir.Syntax.{w64}
 use mir.Val.{ofZ}
 use Rattle.integers.specs.Machine.{eq-lit}
-use Rattle.run.proofs.EndingLaws.{is-zero, not-zero}
+use Rattle.rules.proofs.ZeroLaws.{is-zero, not-zero}
 use Rattle.run.proofs.ending.is_zero.Statement.{statement}
 use Rattle.run.proofs.ending.is_zero.Tie as tie
 
