@@ -4,13 +4,13 @@ use mathlib.Core.Path.{_≡_, refl, sym, _∙_, ap, ap₂, subst}
 use mathlib.Core.Bool.{Bool, true, false, not, _&&_, false≢true}
 use mathlib.Core.List.{List, [], _∷_, _++_}
 use mathlib.Core.Option.{Option, some, none}
-use Prim.Native.Nat.{ℕ, zero, suc, _≤_}
+use Prim.Native.Nat.{ℕ, suc, _≤_}
 use native.Mathlib.Omega.{arith}
 use lib.Dec.{ltb}
-use lib.ListN.{length, getD, drop}
-use lib.IntN.{ℤ, pos}
+use lib.ListN.{length, drop}
+use lib.IntN.{ℤ}
 use Rattle.rules.specs.Limits.{unit, maxMultiplier}
-use Rattle.rules.specs.Refusal.{Answer, refused, must, entryRange, maskWrong, entryOrder}
+use Rattle.rules.specs.Refusal.{Answer, must, entryRange, maskWrong, entryOrder}
 use Rattle.rules.specs.Table.{Table, edges, checksOf, bitsAt}
 use Rattle.rules.specs.Parity.{odd, Alike, KeepsOne, Keeps, Point, meets, Codeword}
 use Rattle.rules.specs.Mask.{maskRight}
@@ -21,7 +21,7 @@ use Rattle.rules.specs.Bound.{Row, rowsOf, gap}
 use Rattle.rules.specs.Round.{State, spin, values, pass, copiesIn, offsetsIn, entriesIn, candidate, isZero, certify, roundBy, round}
 use Rattle.rules.specs.Certificate.{Item, membersAt, follows, onItem, itemsOf, rowsAt}
 use Rattle.rules.specs.Judge.{Verdict}
-use Rattle.rules.specs.Empty.{filled, withoutEmpty, atFilled, SameRound, AllFilled}
+use Rattle.rules.specs.Empty.{filled, withoutEmpty, atFilled, SameRound, namesEmpty, AllFilled}
 use Rattle.rules.proofs.AnswerLaws.{must-false}
 use Rattle.rules.proofs.Masks.{mask-odd}
 use Rattle.rules.proofs.Pass.{stepsIn, Good}
@@ -133,7 +133,7 @@ round-filled t l s = subst (λ es. SameRound t (round t l s) (by es)) (sym (edge
     by : List ℕ → Rattle.rules.specs.Round.Round
     by es = roundBy (withoutEmpty t) l (spin unit es l s) (pass unit (spin unit es l s) (filled (t .checks)) (s .offsets))
 
--- ---- "A certificate entry that names it still meets 13 in its turn, as no odd mask fits": after 12, whatever follows
+-- ---- 13 for an entry that names it, "as no odd mask fits"
 no-mask : (mask : ℕ) → maskRight 0 mask ≡ false
 no-mask mask = go (maskRight 0 mask) refl
   where
@@ -141,8 +141,7 @@ no-mask mask = go (maskRight 0 mask) refl
     go true e = absurd (false≢true (mask-odd 0 mask e))
     go false e = refl
 
-pub empty-refused : {A : Type 0} (t : Table) (p : Option Item) (i : Item) (a : Answer A) → membersAt t (i .check) ≡ []
-    → onItem t p i a ≡ must (ltb (i .check) (checksOf t) && inRange 1 maxMultiplier (i .multiplier)) entryRange (refused maskWrong)
+pub empty-refused : {A : Type 0} (t : Table) (p : Option Item) (i : Item) (a : Answer A) → membersAt t (i .check) ≡ [] → onItem t p i a ≡ namesEmpty t i
 unfolding onItem
 empty-refused t p i a e =
     ap (must (ltb (i .check) (checksOf t) && inRange 1 maxMultiplier (i .multiplier)) entryRange)

@@ -13,7 +13,7 @@ use Rattle.rules.specs.Limits.{maxBits, maxChecks, maxDegree, maxEdges, 
 use Rattle.rules.specs.Refusal.{gives, headerShort, sizeRange, countRange, startWrong, lengthWrong, memberWrong, bitDegree}
 use Rattle.rules.specs.Bytes.{u16At}
 use Rattle.rules.specs.Table.{Table, edges, degreeOf}
-use Rattle.rules.specs.CodeFile.{Content, inRange, contents, countsRight, startsRight, totalCount, numbersAt, bodies, ascends, membersRight, bitsRight, tableAt, fileOf, codeFile}
+use Rattle.rules.specs.CodeFile.{Content, inRange, contents, countsRight, startsRight, totalCount, bodies, ascends, membersRight, bitsRight, tableAt, fileOf, codeFile}
 use Rattle.rules.specs.Sound.{Below, AllBelow, Ascending, AllAscending, Degrees, Sound}
 use Rattle.rules.proofs.Basics.{and-both}
 use Rattle.rules.proofs.AnswerLaws.{gives-inj, must-gives, range-both}

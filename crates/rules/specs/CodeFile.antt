@@ -1,12 +1,12 @@
 -- The code file: contents, then bodies (document 01, "Code file"), and its refusals 1 to 7 in the stated order. Definitions only. Assumes nothing.
-use mathlib.Core.Bool.{Bool, true, false, _&&_}
+use mathlib.Core.Bool.{Bool, true, _&&_}
 use mathlib.Core.List.{List, [], _∷_}
 use Prim.Native.Nat.{ℕ, zero, suc, _+_, _*_}
 use lib.Dec.{leb, ltb, eqb}
 use lib.ListN.{length}
 use lib.IntN.{ℤ, pos}
 use Rattle.rules.specs.Limits.{maxBits, maxChecks, maxDegree, maxEdges, maxBitDegree, contentsEnd, fileLength}
-use Rattle.rules.specs.Refusal.{Answer, refused, gives, must, Reply, replyOf, headerShort, sizeRange, countRange, startWrong, lengthWrong, memberWrong, bitDegree}
+use Rattle.rules.specs.Refusal.{Answer, gives, must, Reply, replyOf, headerShort, sizeRange, countRange, startWrong, lengthWrong, memberWrong, bitDegree}
 use Rattle.rules.specs.Bytes.{u16At}
 use Rattle.rules.specs.Table.{Table, edges, edgesOf, checksOf, degreeOf}
 

@@ -1,11 +1,17 @@
 -- Checks without members, as shortening leaves them (document 02, #106), and a table without them. Definitions only. Assumes nothing.
 use mathlib.Core.Path.{_≡_}
+use mathlib.Core.Bool.{_&&_}
 use mathlib.Core.List.{List, [], _∷_}
 use Prim.Native.Nat.{ℕ, _≤_}
+use lib.Dec.{ltb}
 use lib.ListN.{length}
-use Rattle.rules.specs.Table.{Table}
+use Rattle.rules.specs.Limits.{maxMultiplier}
+use Rattle.rules.specs.Refusal.{Answer, refused, must, entryRange, maskWrong}
+use Rattle.rules.specs.Table.{Table, checksOf}
+use Rattle.rules.specs.CodeFile.{inRange}
 use Rattle.rules.specs.Bound.{Row}
 use Rattle.rules.specs.Round.{Round}
+use Rattle.rules.specs.Certificate.{Item}
 
 -- the checks that have members
 abbrev pub filled : List (List ℕ) → List (List ℕ)
@@ -29,6 +35,10 @@ pub record SameRound (t : Table) (x y : Round) : Type 0 where
   pub state : y .state ≡ x .state
   pub entries : y .entries ≡ atFilled (t .checks) (x .entries)
   pub word : y .word ≡ x .word
+
+-- "A certificate entry that names it still meets 13 in its turn": after 12, whatever follows
+abbrev pub namesEmpty : {A : Type 0} → Table → Item → Answer A
+namesEmpty t i = must (ltb (i .check) (checksOf t) && inRange 1 maxMultiplier (i .multiplier)) entryRange (refused maskWrong)
 
 -- no row is that of an empty check: so no multiplier is counted d − 2 = −2 times
 abbrev pub AllFilled : List Row → Type 0

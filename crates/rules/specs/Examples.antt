@@ -23,7 +23,7 @@ use Rattle.rules.specs.Scaled.{times, atScale}
 use Rattle.rules.specs.Buffers.{Buffers, Lengths, needsBy, fits, fitsStart, blank}
 use Rattle.rules.specs.Run.{running, certified, spent, Run, next, iterate, sound, admits, callOn, call, start}
 use Rattle.rules.specs.Calls.{Call, lentCall, countedBy}
-use Rattle.rules.specs.Report.{Line, certifiedLine, spentLine, frameLine}
+use Rattle.rules.specs.Report.{certifiedLine, spentLine, frameLine}
 use Rattle.rules.specs.Question.{Question, fileIs, cutIs, judged, startIs, callIs, shows, lineIs, listIs, countIs, Case, asked, said, answerTo}
 use Rattle.rules.specs.Question.{Place, Said, reply, shown, buffers, dirty, leaving, line, places, counts}
 use Rattle.rules.specs.Frames.{threeBits, oneBit, frameA, withMultiplier, word000}
