@@ -124,12 +124,19 @@ fn assert_seen(seen: &Seen, least: u32, all: &[&str]) {
     }
 }
 
+/// A thousand random pairs, each with its own source of numbers.
+fn pairs(series: u64) -> impl Iterator<Item = (Rng, Pair)> {
+    (0..1_000).map(move |index| {
+        let mut rng = Rng::of_case(series, index);
+        let pair = Pair::random(&mut rng);
+        (rng, pair)
+    })
+}
+
 #[test]
 fn runs() {
     let mut seen = Seen::new();
-    for index in 0..1_000 {
-        let mut rng = Rng::of_case(3, index);
-        let pair = Pair::random(&mut rng);
+    for (mut rng, pair) in pairs(3) {
         let frame = frame::valid(&mut rng, Shape::of(&pair.code).unwrap().bits);
         let any = rng.below(ROUND_LIMIT as usize) as u32;
         let done = rng.pick(&[0, 0, 0, 1, any]);
@@ -159,9 +166,7 @@ fn renumbered(pair: &Pair, verdict: Result<Verdict, Refusal>) -> Result<Verdict,
 #[test]
 fn verdicts() {
     let mut seen = Seen::new();
-    for index in 0..1_000 {
-        let mut rng = Rng::of_case(4, index);
-        let pair = Pair::random(&mut rng);
+    for (mut rng, pair) in pairs(4) {
         let table = Table::parse(&pair.code).unwrap();
         let frame = frame::valid(&mut rng, table.bits);
         let (mut draft, word) = Draft::of_run(&pair.code, &frame, 60);
@@ -189,9 +194,7 @@ fn verdicts() {
 #[test]
 fn cuts() {
     let mut seen = Seen::new();
-    for index in 0..1_000 {
-        let mut rng = Rng::of_case(5, index);
-        let pair = Pair::random(&mut rng);
+    for (mut rng, pair) in pairs(5) {
         let point = frame::point(&mut rng, Shape::of(&pair.code).unwrap().bits);
         for decoder in ALL {
             for (check, &there) in pair.own.iter().enumerate() {

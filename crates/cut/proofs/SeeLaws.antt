@@ -26,6 +26,7 @@ use Rattle.rules.specs.Step.{clips}
 use Rattle.rules.specs.Buffers.{over}
 use Rattle.rules.proofs.Steps.{clips-within}
 use Rattle.rules.proofs.Masks.{set-mask, mask-below, odd-ones}
+use Rattle.rules.proofs.EmptyLaws.{empty-uncut}
 use Rattle.cut.specs.declared.scan.Scan.{Scan}
 use Rattle.cut.specs.CutMask.{cutMask}
 use Rattle.cut.specs.Heights.{height, heightsOf, highest, sideBy, Seen, seenOn, unseen, seen}
@@ -77,10 +78,6 @@ raised : (t : ℤ) → t ⩽ pos unit → t ⩽ pos (2 * unit) -ℤ t
 raised t = simp lin (omega arithZ)
 
 -- ---- the cut
-keep-none : (u : ℕ) → cut u [] ≡ none
-unfolding cut
-keep-none u = refl
-
 ones-odd : (ts : List Bool) → odd ts ≡ eqb (ones (maskOf ts) % 2) 1
 ones-odd ts = ap odd (sym (set-mask ts)) ∙ odd-ones (length ts) (maskOf ts) (mask-below ts)
 
@@ -173,7 +170,7 @@ unfolding sees
 none-sees old s p =
     ap (λ b. cond b (changes s old) (stays 0 (s .top) old)) (ap₂ (λ r t. ltb r (2 * up t)) (p .total) (p .high))
     ∙ seen-eq _ _ _ _ _ _ refl (p .high) refl
-    ∙ seen-by [] old none (keep-none unit)
+    ∙ seen-by [] old none (empty-uncut unit)
 
 even-decides : (vs old : List ℤ) (s : Scan) → Scanned vs s → eqb (ones (s .mask) % 2) 1 ≡ false → whenEven s (over (sights vs) old) ≡ seenOn vs old
 even-decides [] old s p o = none-sees old s p

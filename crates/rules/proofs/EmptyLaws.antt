@@ -1,7 +1,8 @@
 -- Empty checks (document 02, #106): met by every word, cut by no point, without a multiplier, refused in a certificate, and so never in a bound.
 -- A round is as on the table without them. Assumes nothing.
-use mathlib.Core.Path.{_≡_, refl, sym, _∙_, ap, ap₂, subst}
+use mathlib.Core.Path.{_≡_, refl, sym, _∙_, ap, subst}
 use mathlib.Core.Bool.{Bool, true, false, not, _&&_, false≢true}
+use mathlib.Core.Logic.{_↔_}
 use mathlib.Core.List.{List, [], _∷_, _++_}
 use mathlib.Core.Option.{Option, some, none}
 use Prim.Native.Nat.{ℕ, suc, _≤_}
@@ -11,12 +12,12 @@ use lib.ListN.{length, drop}
 use lib.IntN.{ℤ}
 use Rattle.rules.specs.Limits.{unit, maxMultiplier}
 use Rattle.rules.specs.Refusal.{Answer, must, entryRange, maskWrong, entryOrder}
-use Rattle.rules.specs.Table.{Table, edges, checksOf, bitsAt}
+use Rattle.rules.specs.Table.{Table, edges, checksOf, at, bitsAt}
 use Rattle.rules.specs.Parity.{odd, Alike, KeepsOne, Keeps, Point, meets, Codeword}
 use Rattle.rules.specs.Mask.{maskRight}
 use Rattle.rules.specs.CodeFile.{inRange}
 use Rattle.rules.specs.Cut.{cut, keep}
-use Rattle.rules.specs.Step.{Entry, inactive, active, step}
+use Rattle.rules.specs.Step.{Entry, inactive, active, Step, step}
 use Rattle.rules.specs.Bound.{Row, rowsOf, gap}
 use Rattle.rules.specs.Round.{State, spin, values, pass, copiesIn, offsetsIn, entriesIn, candidate, isZero, certify, roundBy, round}
 use Rattle.rules.specs.Certificate.{Item, membersAt, follows, onItem, itemsOf, rowsAt}
@@ -38,11 +39,11 @@ meets-filled w ([] ∷ cs) = meets-filled w cs
 meets-filled w ((m ∷ ms) ∷ cs) = ap (λ b. not (odd (bitsAt w (m ∷ ms))) && b) (meets-filled w cs)
 
 -- so the codewords are those of the table without it
-pub codeword-filled : (t : Table) (c : List Bool) → Codeword t c → Codeword (withoutEmpty t) c
-codeword-filled t c h = record { size = h .size; even = meets-filled c (t .checks) ∙ h .even }
-
-pub filled-codeword : (t : Table) (c : List Bool) → Codeword (withoutEmpty t) c → Codeword t c
-filled-codeword t c h = record { size = h .size; even = sym (meets-filled c (t .checks)) ∙ h .even }
+pub codeword-filled⇔ : (t : Table) (c : List Bool) → Codeword t c ↔ Codeword (withoutEmpty t) c
+codeword-filled⇔ t c = (
+  λ h. record { size = h .size; even = meets-filled c (t .checks) ∙ h .even },
+  λ h. record { size = h .size; even = sym (meets-filled c (t .checks)) ∙ h .even },
+)
 
 -- ---- "has no cut": it has no odd set
 pub empty-even : (vs : List Bool) → Alike {B = ℕ} vs [] → odd vs ≡ false
@@ -67,11 +68,11 @@ filled-keeps d f ([] ∷ cs) h = (empty-kept d f, filled-keeps d f cs h)
 filled-keeps d f ((m ∷ ms) ∷ cs) h = (h .0, filled-keeps d f cs (h .1))
 
 -- so the relaxation is that of the table without it
-pub point-filled : (t : Table) (d : ℕ) (p : List ℤ) → Point t d p → Point (withoutEmpty t) d p
-point-filled t d p h = record { positive = h .positive; size = h .size; box = h .box; keeps = keeps-filled d _ (t .checks) (h .keeps) }
-
-pub filled-point : (t : Table) (d : ℕ) (p : List ℤ) → Point (withoutEmpty t) d p → Point t d p
-filled-point t d p h = record { positive = h .positive; size = h .size; box = h .box; keeps = filled-keeps d _ (t .checks) (h .keeps) }
+pub point-filled⇔ : (t : Table) (d : ℕ) (p : List ℤ) → Point t d p ↔ Point (withoutEmpty t) d p
+point-filled⇔ t d p = (
+  λ h. record { positive = h .positive; size = h .size; box = h .box; keeps = keeps-filled d (at p) (t .checks) (h .keeps) },
+  λ h. record { positive = h .positive; size = h .size; box = h .box; keeps = filled-keeps d (at p) (t .checks) (h .keeps) },
+)
 
 -- ---- "gets multiplier 0 and mask 0": its step is without an entry and changes nothing
 pub empty-step : (u : ℕ) (f : ℕ → ℤ) (ys : List ℤ) → step u (values f [] ys) ≡ record { copies = []; offsets = []; entry = inactive }
@@ -84,22 +85,23 @@ edges-filled [] = refl
 edges-filled ([] ∷ cs) = edges-filled cs
 edges-filled ((m ∷ ms) ∷ cs) = ap (λ l. (m ∷ ms) ++ l) (edges-filled cs)
 
+-- the copies and offsets that steps leave, and those with one step more in front
+abbrev stateAfter : List Step → State
+stateAfter ss = record { copies = copiesIn ss; offsets = offsetsIn ss }
+
+abbrev inFront : Step → State → State
+inFront x s = record { copies = x .copies ++ s .copies; offsets = x .offsets ++ s .offsets }
+
 row-more : (ms : List ℕ) (e : Entry) (cs ds : List (List ℕ)) (xs ys : List Entry) → rowsOf cs xs ≡ rowsOf ds ys → rowsOf (ms ∷ cs) (e ∷ xs) ≡ rowsOf (ms ∷ ds) (e ∷ ys)
 row-more ms inactive cs ds xs ys h = h
 row-more ms (active b ts) cs ds xs ys h = ap (λ rs. record { members = ms; multiplier = b; set = ts } ∷ rs) h
 
 module _ (u : ℕ) (f : ℕ → ℤ) where
-  copies-filled : (cs : List (List ℕ)) (ys : List ℤ) → copiesIn (pass u f (filled cs) ys) ≡ copiesIn (pass u f cs ys)
+  state-filled : (cs : List (List ℕ)) (ys : List ℤ) → stateAfter (pass u f (filled cs) ys) ≡ stateAfter (pass u f cs ys)
   unfolding step cut
-  copies-filled [] ys = refl
-  copies-filled ([] ∷ cs) ys = copies-filled cs ys
-  copies-filled ((m ∷ ms) ∷ cs) ys = ap (λ l. step u (values f (m ∷ ms) ys) .copies ++ l) (copies-filled cs (drop (suc (length ms)) ys))
-
-  offsets-filled : (cs : List (List ℕ)) (ys : List ℤ) → offsetsIn (pass u f (filled cs) ys) ≡ offsetsIn (pass u f cs ys)
-  unfolding step cut
-  offsets-filled [] ys = refl
-  offsets-filled ([] ∷ cs) ys = offsets-filled cs ys
-  offsets-filled ((m ∷ ms) ∷ cs) ys = ap (λ l. step u (values f (m ∷ ms) ys) .offsets ++ l) (offsets-filled cs (drop (suc (length ms)) ys))
+  state-filled [] ys = refl
+  state-filled ([] ∷ cs) ys = state-filled cs ys
+  state-filled ((m ∷ ms) ∷ cs) ys = ap (inFront (step u (values f (m ∷ ms) ys))) (state-filled cs (drop (suc (length ms)) ys))
 
   entries-filled : (cs : List (List ℕ)) (ys : List ℤ) → entriesIn (pass u f (filled cs) ys) ≡ atFilled cs (entriesIn (pass u f cs ys))
   entries-filled [] ys = refl
@@ -121,7 +123,7 @@ pub round-filled : (t : Table) (l : List ℤ) (s : State) → SameRound t (round
 unfolding round
 round-filled t l s = subst (λ es. SameRound t (round t l s) (by es)) (sym (edges-filled (t .checks))) (record {
   spins = refl;
-  state = ap₂ (λ zs ys. record { copies = zs; offsets = ys }) (copies-filled unit f (t .checks) (s .offsets)) (offsets-filled unit f (t .checks) (s .offsets));
+  state = state-filled unit f (t .checks) (s .offsets);
   entries = entries-filled unit f (t .checks) (s .offsets);
   word = ap (λ rs. certify (withoutEmpty t) l rs (candidate (t .bits) f)) (rows-filled unit f (t .checks) (s .offsets))
       ∙ certify-filled t l (rowsOf (t .checks) (entriesIn (stepsIn t l s))) (candidate (t .bits) f);

@@ -6,6 +6,7 @@ use native.Mathlib.Omega.{arith}
 use lib.ListN.{length, take, drop, length-take}
 use lib.Seq.{length-front}
 use borrow.Author.Needs.{needs}
+use Rattle.case_calls.specs.Rooms.{bitsRoom, edgesRoom, checksRoom, certificateRoom}
 use Rattle.case_calls.proofs.play.Statement.{statement}
 use Rattle.case_calls.proofs.play.Tie as tie
 
@@ -13,7 +14,8 @@ use Rattle.case_calls.proofs.play.Tie as tie
 abbrev Inv-loop : tie.InvT-loop
 Inv-loop code₀ frame₀ s₀ z₀ y₀ b₀ k₀ w₀ q₀ run₀ command₀ left₀ code frame s z y b k w q run command left =
     (length code ≡ length code₀) × (length frame ≡ length frame₀)
-    × (length s ≡ 2100) × (length z ≡ 8300) × (length y ≡ 8300) × (length b ≡ 2100) × (length k ≡ 2100) × (length w ≡ 2100) × (length q ≡ 20600)
+    × (length s ≡ bitsRoom) × (length z ≡ edgesRoom) × (length y ≡ edgesRoom) × (length b ≡ checksRoom) × (length k ≡ checksRoom) × (length w ≡ bitsRoom)
+    × (length q ≡ certificateRoom)
 
 abbrev μ-loop : tie.MeasureT-loop
 μ-loop code₀ frame₀ s₀ z₀ y₀ b₀ k₀ w₀ q₀ run₀ command₀ left₀ code frame s z y b k w q run command left = left
