@@ -1,4 +1,4 @@
--- Lists within limits, and what stands at a place of a difference and of the first n numbers of a function. Assumes nothing.
+-- Lists within limits, and what stands at a place of a difference, and when the first n numbers of two functions are the same. Assumes nothing.
 use mathlib.Core.Path.{_≡_, refl, ap, ap₂}
 use mathlib.Core.List.{List, [], _∷_}
 use Prim.Native.Nat.{ℕ, zero, suc, _<_}
@@ -30,11 +30,6 @@ minus-at (v ∷ vs) (z ∷ zs) zero h l = refl
 minus-at (v ∷ vs) (z ∷ zs) (suc k) h l = minus-at vs zs k (le-of-suc-le-suc h) (le-of-suc-le-suc l)
 
 -- ---- the first n numbers of f
-pub first-at : (n : ℕ) (f : ℕ → ℤ) (i : ℕ) → i < n → at (firstOf n f) i ≡ f i
-first-at zero f i h = absurd (omega arith)
-first-at (suc n) f zero h = refl
-first-at (suc n) f (suc i) h = first-at n (λ i. f (suc i)) i (le-of-suc-le-suc h)
-
 pub first-same : (n : ℕ) (f g : ℕ → ℤ) → ((i : ℕ) → i < n → f i ≡ g i) → firstOf n f ≡ firstOf n g
 first-same zero f g h = refl
 first-same (suc n) f g h = ap₂ _∷_ (h 0 (omega arith)) (first-same n (λ i. f (suc i)) (λ i. g (suc i)) (λ i k. h (suc i) (omega arith)))

@@ -18,14 +18,13 @@ use Rattle.rules.specs.Round.{State, spin, pass, entriesIn, candidate, isZero, 
 use Rattle.rules.specs.Buffers.{multipliersOf, masksOf}
 use Rattle.rules.proofs.WrittenPasses.{AllProper}
 use Rattle.rules.proofs.CallPasses.{round-proper}
-use Rattle.rules.proofs.RoundSizes.{first-length}
+use Rattle.rules.proofs.RoundSizes.{first-length, first-at}
 use Rattle.rules.proofs.Runs.{spin-within}
 use Rattle.table.specs.Layout.{checksFrom, tableOf, Holds}
 use Rattle.decoder.specs.Passed.{Passed, passedBy, passedOf, passed}
 use Rattle.decoder.specs.Closing.{metBy, rowsFrom}
 use Rattle.run.specs.Ending.{closing}
 use Rattle.decoder.specs.Found.{found}
-use Rattle.decoder.proofs.PlaceLaws.{first-at}
 use Rattle.decoder.proofs.RoundSpinsLaws.{pass-same, candidate-same}
 use Rattle.decoder.proofs.ClosingLaws.{rows-from, candidate-negatives}
 

@@ -1,12 +1,13 @@
 -- Clipping to -n .. n: it stays inside, leaves what is inside, is odd, and does not fall. Assumes nothing.
-use mathlib.Core.Path.{_≡_, refl, sym, _∙_, ap}
+use mathlib.Core.Path.{_≡_, refl, sym, _∙_, ap, subst}
 use mathlib.Core.Bool.{Bool, true, false, cond}
-use mathlib.Core.Logic.{_⊎_, inl, inr}
-use Prim.Native.Nat.{ℕ}
-use lib.IntN.{ℤ, pos, negℤ, negℤ-negℤ}
+use mathlib.Core.Logic.{_⊎_, inl, inr, _↔_}
+use Prim.Native.Nat.{ℕ, _≤_}
+use native.Mathlib.Omega.{arith}
+use lib.IntN.{ℤ, pos, negℤ, natAbs, negℤ-negℤ}
 use lib.Signed.{_≤ℤ_, _<ℤ_, ltZ, ≤ℤ-refl}
 use Rattle.integers.specs.Linear.{lin, arithZ, _⩽_, Within, lt-ltZ, le-ltZ, up-neg, dn-neg}
-use Rattle.integers.specs.Order.{le-or-lt, within-low, within-high}
+use Rattle.integers.specs.Order.{le-or-lt, within-zero, within-low, within-high}
 
 unfoldable pub clipZ : ℕ → ℤ → ℤ
 clipZ n z = cond (ltZ z (negℤ (pos n))) (negℤ (pos n)) (cond (ltZ (pos n) z) (pos n) z)
@@ -101,3 +102,15 @@ clip-mono n a b h = go (place n a) (place n b)
     go (inside k) (below l) = rw (clip-low n a (below-more n a b h l), clip-low n b l) (≤ℤ-refl (negℤ (pos n)))
     go (inside k) (above l) = rw (clip-high n b l) (within-high n (clipZ n a) (clip-within n a))
     go (inside k) (inside l) = rw (clip-mid n a k, clip-mid n b l) h
+
+neg-past : (n : ℕ) → 1 ≤ n → negℤ (pos n) ≡ pos 0 → ⊥
+neg-past n h e = omega (arithZ, simp lin at e)
+
+-- 0 stays, and nothing else becomes 0
+pub clip-zero : (n : ℕ) → 1 ≤ n → (z : ℤ) → (clipZ n z ≡ pos 0) ↔ (z ≡ pos 0)
+clip-zero n h z = (go (place n z), λ e. clip-mid n z (subst (Within n) (sym e) (within-zero n)) ∙ e)
+  where
+    go : Place n z → clipZ n z ≡ pos 0 → z ≡ pos 0
+    go (below k) e = absurd (neg-past n h (sym (clip-low n z k) ∙ e))
+    go (above k) e = absurd (omega (arith, ap natAbs (sym (clip-high n z k) ∙ e)))
+    go (inside k) e = sym (clip-mid n z k) ∙ e

@@ -15,7 +15,7 @@ use mir.ValLaws.{sfits-le}
 use mir.Facts.{toZ-ofZ, fits-natAbs}
 use Rattle.integers.specs.Linear.{up, dn, lin, arithZ, _⩽_, le-out, sfits-up, sfits-dn, back, Within}
 use Rattle.integers.specs.Product.{natAbs-≤, natAbs-*-≤, abs-pos}
-use Rattle.integers.specs.Division.{divZ, quot-is}
+use Rattle.integers.specs.Division.{signed, divZ, quot-is}
 
 -- all that fitting tells, to be listed: `omega (arithZ, known (c .fits .x))`
 pub known : {w : Width} {z : ℤ} → SFits w z → (up z < 2 ^ hbits w) × (dn z ≤ 2 ^ hbits w) × (up (toZ w (ofZ w z)) + dn z ≡ up z + dn (toZ w (ofZ w z)))
@@ -73,15 +73,16 @@ pub ofZ-pos : (w : Width) (y : ℤ) → pos 1 ⩽ y → 0 < ofZ w y
 ofZ-pos w (pos n) h = omega (arith, le-out h)
 ofZ-pos w (negsuc n) h = absurd (h .le)
 
-quot-fits′ : (w : Width) (z : ℤ) (d : ℕ) → SFits w z → SFits w (divZ z d)
-quot-fits′ w (pos n) d h = record { sfits = omega (arith, h .sfits, div-le-self n d) }
-quot-fits′ w (negsuc n) d h = fits-neg w (suc n / d) (omega (arith, h .sfits, div-le-self (suc n) d))
+-- a size no greater, with the same sign
+pub signed-fits : (w : Width) (z : ℤ) (n : ℕ) → SFits w z → n ≤ natAbs z → SFits w (signed z n)
+signed-fits w (pos m) n h k = record { sfits = omega (arith, h .sfits) }
+signed-fits w (negsuc m) n h k = fits-neg w n (omega (arith, h .sfits))
   where
     fits-neg : (w : Width) (m : ℕ) → m ≤ 2 ^ hbits w → SFits w (negℤ (pos m))
     fits-neg w m h = simp lin (omega (arithZ, pow-pos (hbits w)))
 
 pub quot-fits : (w : Width) (z y : ℤ) → SFits w z → pos 1 ⩽ y → SFits w (quotZ z y)
-quot-fits w z y f h = rw (← (abs-pos y (from-one y h))) (rw (quot-is z (natAbs y)) (quot-fits′ w z (natAbs y) f))
+quot-fits w z y f h = rw (← (abs-pos y (from-one y h))) (rw (quot-is z (natAbs y)) (signed-fits w z (natAbs z / natAbs y) f (div-le-self (natAbs z) (natAbs y))))
 
 pub quot-div : (z y : ℤ) → pos 1 ⩽ y → quotZ z y ≡ divZ z (natAbs y)
 quot-div z y h = ap (quotZ z) (sym (abs-pos y (from-one y h))) ∙ quot-is z (natAbs y)

@@ -7,7 +7,7 @@ use native.Mathlib.Decide.{decLe}
 use native.Mathlib.Omega.{arith}
 use native.Mathlib.Nat.{lt-of-not-le}
 use lib.IntN.{ℤ, pos, negℤ, _+ℤ_, _-ℤ_}
-use lib.Signed.{_≤ℤ_, _<ℤ_, ltZ}
+use lib.Signed.{_≤ℤ_, _<ℤ_, ltZ, leZ}
 use Rattle.integers.specs.Linear.{lin, arithZ, _⩽_, Within, up, dn, le-in, le-out, lt-in, eq-in}
 
 pub le-trans : (a b c : ℤ) → a ⩽ b → b ⩽ c → a ⩽ c
@@ -60,6 +60,12 @@ ltZ-lt a b = simp lin (omega arithZ)
 
 pub nltZ-le : (a b : ℤ) → ltZ a b ≡ false → b ⩽ a
 nltZ-le a b = simp lin (omega arithZ)
+
+pub leZ-le : (a b : ℤ) → leZ a b ≡ true → a ⩽ b
+leZ-le a b = simp lin (omega arithZ)
+
+pub nleZ-lt : (a b : ℤ) → leZ a b ≡ false → b <ℤ a
+nleZ-lt a b = simp lin (omega arithZ)
 
 -- at most, and not equal: less. So `!=` of two numbers that are ordered tells which is the less
 pub lt-of-ne : {a b : ℤ} → a ≤ℤ b → (a ≡ b → ⊥) → a <ℤ b

@@ -1,6 +1,7 @@
 pub mod Basics
 pub mod ByteLaws
 pub mod ZeroLaws
+pub mod DividedLaws
 pub mod Signs
 pub mod CutMethod
 pub mod CutRule
@@ -32,6 +33,7 @@ pub mod Lists
 pub mod CallPasses
 pub mod ScaledLaws
 pub mod Fresh
+pub mod FirstSpins
 pub mod Counted
 pub mod Demand3
 pub mod ScatterLaws

@@ -3,14 +3,14 @@ use mathlib.Core.Path.{_≡_, refl, sym, _∙_, ap}
 use mathlib.Core.Bool.{Bool, _&&_}
 use mathlib.Core.List.{List, [], _∷_}
 use mathlib.Core.Option.{Option, some, none}
-use Prim.Native.Nat.{ℕ, zero, suc, _+_, _*_, _≤_}
+use Prim.Native.Nat.{ℕ, zero, suc, _+_, _*_, _<_, _≤_}
 use native.Mathlib.Omega.{arith}
-use native.Mathlib.Nat.{le-of-eq, le-refl, le-trans}
+use native.Mathlib.Nat.{le-of-eq, le-of-suc-le-suc, le-refl, le-trans}
 use lib.ListN.{length}
 use lib.Seq.{take-take}
 use lib.IntN.{ℤ}
 use Rattle.rules.specs.Limits.{unit, certificateLength}
-use Rattle.rules.specs.Table.{Table, edgesOf, checksOf}
+use Rattle.rules.specs.Table.{Table, edgesOf, checksOf, at}
 use Rattle.rules.specs.Parity.{meets}
 use Rattle.rules.specs.Step.{Entry}
 use Rattle.rules.specs.Bound.{Row, rowsOf, gap}
@@ -29,6 +29,12 @@ use Rattle.rules.proofs.BufferLaws.{take-over, AllPast, Small, write-pa
 pub first-length : (n : ℕ) (f : ℕ → ℤ) → length (firstOf n f) ≡ n
 first-length zero f = refl
 first-length (suc n) f = ap suc (first-length n (λ i. f (suc i)))
+
+-- and what stands there
+pub first-at : (n : ℕ) (f : ℕ → ℤ) (i : ℕ) → i < n → at (firstOf n f) i ≡ f i
+first-at zero f i h = absurd (omega arith)
+first-at (suc n) f zero h = refl
+first-at (suc n) f (suc i) h = first-at n (λ i. f (suc i)) i (le-of-suc-le-suc h)
 
 join-length : (n : ℕ) (o : Option Bool) (p : Option (List Bool)) (w : List Bool) → ((v : List Bool) → p ≡ some v → length v ≡ n) → join o p ≡ some w → length w ≡ suc n
 join-length n none p w h e = absurd (none≢some e)

@@ -7,7 +7,6 @@ use lib.Dec.{eqb}
 use borrow.Author.Tests.{eqb-true, not-true}
 use lib.ListN.{length, drop}
 use lib.IntN.{ℤ, _+ℤ_}
-use Rattle.integers.specs.Division.{div-neg}
 use Rattle.integers.specs.Clip.{clipZ}
 use Rattle.integers.specs.Sum.{pick}
 use Rattle.rules.specs.Table.{edges, degreeOf, at, bit, bitsAt}
@@ -16,6 +15,7 @@ use Rattle.rules.specs.Step.{Entry, Step, minus, step}
 use Rattle.rules.specs.Bound.{gather}
 use Rattle.rules.specs.Round.{State, total, divided, spin, values, pass, copiesIn, offsetsIn, entriesIn}
 use Rattle.rules.proofs.Basics.{and-both}
+use Rattle.rules.proofs.DividedLaws.{divided-neg}
 use Rattle.rules.proofs.Signs.{turn-sum, turn-zero, at-turns, clip-turn, alike-trans}
 use Rattle.rules.proofs.Steps.{minus-turn, turnEntry, turnStep, step-turn}
 use Rattle.rules.proofs.Pass.{values-alike, AllLaid}
@@ -84,10 +84,8 @@ total-turn c cs l s i = ap₂ _+ℤ_ (at-turns c l i) sums ∙ turn-sum (bit c i
     sums = ap (gather i (edges cs)) (minus-turn (signs c cs) (s .copies) (s .offsets) ∙ ap (λ t. turns t (minus (s .copies) (s .offsets))) (signs-is c cs))
         ∙ gather-turn c i (edges cs) (minus (s .copies) (s .offsets))
 
--- The one law of the division that symmetry needs: it is odd.
 pub divided-turn : (c : Bool) (t : ℤ) (d : ℕ) → divided (turn c t) d ≡ turn c (divided t d)
-unfolding divided
-divided-turn true t d = div-neg t d
+divided-turn true t d = divided-neg t d
 divided-turn false t d = refl
 
 pub spin-turn : (u : ℕ) (c : List Bool) (cs : List (List ℕ)) (l : List ℤ) (s : State) (i : ℕ)

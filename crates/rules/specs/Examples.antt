@@ -1,4 +1,4 @@
--- Further worked examples, by computation: document 01's cuts, empty checks, multipliers at another scale, the three-frame report, a list of calls with its twin, and which refusal comes first
+-- Further worked examples, by computation: document 01's cuts, the division, empty checks, multipliers at another scale, the three-frame report, a list of calls with its twin, and which refusal comes first
 -- where several apply. Assumes nothing.
 use mathlib.Core.Path.{_≡_, refl}
 use mathlib.Core.List.{List, [], _∷_, _++_}
@@ -208,22 +208,46 @@ calls =
     ∷ []
 
 -- ---- rounds that tell a plausible error from the rule
--- one bit in two checks of one member: −5 over two edges is −2
+-- one bit in two checks of one member: −5 over two edges is −3
 rounds : List Case
 rounds =
     row (callIs (onBit0 2) (negsuc 4 ∷ []) 1 (stands 0 running (blank (needsBy 1 2 2))))
     (leaving (yes (pos 0 ∷ [])) 1
-    (negsuc 1 ∷ []) (pos 4096 ∷ pos 4096 ∷ []) (negsuc 4097 ∷ negsuc 4097 ∷ [])
-    (4098 ∷ 4098 ∷ []) (1 ∷ 1 ∷ []) (0 ∷ []) (replicate 24 0))
-    -- checks 0 3, 0 1 and 0 1 2: round 5's candidate 1101 meets all checks with gap 2598, and 0000 is certified in round 14
+    (negsuc 2 ∷ []) (pos 4096 ∷ pos 4096 ∷ []) (negsuc 4098 ∷ negsuc 4098 ∷ [])
+    (4099 ∷ 4099 ∷ []) (1 ∷ 1 ∷ []) (0 ∷ []) (replicate 24 0))
+    -- checks 0 3, 0 1 and 0 1 2: round 5's candidate 1101 meets all checks with gap 2598, and 0000 is certified in round 15
     ∷ row (callIs fourBits frameD 5 (stands 0 running (blank (needsBy 4 3 7))))
     (leaving (yes (pos 0 ∷ [])) 5
-    (negsuc 477 ∷ negsuc 583 ∷ pos 4096 ∷ negsuc 599 ∷ [])
-    (negsuc 538 ∷ negsuc 538 ∷ negsuc 530 ∷ negsuc 530 ∷ negsuc 513 ∷ negsuc 547 ∷ pos 4060 ∷ [])
+    (negsuc 478 ∷ negsuc 584 ∷ pos 4096 ∷ negsuc 600 ∷ [])
+    (negsuc 539 ∷ negsuc 539 ∷ negsuc 531 ∷ negsuc 531 ∷ negsuc 514 ∷ negsuc 548 ∷ pos 4060 ∷ [])
     (negsuc 8498 ∷ pos 8499 ∷ pos 1737 ∷ negsuc 1736 ∷ pos 1359 ∷ negsuc 1358 ∷ pos 1359 ∷ [])
     (8499 ∷ 1737 ∷ 1359 ∷ []) (1 ∷ 2 ∷ 2 ∷ []) (replicate 4 0) (replicate 34 0))
-    ∷ row (lineIs fourBits frameD) (line (certifiedLine 14 (pos 6400) 3))
+    ∷ row (lineIs fourBits frameD) (line (certifiedLine 15 (pos 6400) 3))
+    -- a weak frame that leans as 1101 does: the numbers of bits 0 and 1 are below their degrees 3 and 2
+    ∷ row (lineIs fourBits (negsuc 1 ∷ negsuc 0 ∷ pos 1 ∷ negsuc 0 ∷ [])) (line (certifiedLine 1 (pos 5) 0))
     ∷ []
+
+-- ---- step 1's division: "A total of 1 over 3 edges is still 0, 2 over 3 is now 1, −3 over 2 is now −2"; halves at the largest degree
+abbrev quotients : ℕ → List ℤ → List ℤ
+quotients d [] = []
+quotients d (t ∷ ts) = divided t d ∷ quotients d ts
+
+over-1 : quotients 1 (pos 0 ∷ pos 7 ∷ negsuc 6 ∷ []) ≡ (pos 0 ∷ pos 7 ∷ negsuc 6 ∷ [])
+unfolding divided
+over-1 = refl
+
+over-2 : quotients 2 (pos 1 ∷ pos 3 ∷ negsuc 0 ∷ negsuc 2 ∷ []) ≡ (pos 1 ∷ pos 2 ∷ negsuc 0 ∷ negsuc 1 ∷ [])
+unfolding divided
+over-2 = refl
+
+over-3 : quotients 3 (pos 1 ∷ pos 2 ∷ pos 4 ∷ negsuc 0 ∷ negsuc 1 ∷ negsuc 3 ∷ []) ≡ (pos 0 ∷ pos 1 ∷ pos 1 ∷ pos 0 ∷ negsuc 0 ∷ negsuc 0 ∷ [])
+unfolding divided
+over-3 = refl
+
+over-32 : quotients 32 (pos 15 ∷ pos 16 ∷ pos 47 ∷ pos 48 ∷ negsuc 14 ∷ negsuc 15 ∷ negsuc 46 ∷ negsuc 47 ∷ [])
+    ≡ (pos 0 ∷ pos 1 ∷ pos 1 ∷ pos 2 ∷ pos 0 ∷ negsuc 0 ∷ negsuc 0 ∷ negsuc 1 ∷ [])
+unfolding divided
+over-32 = refl
 
 -- ---- a list of calls, refused ones included, and its twin on the frame negated under 110
 abbrev full : Lengths

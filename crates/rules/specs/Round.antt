@@ -4,8 +4,8 @@ use mathlib.Core.List.{List, [], _∷_, _++_}
 use mathlib.Core.Option.{Option, some, none}
 use Prim.Native.Nat.{ℕ, zero, suc}
 use lib.ListN.{length, drop}
-use lib.IntN.{ℤ, pos, negsuc, _+ℤ_}
-use Rattle.integers.specs.Division.{divZ}
+use lib.IntN.{ℤ, pos, negsuc, natAbs, _+ℤ_}
+use Rattle.integers.specs.Division.{signed, nearest}
 use Rattle.integers.specs.Clip.{clipZ}
 use Rattle.rules.specs.Limits.{unit}
 use Rattle.rules.specs.Table.{Table, edges, degreeOf, at}
@@ -24,9 +24,9 @@ pub record State : Type 0 where
 unfoldable pub total : List ℕ → List ℤ → State → ℕ → ℤ
 total es l s i = at l i +ℤ gather i es (minus (s .copies) (s .offsets))
 
--- "divided by its number of edges, toward zero"
+-- "divided by its number of edges", nearest, halves away from zero: of the sizes, with the total's sign
 unfoldable pub divided : ℤ → ℕ → ℤ
-divided t d = divZ t d
+divided t d = signed t (nearest (natAbs t) d)
 
 -- "then clipped to −U..U"
 unfoldable pub spin : ℕ → List ℕ → List ℤ → State → ℕ → ℤ

@@ -1,44 +1,122 @@
--- A quotient is clipped by clipping what is divided. Assumes nothing.
-use mathlib.Core.Path.{_≡_, refl, sym, _∙_, ap, subst}
-use Prim.Native.Nat.{ℕ, suc, _*_, _/_, _≤_, _<_}
+-- The nearest quotient from the one toward zero and its remainder, and the code's clipping. Assumes nothing.
+use mathlib.Core.Path.{_≡_, refl, sym, _∙_, ap, ap₂, subst}
+use mathlib.Core.Bool.{true, false}
+use Prim.Native.Nat.{ℕ, suc, _+_, _*_, _/_, _%_, _≤_, _<_}
 use native.Mathlib.Omega.{arith}
 use native.Mathlib.Decide.{decLe}
-use native.Mathlib.Nat.{mul-comm, mul-div-cancel, div-le-of-le-mul, le-div-iff-mul-le, lt-of-not-le}
-use lib.IntN.{ℤ, pos, negsuc, negℤ, natAbs, _-ℤ_}
-use lib.Signed.{_≤ℤ_, _<ℤ_}
-use Rattle.integers.specs.Linear.{lin, arithZ, Within}
-use Rattle.integers.specs.Order.{pos-le}
-use Rattle.integers.specs.Clip.{clipZ, clip-low, clip-mid, clip-high, clip-top, clip-neg}
-use Rattle.integers.specs.Division.{divZ, div-neg}
-use Rattle.integers.specs.Signed64.{pos-within}
+use native.Mathlib.Nat.{lt-of-not-le, div-le-self, mod-lt}
+use lib.IntN.{ℤ, pos, negsuc, negℤ, natAbs, _+ℤ_, _-ℤ_, negℤ-negℤ}
+use lib.Signed.{_≤ℤ_, _<ℤ_, ltZ, leZ}
+use mir.Syntax.{Width}
+use mir.Val.{SFits}
+use Rattle.integers.specs.Linear.{lin, arithZ, le-out, _⩽_, Within, lt-ltZ, le-ltZ}
+use Rattle.integers.specs.Order.{ltZ-lt, nltZ-le, leZ-le, nleZ-lt}
+use Rattle.integers.specs.Clip.{clipZ, clip-low, clip-mid, clip-high}
+use Rattle.integers.specs.Product.{natAbs-is, within}
+use Rattle.integers.specs.Division.{signed, signed-size, divZ, nearest, nearest-le, nearest-up, nearest-stays}
+use Rattle.integers.specs.Machine.{signed-fits}
+use Rattle.rules.specs.Round.{divided}
+use Rattle.spin.specs.Spin.{Degree, lacks}
 
-past : (m n : ℕ) → m < n → pos m <ℤ pos n
-past m n = simp lin (omega arithZ)
+-- ---- what the code's comparisons say, of the numbers that it reads
+module _ {x x' y y' : ℤ} (e : x ≡ x') (f : y ≡ y') where
+  pub below : ltZ x y ≡ true → x' <ℤ y'
+  below h = subst (λ z. z <ℤ y') e (subst (λ z. x <ℤ z) f (ltZ-lt x y h))
 
--- of what is not negative
-natural : (u d n : ℕ) → 1 ≤ d → divZ (clipZ (u * d) (pos n)) d ≡ clipZ u (divZ (pos n) d)
-natural u d n h = go (decLe n (u * d))
-  where
-    low : n ≤ u * d → n / d ≤ u
-    low k = div-le-of-le-mul d (subst (λ m. n ≤ m) (mul-comm u d) k)
+  pub not-below : ltZ x y ≡ false → y' ≤ℤ x'
+  not-below h = subst (λ z. y' ≤ℤ z) e (subst (λ z. z ≤ℤ x) f (nltZ-le x y h))
 
-    high : u * d < n → u ≤ n / d
-    high k = le-div-iff-mul-le h .1 (omega arith)
+  pub at-most : leZ x y ≡ true → x' ≤ℤ y'
+  at-most h = subst (λ z. z ≤ℤ y') e (subst (λ z. x ≤ℤ z) f (leZ-le x y h))
 
-    go : Dec (n ≤ u * d) → divZ (clipZ (u * d) (pos n)) d ≡ clipZ u (divZ (pos n) d)
-    go (yes k) = ap (λ z. divZ z d) (clip-mid (u * d) (pos n) (pos-within (u * d) n k)) ∙ sym (clip-mid u (pos (n / d)) (pos-within u (n / d) (low k)))
-    go (no f) = ap (λ z. divZ z d) (clip-high (u * d) (pos n) (past (u * d) n (lt-of-not-le f))) ∙ ap pos (mul-div-cancel u h)
-        ∙ sym (clip-top u (pos (n / d)) (pos-le u (n / d) (high (lt-of-not-le f))))
-
-pub clip-first : (u d : ℕ) (t : ℤ) → 1 ≤ d → divZ (clipZ (u * d) t) d ≡ clipZ u (divZ t d)
-clip-first u d (pos n) h = natural u d n h
-clip-first u d (negsuc n) h =
-    ap (λ z. divZ z d) (clip-neg (u * d) (pos (suc n))) ∙ div-neg (clipZ (u * d) (pos (suc n))) d ∙ ap negℤ (natural u d (suc n) h)
-    ∙ sym (clip-neg u (divZ (pos (suc n)) d)) ∙ ap (clipZ u) (sym (div-neg (pos (suc n)) d))
+  pub above : leZ x y ≡ false → y' <ℤ x'
+  above h = subst (λ z. y' <ℤ z) e (subst (λ z. z <ℤ x) f (nleZ-lt x y h))
 
 pub natural-is : (z : ℤ) → pos 0 ≤ℤ z → z ≡ pos (natAbs z)
 natural-is (pos n) h = refl
 natural-is (negsuc n) h = absurd (omega arithZ)
+
+-- ---- a number of edges
+module _ {d : ℤ} (h : Degree d) where
+  pub degree-is : d ≡ pos (natAbs d)
+  degree-is = natural-is d (above-none d (h .some))
+    where
+      above-none : (d : ℤ) → pos 1 ⩽ d → pos 0 ⩽ d
+      above-none d = simp lin (omega arithZ)
+
+  pub degree-some : 1 ≤ natAbs d
+  degree-some = omega (arithZ, le-out (h .some), natAbs-is d)
+
+  pub degree-few : natAbs d ≤ 65535
+  degree-few = omega (arith, le-out (subst (λ z. z ≤ℤ pos 65535) degree-is (h .few)))
+
+-- ---- what a quotient lacks
+pub lacks-one : (r d : ℤ) → d ≤ℤ (r +ℤ r) → pos 1 ≡ lacks r d
+unfolding lacks
+lacks-one r d h = rw (le-ltZ (r +ℤ r) d h)
+
+pub lacks-none : (r d : ℤ) → (r +ℤ r) <ℤ d → pos 0 ≡ lacks r d
+unfolding lacks
+lacks-none r d h = rw (lt-ltZ (r +ℤ r) d h)
+
+-- ---- the nearest quotient from the one toward zero
+nearest-is : (n d : ℕ) → 1 ≤ d → pos (nearest n d) ≡ pos (n / d) +ℤ lacks (pos (n % d)) (pos d)
+nearest-is n d h = go (decLe d (2 * (n % d)))
+  where
+    twice : (k : ℕ) → d ≤ 2 * k → pos d ⩽ pos k +ℤ pos k
+    twice k = simp lin (omega arithZ)
+
+    less : (k : ℕ) → 2 * k < d → (pos k +ℤ pos k) <ℤ pos d
+    less k = simp lin (omega arithZ)
+
+    go : Dec (d ≤ 2 * (n % d)) → pos (nearest n d) ≡ pos (n / d) +ℤ lacks (pos (n % d)) (pos d)
+    go (yes k) = ap pos (nearest-up n d h k) ∙ ap (λ z. pos (n / d) +ℤ z) (lacks-one (pos (n % d)) (pos d) (twice (n % d) k))
+    go (no f) = ap pos (nearest-stays n d h (lt-of-not-le f)) ∙ none-added (pos (n / d)) ∙ ap (λ z. pos (n / d) +ℤ z) (lacks-none (pos (n % d)) (pos d) (less (n % d) (lt-of-not-le f)))
+      where
+        none-added : (x : ℤ) → x ≡ x +ℤ pos 0
+        none-added x = simp lin (omega arithZ)
+
+-- a remainder below 0 lacks nothing upward
+below-none : (k d : ℕ) → 1 ≤ d → pos 0 ≡ lacks (negℤ (pos k)) (pos d)
+below-none k d h = lacks-none (negℤ (pos k)) (pos d) (less k d h)
+  where
+    less : (k d : ℕ) → 1 ≤ d → (negℤ (pos k) +ℤ negℤ (pos k)) <ℤ pos d
+    less k d = simp lin (omega arithZ)
+
+-- r is what the quotient of t toward zero leaves
+abbrev pub left : ℤ → ℕ → ℤ
+left t d = signed t (natAbs t % d)
+
+module _ (d : ℕ) (h : 1 ≤ d) where
+  pub rounded : (t : ℤ) → (divZ t d +ℤ lacks (left t d) (pos d)) -ℤ lacks (negℤ (left t d)) (pos d) ≡ divided t d
+  unfolding divided
+  rounded (pos n) = ap₂ _-ℤ_ (sym (nearest-is n d h)) (sym (below-none (n % d) d h)) ∙ none-less (pos (nearest n d))
+    where
+      none-less : (x : ℤ) → x -ℤ pos 0 ≡ x
+      none-less x = simp lin (omega arithZ)
+  rounded (negsuc n) =
+      let k = suc n % d in
+      ap₂ (λ x y. (negℤ (pos (suc n / d)) +ℤ x) -ℤ y) (sym (below-none k d h)) (ap (λ r. lacks r (pos d)) (negℤ-negℤ (pos k)))
+      ∙ turned (pos (suc n / d)) (lacks (pos k) (pos d)) ∙ ap negℤ (sym (nearest-is (suc n) d h))
+    where
+      turned : (q x : ℤ) → (negℤ q +ℤ pos 0) -ℤ x ≡ negℤ (q +ℤ x)
+      turned q x = simp lin (omega arithZ)
+
+  -- on the way it stays within what a total may be
+  pub raised-fits : (w : Width) (t : ℤ) → SFits w t → SFits w (divZ t d +ℤ lacks (left t d) (pos d))
+  raised-fits w (pos n) f = subst (SFits w) (nearest-is n d h) (signed-fits w (pos n) (nearest n d) f (nearest-le n d h))
+  raised-fits w (negsuc n) f = subst (λ x. SFits w (negℤ (pos (suc n / d)) +ℤ x)) (below-none (suc n % d) d h)
+      (none-added w (divZ (negsuc n) d) (signed-fits w (negsuc n) (suc n / d) f (div-le-self (suc n) d)))
+    where
+      none-added : (w : Width) (x : ℤ) → SFits w x → SFits w (x +ℤ pos 0)
+      none-added w x = simp lin (omega arithZ)
+
+  pub rounded-fits : (w : Width) (t : ℤ) → SFits w t → SFits w (divided t d)
+  unfolding divided
+  rounded-fits w t f = signed-fits w t (nearest (natAbs t) d) f (nearest-le (natAbs t) d h)
+
+  pub left-small : (m : ℕ) → d ≤ m → (t : ℤ) → Within m (left t d)
+  left-small m k t = within m (left t d) (omega (arith, signed-size t (natAbs t % d), mod-lt (natAbs t) h))
 
 -- ---- the code's clipping: m is the limit, and n what it reads as its negation
 module _ (x l : ℤ) (h : pos 0 ≤ℤ l) where

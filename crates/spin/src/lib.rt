@@ -3,21 +3,43 @@
 use limits::UNIT;
 ghost use mathlib.Core.Path.{_≡_};
 ghost use mathlib.Core.Bool.{not, _&&_};
-ghost use lib.IntN.{pos, natAbs};
+ghost use lib.IntN.{pos, negℤ, natAbs};
 ghost use lib.Signed.{_≤ℤ_};
 ghost use Rattle.integers.specs.Clip.{clipZ};
 ghost use Rattle.rules.specs.Round as rule;
-ghost use Rattle.spin.specs.Spin.{spinOf, noZero};
+ghost use Rattle.spin.specs.Spin.{spinOf, Degree, Remainder, lacks, noZero};
 
-// U as a size.
-const UNIT_SIZE: u32 = UNIT as u32;
-
-// "Divided by its number of edges, toward zero."
-fn divided(total: i32, d: i32) -> i32
-    requires { ⌜ pos 1 ≤ℤ d ⌝ }
-    ensures { λ r. ⌜ r ≡ rule.divided total (natAbs d) ⌝ }
+// 1 if a remainder is half of d or more above 0, else 0.
+fn half_above(r: i32, d: i32) -> i32
+    requires { ⌜ Remainder r d ⌝ }
+    ensures { λ v. ⌜ v ≡ lacks r d ⌝ }
 {
-    total / d
+    if d <= r + r {
+        return 1;
+    }
+    0
+}
+
+// 1 if it is half of d or more below 0, else 0.
+fn half_below(r: i32, d: i32) -> i32
+    requires { ⌜ Remainder r d ⌝ }
+    ensures { λ v. ⌜ v ≡ lacks (negℤ r) d ⌝ }
+{
+    if r + r <= -d {
+        return 1;
+    }
+    0
+}
+
+// "Divided by its number of edges", nearest, halves away from zero: the quotient toward zero and
+// what it lacks. Two tests without a branch each; one that ended early would be mispredicted.
+fn divided(total: i32, d: i32) -> i32
+    requires { ⌜ Degree d ⌝ }
+    ensures { λ q. ⌜ q ≡ rule.divided total (natAbs d) ⌝ }
+{
+    let q = total / d;
+    let r = total - d * q;
+    q + half_above(r, d) - half_below(r, d)
 }
 
 // Clipped to -limit..limit.
@@ -34,17 +56,15 @@ fn clip_to(x: i32, limit: i32) -> i32
     x
 }
 
-// "The total divided by its number of edges, toward zero, then clipped." A total clipped to U times
-// the number of edges has the same quotient, already clipped, and compiles to no branch. A bit of a
-// table has an edge; the spin of one that had none would be 0.
+// "Divided by its number of edges, then clipped." A bit of a table has an edge; the spin of one that
+// had none would be 0.
 pub fn spin_of(total: i32, degree: u16) -> i32
     ensures { λ r. ⌜ r ≡ spinOf total degree ⌝ }
 {
     if degree == 0 {
         return 0;
     }
-    let most = UNIT_SIZE * degree as u32;
-    divided(clip_to(total, most as i32), degree as i32)
+    clip_to(divided(total, degree as i32), UNIT)
 }
 
 // Whether all spins up to this one are decided.

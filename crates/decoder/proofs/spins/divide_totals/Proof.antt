@@ -9,11 +9,10 @@ use mir.Facts.{toZ-ofZ}
 use Rattle.integers.specs.Machine.{fit}
 use Rattle.rules.specs.Table.{at}
 use Rattle.rules.specs.Round.{firstOf}
-use Rattle.rules.proofs.RoundSizes.{first-length}
+use Rattle.rules.proofs.RoundSizes.{first-length, first-at}
 use Rattle.decoder.specs.Totals.{spinAt}
 use Rattle.spin.specs.Spin.{spinOf}
 use Rattle.decoder.proofs.FillLaws.{fill, fill-none, fill-length, fill-more, fill-all}
-use Rattle.decoder.proofs.PlaceLaws.{first-at}
 use Rattle.decoder.proofs.spins.divide_totals.Statement.{statement}
 use Rattle.decoder.proofs.spins.divide_totals.Tie as tie
 
