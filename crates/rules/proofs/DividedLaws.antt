@@ -9,6 +9,10 @@ use Rattle.integers.specs.Product.{natAbs-is}
 use Rattle.integers.specs.Division.{signed, signed-neg, signed-size, signed-times, nearest, nearest-none, nearest-low, nearest-high, nearest-half, nearest-zero}
 use Rattle.rules.specs.Round.{divided}
 
+pub divided-size : (t : ℤ) (d : ℕ) → natAbs (divided t d) ≡ nearest (natAbs t) d
+unfolding divided
+divided-size t d = signed-size t (nearest (natAbs t) d)
+
 none-over : (d : ℕ) → nearest 0 d ≡ 0
 none-over zero = nearest-none 0
 none-over (suc d) = nearest-zero 0 (suc d) (omega arith) .1 (omega arith)
@@ -17,10 +21,6 @@ none-over (suc d) = nearest-zero 0 (suc d) (omega arith) .1 (omega arith)
 pub divided-neg : (t : ℤ) (d : ℕ) → divided (negℤ t) d ≡ negℤ (divided t d)
 unfolding divided
 divided-neg t d = signed-neg (λ n. nearest n d) (none-over d) t
-
-pub divided-size : (t : ℤ) (d : ℕ) → natAbs (divided t d) ≡ nearest (natAbs t) d
-unfolding divided
-divided-size t d = signed-size t (nearest (natAbs t) d)
 
 -- a bit without an edge has quotient 0
 pub divided-none : (t : ℤ) → divided t 0 ≡ pos 0

@@ -27,19 +27,19 @@ turned r d = simp lin (omega arithZ)
 turned-above : (r d : ℤ) → (pos 0 -ℤ d) <ℤ (r +ℤ r) → (negℤ r +ℤ negℤ r) <ℤ d
 turned-above r d = simp lin (omega arithZ)
 
-returns : tie.Need-returns
-returns c =
-    let start = c .before in
-    let r = start .args .r in
-    let d = start .args .d in
-    lacks-one (negℤ r) d (turned r d (at-most (reads (add-if1 start) (twice start)) (reads (sub-if1 start) (minus start)) (c .if1 .taken)))
-
 returns-2 : tie.Need-returns-2
 returns-2 c =
     let start = c .before in
     let r = start .args .r in
     let d = start .args .d in
     lacks-none (negℤ r) d (turned-above r d (above (reads (add-if1 start) (twice start)) (reads (sub-if1 start) (minus start)) (c .if1 .left)))
+
+returns : tie.Need-returns
+returns c =
+    let start = c .before in
+    let r = start .args .r in
+    let d = start .args .d in
+    lacks-one (negℤ r) d (turned r d (at-most (reads (add-if1 start) (twice start)) (reads (sub-if1 start) (minus start)) (c .if1 .taken)))
 
 pub half-below-spec : {M : Type 1} → statement M
 half-below-spec = tie.close (tie.spec add-if1 sub-if1 returns returns-2)
