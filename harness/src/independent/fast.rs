@@ -13,7 +13,7 @@ use crate::decoder::{Buffers, Record};
 /// is short of the next whole number by 2^-6 at least, which is 2^18 in a product.
 const SHIFT: u32 = 24;
 
-pub fn reciprocal(degree: u16) -> u32 {
+pub fn reciprocal_of(degree: u16) -> u32 {
     (1 << SHIFT) / u32::from(degree) + 1
 }
 
@@ -71,8 +71,8 @@ impl Bits {
     fn new(table: &Table, frame: &[i16], copies: &[i32], offsets: &[i32]) -> Bits {
         let zero = [0; SIZE_LIMIT];
         let mut bits = Bits { totals: zero, spins: zero, reciprocals: [0; SIZE_LIMIT] };
-        for (place, &degree) in bits.reciprocals.iter_mut().zip(&table.degrees) {
-            *place = reciprocal(degree);
+        for (reciprocal, &degree) in bits.reciprocals.iter_mut().zip(&table.degrees) {
+            *reciprocal = reciprocal_of(degree);
         }
         for (total, &l) in bits.totals.iter_mut().zip(frame) {
             *total = i32::from(l);

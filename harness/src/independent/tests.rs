@@ -1,7 +1,7 @@
 //! The division of totals, the cut search and the projection against the paper's own words.
 
 use super::cut::mask_of;
-use super::fast::{reciprocal, spin_size};
+use super::fast::{reciprocal_of, spin_size};
 use super::limits::{DEGREE_LIMIT, FRAME_LIMIT, OFFSET_STEP, ROUND_LIMIT, UNIT};
 use super::multiplier::{least, MEMBER};
 use super::plain::{least_multiplier, nearest};
@@ -33,7 +33,7 @@ fn sizes(degree: i32) -> impl Iterator<Item = i32> {
 #[test]
 fn division_is_exact() {
     for degree in 1..=DEGREE_LIMIT as i32 {
-        let reciprocal = reciprocal(degree as u16);
+        let reciprocal = reciprocal_of(degree as u16);
         for total in sizes(degree).flat_map(|size| [size, -size]) {
             let quotient = nearest(total, degree);
             assert!(is_nearest(quotient, total, degree), "{total} over {degree}: {quotient}");
