@@ -17,8 +17,7 @@ pub fn reciprocal_of(degree: u16) -> u32 {
     (1 << SHIFT) / u32::from(degree) + 1
 }
 
-/// The size of the spin: of the nearest whole number to a total over its bit's degree, halves away from zero,
-/// clipped.
+/// The spin's size: the nearest whole number to the total's size over its bit's degree, halves up, clipped.
 #[inline(always)]
 pub fn spin_size(total: i32, reciprocal: u32) -> i32 {
     let product = u64::from(total.unsigned_abs()) * u64::from(reciprocal);
