@@ -2,6 +2,7 @@
 
 pub mod certificate;
 pub mod code;
+pub mod codeword;
 pub mod damage;
 pub mod empty;
 pub mod frame;

@@ -6,3 +6,6 @@ pub mod decoder;
 pub mod gen;
 pub mod independent;
 pub mod proved;
+
+/// Every decoder.
+pub const ALL: [&dyn decoder::Decoder; 3] = [&independent::Independent, &independent::Plain, &proved::Proved];

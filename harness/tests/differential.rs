@@ -3,14 +3,12 @@
 use harness::cases::compare::{compare, Tally};
 use harness::cases::make;
 use harness::decoder::Decoder;
-use harness::gen::rng::Rng;
 use harness::independent::{Independent, Plain};
 use harness::proved::Proved;
 
 fn series(decoders: &[&dyn Decoder], seed: u64, count: u64) -> Tally {
     let mut tally = Tally::new();
-    for index in 0..count {
-        let case = make::case(&mut Rng::of_case(seed, index));
+    for (index, case) in make::series(seed, count).enumerate() {
         if let Err(what) = compare(decoders, &case, &mut tally) {
             panic!("seed {seed} case {index} ({}): {what}", case.kind());
         }

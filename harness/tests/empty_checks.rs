@@ -12,11 +12,8 @@ use harness::gen::state::{Shape, State};
 use harness::independent::certificate::Entry;
 use harness::independent::limits::{certificate_length, ENTRY_LIMIT, ROUND_LIMIT, SIZE_LIMIT};
 use harness::independent::table::{u16_at, Table};
-use harness::independent::{Independent, Plain};
-use harness::proved::Proved;
+use harness::ALL;
 use std::collections::BTreeMap;
-
-const ALL: [&dyn Decoder; 3] = [&Independent, &Plain, &Proved];
 
 /// A code, the same one with empty checks among its own, and the numbers of its own and of the empty ones
 /// there.
@@ -137,7 +134,7 @@ fn pairs(series: u64) -> impl Iterator<Item = (Rng, Pair)> {
 fn runs() {
     let mut seen = Seen::new();
     for (mut rng, pair) in pairs(3) {
-        let frame = frame::valid(&mut rng, Shape::of(&pair.code).unwrap().bits);
+        let frame = frame::valid(&mut rng, &Table::parse(&pair.code).unwrap());
         let any = rng.below(ROUND_LIMIT as usize) as u32;
         let done = rng.pick(&[0, 0, 0, 1, any]);
         let calls = [1, rng.between(0, 40) as u32, ROUND_LIMIT];
@@ -168,7 +165,7 @@ fn verdicts() {
     let mut seen = Seen::new();
     for (mut rng, pair) in pairs(4) {
         let table = Table::parse(&pair.code).unwrap();
-        let frame = frame::valid(&mut rng, table.bits);
+        let frame = frame::valid(&mut rng, &table);
         let (mut draft, word) = Draft::of_run(&pair.code, &frame, 60);
         if rng.one_in(3) {
             draft = Draft::random(&mut rng, &table);
@@ -292,8 +289,7 @@ fn see_entries(seen: &mut Seen, layout: &[bool], certificate: &[u8]) {
 #[test]
 fn series_has_them() {
     let mut seen = Seen::new();
-    for index in 0..20_000 {
-        let case = make::case(&mut Rng::of_case(1, index));
+    for case in make::series(1, 20_000) {
         let code = match &case {
             Case::Run(run) => &run.code,
             Case::Table { code } | Case::Agreement { code, .. } => code,

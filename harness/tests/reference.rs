@@ -4,10 +4,7 @@ use harness::decoder::{Called, Decoder, Record, Refusal, Verdict};
 use harness::gen::code::{bytes_of, three_bits};
 use harness::gen::state::{Shape, State};
 use harness::independent::limits::UNIT;
-use harness::independent::{Independent, Plain};
-use harness::proved::Proved;
-
-const ALL: [&dyn Decoder; 3] = [&Independent, &Plain, &Proved];
+use harness::ALL;
 
 fn fresh(code: &[u8]) -> State {
     State::zeroed(&Shape::of(code).unwrap())

@@ -1,12 +1,9 @@
 //! Worked refusals at their edges, and their order, on every decoder.
 
-use harness::decoder::{Called, Decoder, Record, Refusal, Sizes, Verdict};
+use harness::decoder::{Called, Record, Refusal, Sizes, Verdict};
 use harness::gen::code::{bytes_of, three_bits};
 use harness::gen::state::{Lengths, Shape, State};
-use harness::independent::{Independent, Plain};
-use harness::proved::Proved;
-
-const ALL: [&dyn Decoder; 3] = [&Independent, &Plain, &Proved];
+use harness::ALL;
 
 fn set(code: &[u8], place: usize, value: u16) -> Vec<u8> {
     let mut code = code.to_vec();

@@ -16,37 +16,41 @@ fn usual_rounds(checks: usize, edges: usize) -> u32 {
     (USUAL_WORK / edges.max(checks)).clamp(1, ROUND_LIMIT as usize) as u32
 }
 
+/// The first cases of a series.
+pub fn series(seed: u64, count: u64) -> impl Iterator<Item = Case> {
+    (0..count).map(move |index| case(&mut Rng::of_case(seed, index)))
+}
+
 pub fn case(rng: &mut Rng) -> Case {
     let sound = code::any(rng);
-    let shape = Shape::of(&sound).expect("a sound code");
+    let table = Table::parse(&sound).expect("a sound code");
     let mut code = sound.clone();
     if rng.one_in(12) {
         damage::damage(rng, &mut code);
     }
     match rng.below(20) {
-        0..=1 => table(rng, code),
-        2..=4 => cut(rng, code, &sound),
-        5..=8 => judge(rng, code, &sound),
-        9 => agreement(rng, code, &shape),
-        10..=15 => Case::Run(Box::new(fresh(rng, code, &shape))),
-        _ => Case::Run(Box::new(half_done(rng, code, &shape))),
+        0..=1 => code_file(rng, code),
+        2..=4 => cut(rng, code, &table),
+        5..=8 => judge(rng, code, &sound, &table),
+        9 => agreement(rng, code, &table),
+        10..=15 => Case::Run(Box::new(fresh(rng, code, &table))),
+        _ => Case::Run(Box::new(half_done(rng, code, &table))),
     }
 }
 
-fn table(rng: &mut Rng, mut code: Vec<u8>) -> Case {
+fn code_file(rng: &mut Rng, mut code: Vec<u8>) -> Case {
     if !rng.one_in(4) {
         damage::damage(rng, &mut code);
     }
     Case::Table { code }
 }
 
-fn cut(rng: &mut Rng, code: Vec<u8>, sound: &[u8]) -> Case {
-    let table = Table::parse(sound).expect("a sound code");
+fn cut(rng: &mut Rng, code: Vec<u8>, table: &Table) -> Case {
     let mut point = frame::point(rng, table.bits);
     if rng.one_in(12) {
         frame::damage_point(rng, &mut point);
     }
-    let check = match empty::one_of(rng, &table) {
+    let check = match empty::one_of(rng, table) {
         Some(empty) if rng.one_in(2) => empty,
         _ if rng.one_in(12) => rng.pick(&[table.checks(), table.checks() + 1, 65_536, usize::MAX]),
         _ => rng.below(table.checks()),
@@ -54,17 +58,17 @@ fn cut(rng: &mut Rng, code: Vec<u8>, sound: &[u8]) -> Case {
     Case::Cut { code, point, check }
 }
 
-fn any_frame(rng: &mut Rng, shape: &Shape) -> Vec<i16> {
-    let mut numbers = frame::valid(rng, shape.bits);
+fn any_frame(rng: &mut Rng, table: &Table) -> Vec<i16> {
+    let mut numbers = frame::valid(rng, table);
     if rng.one_in(16) {
         frame::damage(rng, &mut numbers);
     }
     numbers
 }
 
-fn agreement(rng: &mut Rng, code: Vec<u8>, shape: &Shape) -> Case {
-    let frame = any_frame(rng, shape);
-    let mut word = frame::word(rng, shape.bits);
+fn agreement(rng: &mut Rng, code: Vec<u8>, table: &Table) -> Case {
+    let frame = any_frame(rng, table);
+    let mut word = frame::word(rng, table.bits);
     if rng.one_in(4) {
         frame::damage_word(rng, &mut word);
     }
@@ -72,21 +76,20 @@ fn agreement(rng: &mut Rng, code: Vec<u8>, shape: &Shape) -> Case {
 }
 
 /// A certificate from a run, edited or not, or a random one; with the run's word or another.
-fn judge(rng: &mut Rng, code: Vec<u8>, sound: &[u8]) -> Case {
-    let table = Table::parse(sound).expect("a sound code");
-    let mut frame = frame::valid(rng, table.bits);
+fn judge(rng: &mut Rng, code: Vec<u8>, sound: &[u8], table: &Table) -> Case {
+    let mut frame = frame::valid(rng, table);
     let rounds = usual_rounds(table.checks(), table.edges());
     let (mut draft, certified) = Draft::of_run(sound, &frame, rounds);
     if rng.one_in(4) {
-        draft = Draft::random(rng, &table);
+        draft = Draft::random(rng, table);
     } else if rng.one_in(2) {
         draft.rescale(rng);
     }
-    if let Some(check) = empty::one_of(rng, &table).filter(|_| rng.one_in(3)) {
+    if let Some(check) = empty::one_of(rng, table).filter(|_| rng.one_in(3)) {
         draft.name_empty(rng, check);
     }
     if rng.one_in(2) {
-        draft.edit_entry(rng, &table);
+        draft.edit_entry(rng, table);
     }
     let mut certificate = draft.bytes();
     if rng.one_in(10) {
@@ -129,8 +132,8 @@ fn calls(rng: &mut Rng, shape: &Shape, state: &State) -> Vec<(u32, Lengths)> {
 }
 
 /// A list of calls from a start, each handed what the last one left.
-fn fresh(rng: &mut Rng, code: Vec<u8>, shape: &Shape) -> Run {
-    let frame = any_frame(rng, shape);
+fn fresh(rng: &mut Rng, code: Vec<u8>, table: &Table) -> Run {
+    let (frame, shape) = (any_frame(rng, table), &Shape::of_table(table));
     let state = State::random(rng, shape);
     let start = Some(lent_lengths(rng, shape, &state));
     let calls = calls(rng, shape, &state);
@@ -140,8 +143,8 @@ fn fresh(rng: &mut Rng, code: Vec<u8>, shape: &Shape) -> Run {
 }
 
 /// A list of calls on a run that some other program claims to have begun.
-fn half_done(rng: &mut Rng, code: Vec<u8>, shape: &Shape) -> Run {
-    let frame = any_frame(rng, shape);
+fn half_done(rng: &mut Rng, code: Vec<u8>, table: &Table) -> Run {
+    let (frame, shape) = (any_frame(rng, table), &Shape::of_table(table));
     let mut state = State::random(rng, shape);
     let any = rng.below(ROUND_LIMIT as usize) as u32;
     let rounds = rng.pick(&[0, 1, 3, any, any, ROUND_LIMIT - 4, ROUND_LIMIT - 1]);

@@ -20,13 +20,18 @@ impl Draft {
     pub fn of_run(code: &[u8], frame: &[i16], rounds: u32) -> (Draft, Option<Vec<u8>>) {
         let mut state = State::zeroed(&Shape::of(code).expect("a sound code"));
         let called = Independent.rounds(code, frame, Record::FRESH, rounds, state.lend_all());
+        let certified = called.record.status == Record::CERTIFIED;
+        (Draft::of_cuts(&state), certified.then(|| state.word.lent().to_vec()))
+    }
+
+    /// The cuts of the last round, in buffers just as long as needed.
+    pub fn of_cuts(state: &State) -> Draft {
         let cuts = state.multipliers.lent().iter().zip(state.masks.lent()).enumerate();
         let entries = cuts
             .filter(|(_, (&multiplier, _))| multiplier != 0)
             .map(|(check, (&multiplier, &mask))| Entry { check, multiplier, mask })
             .collect();
-        let certified = called.record.status == Record::CERTIFIED;
-        (Draft { scale: 1, entries }, certified.then(|| state.word.lent().to_vec()))
+        Draft { scale: 1, entries }
     }
 
     /// Any entries of the right form, in order.

@@ -1,7 +1,9 @@
 //! Frames, words and points.
 
+use super::codeword;
 use super::rng::Rng;
 use crate::independent::limits::{FRAME_LIMIT, UNIT};
+use crate::independent::table::Table;
 
 /// A channel's frame of the all-zero word: gaussian-like round the gain, clipped to the limits.
 pub fn noisy(rng: &mut Rng, bits: usize, gain: f64, deviation: f64) -> Vec<i16> {
@@ -9,13 +11,33 @@ pub fn noisy(rng: &mut Rng, bits: usize, gain: f64, deviation: f64) -> Vec<i16> 
     (0..bits).map(|_| (gain + deviation * rng.gaussian()).clamp(-limit, limit) as i16).collect()
 }
 
+/// A frame that leans to the word, weakly: a number is at least half its bit's degree in size, and smaller than
+/// the degree, but for degree 1.
+pub fn weak(rng: &mut Rng, table: &Table, word: &[u8]) -> Vec<i16> {
+    let number = |(&degree, &bit): (&u16, &u8)| {
+        let (half, most) = (usize::from(degree.div_ceil(2)), usize::from(degree - 1));
+        let size = rng.between(half, most.max(half)) as i16;
+        if bit == 0 {
+            size
+        } else {
+            -size
+        }
+    };
+    table.degrees.iter().zip(word).map(number).collect()
+}
+
 /// A frame in range, of some kind.
-pub fn valid(rng: &mut Rng, bits: usize) -> Vec<i16> {
+pub fn valid(rng: &mut Rng, table: &Table) -> Vec<i16> {
+    let bits = table.bits;
     let uniform = |rng: &mut Rng, reach: i16| -> Vec<i16> {
         (0..bits).map(|_| rng.signed(i32::from(reach)) as i16).collect()
     };
     match rng.below(8) {
-        0..=2 => noisy(rng, bits, 3000.0, 2200.0),
+        0..=1 => noisy(rng, bits, 3000.0, 2200.0),
+        2 => {
+            let word = codeword::near(rng, table);
+            weak(rng, table, &word)
+        }
         3 => noisy(rng, bits, 1500.0, 2500.0),
         4 => uniform(rng, FRAME_LIMIT),
         5 => uniform(rng, 3),

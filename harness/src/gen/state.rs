@@ -47,9 +47,12 @@ pub struct Shape {
 
 impl Shape {
     pub fn of(code: &[u8]) -> Result<Shape, Refusal> {
-        let table = Table::parse(code)?;
+        Ok(Shape::of_table(&Table::parse(code)?))
+    }
+
+    pub fn of_table(table: &Table) -> Shape {
         let (checks, edges) = (table.checks(), table.edges());
-        Ok(Shape { bits: table.bits, checks, edges, certificate: certificate_length(checks) })
+        Shape { bits: table.bits, checks, edges, certificate: certificate_length(checks) }
     }
 }
 

@@ -8,15 +8,27 @@ use super::multiplier::{least, MEMBER};
 use super::table::{place, Table};
 use crate::decoder::{Buffers, Record};
 
-/// Shift of the bits' reciprocals: quotients matter up to U, so totals to 2^17, and degrees to 2^5.
-const SHIFT: u32 = 23;
+/// Shift of the bits' reciprocals, which are too large by 1 at most. Quotients matter up to U, so totals to
+/// 2^17: products are too large by that at most. Degrees go to 2^5, so a quotient plus a half, if not whole,
+/// is short of the next whole number by 2^-6 at least, which is 2^18 in a product.
+const SHIFT: u32 = 24;
+
+pub fn reciprocal_of(degree: u16) -> u32 {
+    (1 << SHIFT) / u32::from(degree) + 1
+}
+
+/// The spin's size: the nearest whole number to the total's size over its bit's degree, halves up, clipped.
+#[inline(always)]
+pub fn spin_size(total: i32, reciprocal: u32) -> i32 {
+    let product = u64::from(total.unsigned_abs()) * u64::from(reciprocal);
+    (((product + (1 << (SHIFT - 1))) >> SHIFT) as i32).min(UNIT)
+}
 
 /// Per-bit state. Full-sized, so that a masked member needs no bounds check.
 struct Bits {
     /// Frame number plus z − y over the bit's edges, gathered for the next round.
     totals: [i32; SIZE_LIMIT],
     spins: [i32; SIZE_LIMIT],
-    /// ⌊2^SHIFT / degree⌋ + 1.
     reciprocals: [u32; SIZE_LIMIT],
 }
 
@@ -59,7 +71,7 @@ impl Bits {
         let zero = [0; SIZE_LIMIT];
         let mut bits = Bits { totals: zero, spins: zero, reciprocals: [0; SIZE_LIMIT] };
         for (reciprocal, &degree) in bits.reciprocals.iter_mut().zip(&table.degrees) {
-            *reciprocal = (1 << SHIFT) / u32::from(degree) + 1;
+            *reciprocal = reciprocal_of(degree);
         }
         for (total, &l) in bits.totals.iter_mut().zip(frame) {
             *total = i32::from(l);
@@ -75,11 +87,10 @@ impl Bits {
         let mut no_zero = true;
         let bits = self.totals.iter_mut().zip(&mut self.spins).zip(&self.reciprocals).zip(frame);
         for (((total, spin), &reciprocal), &l) in bits {
-            let size = (u64::from(total.unsigned_abs()) * u64::from(reciprocal)) >> SHIFT;
-            let clipped = (size as i32).min(UNIT);
+            let size = spin_size(*total, reciprocal);
             let side = *total >> 31;
-            *spin = (clipped ^ side) - side;
-            no_zero &= clipped != 0;
+            *spin = (size ^ side) - side;
+            no_zero &= size != 0;
             *total = i32::from(l);
         }
         no_zero

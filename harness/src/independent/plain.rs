@@ -50,7 +50,19 @@ fn spins(table: &Table, frame: &[i16], copies: &[i32], offsets: &[i32]) -> Vec<i
     for (edge, &member) in table.members.iter().enumerate() {
         totals[usize::from(member)] += copies[edge] - offsets[edge];
     }
-    totals.iter().zip(&table.degrees).map(|(total, &degree)| clip(total / i32::from(degree))).collect()
+    let bits = totals.into_iter().zip(&table.degrees);
+    bits.map(|(total, &degree)| clip(nearest(total, i32::from(degree)))).collect()
+}
+
+/// A total over its bit's degree: the nearest whole number, of two the one away from zero.
+pub fn nearest(total: i32, degree: i32) -> i32 {
+    // The rest has the total's sign.
+    let (toward_zero, rest) = (total / degree, total % degree);
+    if 2 * rest.abs() < degree {
+        toward_zero
+    } else {
+        toward_zero + total.signum()
+    }
 }
 
 /// Steps 2 and 3 on one check.

@@ -1,10 +1,46 @@
-//! The cut search and the projection against the paper's own words.
+//! The division of totals, the cut search and the projection against the paper's own words.
 
 use super::cut::mask_of;
-use super::limits::UNIT;
+use super::fast::{reciprocal_of, spin_size};
+use super::limits::{DEGREE_LIMIT, FRAME_LIMIT, OFFSET_STEP, ROUND_LIMIT, UNIT};
 use super::multiplier::{least, MEMBER};
-use super::plain::least_multiplier;
+use super::plain::{least_multiplier, nearest};
 use crate::gen::rng::Rng;
+
+#[test]
+fn division_by_example() {
+    for (total, degree, quotient) in
+        [(1, 3, 0), (2, 3, 1), (1, 2, 1), (3, 2, 2), (15, 32, 0), (16, 32, 1), (47, 32, 1), (48, 32, 2)]
+    {
+        assert_eq!(nearest(total, degree), quotient, "{total} over {degree}");
+        assert_eq!(nearest(-total, degree), -quotient, "-{total} over {degree}");
+    }
+}
+
+/// Whether no whole number is nearer, and none as near is further from zero.
+fn is_nearest(quotient: i32, total: i32, degree: i32) -> bool {
+    let off = 2 * (total - quotient * degree).abs();
+    off < degree || off == degree && (quotient * degree).abs() > total.abs()
+}
+
+/// Sizes of totals: all that are not clipped, then some, up to the greatest that passes 43.
+fn sizes(degree: i32) -> impl Iterator<Item = i32> {
+    let clipped = degree * (UNIT + 1);
+    let greatest = i32::from(FRAME_LIMIT) + degree * (UNIT + OFFSET_STEP * (ROUND_LIMIT as i32 - 1));
+    (0..clipped).chain((clipped..greatest).step_by(997)).chain([greatest])
+}
+
+#[test]
+fn division_is_exact() {
+    for degree in 1..=DEGREE_LIMIT as i32 {
+        let reciprocal = reciprocal_of(degree as u16);
+        for total in sizes(degree).flat_map(|size| [size, -size]) {
+            let quotient = nearest(total, degree);
+            assert!(is_nearest(quotient, total, degree), "{total} over {degree}: {quotient}");
+            assert_eq!(spin_size(total, reciprocal), quotient.abs().min(UNIT), "{total} over {degree}");
+        }
+    }
+}
 
 /// The search's answer is the one odd set whose inequality fails, found by trying them all.
 #[test]

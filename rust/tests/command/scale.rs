@@ -1,4 +1,4 @@
-//! Frames of small numbers, run at a scale.
+//! Frames of small numbers, as they are and run at a scale.
 
 use super::support::{as_text, frames_of, sample, Folder};
 
@@ -76,4 +76,29 @@ fn small_numbers_are_warned_of() {
     folder.write("frames", [&[0x34, 0x03].repeat(7)[..], &[1, 0]].concat());
     let done = folder.run("decode code.alist frames --binary");
     assert!(done.text().ends_with("frame 1 refused 8\n") && !done.errors.contains("warning"), "{done:?}");
+}
+
+/// Frames that lean to the words found in a sample whose bits are all in three checks. Numbers of size 2 are
+/// certified at once. Numbers of size 1 never move, unless they are run at a scale.
+#[test]
+fn numbers_below_the_degree() {
+    let folder = Folder::with_sample("regular");
+    folder.run("decode code.alist frames --binary --words words --quiet");
+    let words = folder.text("words").replace("none\n", "");
+    assert_eq!(words.lines().count(), 22);
+    let decode = |size: i16, options: &str| {
+        let number = |bit| if bit == b'0' { size } else { -size };
+        let frames: Vec<Vec<i16>> = words.lines().map(|word| word.bytes().map(number).collect()).collect();
+        folder.write("frames", as_text(&frames));
+        folder.run(&format!("decode code.alist frames --words w {options}"))
+    };
+    let report = |mark: &str| {
+        let lines: String = (0..22).map(|number| format!("frame {number} {mark}\n")).collect();
+        format!("bits 504 checks 252 edges 1512\n{lines}")
+    };
+    decode(2, "").says(0, &report("certified 1 1008 0"));
+    assert_eq!(folder.text("w"), words);
+    decode(1, "").says(0, &report("spent 1024"));
+    decode(1, "--scale auto").says(0, &report("certified 1 504 0"));
+    assert_eq!(folder.text("w"), words);
 }

@@ -105,7 +105,7 @@ fn ended_runs_refuse_and_stay() {
 fn refused_calls_and_calls_for_no_round_change_nothing() {
     let code = ring();
     let mut run = Run::start(&code);
-    assert_eq!(run.rounds(&[30, 30, -31], 2), Ok(Answer::Running));
+    assert_eq!(run.rounds(&[30, 30, -31], 1), Ok(Answer::Running));
     let before = run.clone();
     assert_eq!(run.rounds(&[30, 30], 1), Err(Refusal::FRAME_LENGTH));
     assert_eq!(run.rounds(&[30, 30, -8192], 1), Err(Refusal::FRAME_NUMBER));
