@@ -43,8 +43,9 @@ module _ (d : ℕ) (h : 1 ≤ d) where
       apart (negsuc n) b low high = half (negsuc n -ℤ negℤ (pos b)) (simp lin (omega arithZ)) (simp lin (omega arithZ))
 
   -- a half goes away from zero
-  pub divided-half : (t : ℤ) (k : ℕ) → 2 * natAbs t ≡ d * (2 * k + 1) → natAbs (divided t d) ≡ k + 1
-  divided-half t k e = divided-size t d ∙ nearest-half (natAbs t) d h k e
+  pub divided-half : (t : ℤ) (k : ℕ) → 2 * natAbs t ≡ d * (2 * k + 1) → divided t d ≡ signed t (k + 1)
+  unfolding divided
+  divided-half t k e = ap (signed t) (nearest-half (natAbs t) d h k e)
 
   pub divided-zero : (t : ℤ) → (divided t d ≡ pos 0) ↔ (2 * natAbs t < d)
   divided-zero t = (λ e. nearest-zero (natAbs t) d h .0 (sym (divided-size t d) ∙ ap natAbs e), λ k. size-zero (divided t d) (divided-size t d ∙ nearest-zero (natAbs t) d h .1 k))
