@@ -103,11 +103,13 @@ def random_codeword(rng, table):
 
 
 def other_codeword(rng, table):
-    """A codeword that is not all 0; the table must have one."""
-    while True:
+    """A codeword that is not all 0.  Where there is one, half of all codewords at most have a 0
+    at its one, so 200 draws don't miss them all."""
+    for _ in range(200):
         codeword = random_codeword(rng, table)
         if 1 in codeword:
             return codeword
+    raise AssertionError(f"only the zero word in {table}")
 
 
 def random_spins(rng, count):

@@ -5,6 +5,7 @@ from unittest import mock
 
 import make_inputs as inputs
 import make_tables as tables
+import make_weak_frames as weak
 import rounds
 from make_runs import Call
 from prng import Prng
@@ -84,12 +85,9 @@ def halves_move_at_once(account):
     round 1 certifies it.  Divided toward zero they never leave spin 0."""
     account.announce("weak frames certified in round 1")
     rng = Prng(111)
-    for table in [tables.three_six(24), tables.three_six(96), tables.cycle_table(9),
-                  tables.repeated_checks(), tables.full_square(), tables.stairs()]:
+    for table in [*weak.WEAK_TABLES, tables.full_square(), tables.cycle_table(9)]:
         for codeword in ([0] * table[0], inputs.other_codeword(rng, table)):
-            sizes = [rng.between(-(-degree // 2), degree - 1)
-                     for degree in tables.bit_degrees(table)]
-            frame = inputs.negated_under(sizes, codeword)
+            frame = inputs.negated_under(weak.half_sizes(rng, table), codeword)
             seen = Run(table, frame, rng).call(Call(1024, None))
             expect_equal((seen.answer, seen.rounds_done, seen.word), (CERTIFIED, 1, codeword),
                          f"{frame} on {table}")
@@ -112,13 +110,11 @@ def expect_stays_at_zero(table, frame, rng):
 
 
 def less_than_halves_stay(account):
-    """Numbers below half of the degrees: spin 0 throughout."""
+    """Numbers below half of the degrees, of either sign: spin 0 throughout."""
     account.announce("frames at spin 0 throughout")
     rng = Prng(112)
-    for table in [tables.three_six(24), tables.three_six(96), tables.full_square(),
-                  tables.stairs()] + [tables.regular_table(rng, 12, 5, 6) for _ in range(6)]:
-        frame = [rng.between(-((degree - 1) // 2), (degree - 1) // 2)
-                 for degree in tables.bit_degrees(table)]
+    for table in [*weak.WEAK_TABLES, tables.full_square()]:
+        frame = weak.few_wrong(rng, weak.lesser_sizes(rng, table), 3)
         expect_stays_at_zero(table, frame, rng)
         account.add("frames at spin 0 throughout", any(frame))
 
