@@ -110,7 +110,7 @@ def emptied_runs(rng):
     cases = []
     for table in tables.emptied_tables(rng, 12):
         frame = inputs.noisy_frame(rng, table[0])
-        written = inputs.run_certificate(table, frame)
+        written = inputs.other_certificate(table, frame)
         if written is not None:
             case = JudgeCase(code_file(table), frame, *written)
             cases += [case, rng.choice(verdicts.altered_frames(case)),
@@ -131,14 +131,16 @@ def mostly_empty():
 # --- the kind --------------------------------------------------------------------------------
 
 def judge_records():
-    rng = Prng(20_03)
-    return (verdicts.document_gaps() + verdicts.document_others() + verdicts.altered_runs(rng)
+    rng, own_rng = Prng(20_03), Prng(20_08)
+    return (verdicts.document_gaps() + verdicts.document_others()
+            + verdicts.altered_runs(rng, 36, inputs.other_certificate)
             + verdicts.altered_thoroughly() + verdicts.strangers(rng, 90)
             + verdicts.tight_cases(rng, 40) + verdicts.wide_cases() + verdicts.long_cases()
             + verdicts.heavy_cases() + verdicts.large_cases(rng) + entry_orders()
             + numbers_at_the_ends() + broken_words(rng) + damaged_files(rng) + plain_inputs()
             + claimed_refusals(rng) + named_empty_checks() + named_in_turn() + emptied_runs(rng)
-            + mostly_empty())
+            + mostly_empty() + verdicts.altered_runs(own_rng, 24, inputs.run_certificate)
+            + verdicts.weak_cases(own_rng))
 
 
 def verdict(found, met):

@@ -41,13 +41,22 @@ def long_frames(rng, table):
             inputs.negated_under([FRAME_LIMIT] * n, codeword)]
 
 
+def weak_frames(rng, table):
+    """Numbers below the bits' degree, which is 3: 2 with the signs of the zero word and of another
+    codeword, which round 1 certifies, and 1, which stays at spin 0."""
+    n = table[0]
+    return [[2] * n, inputs.negated_under([2] * n, inputs.other_codeword(rng, table)), [1] * n]
+
+
 def long_input():
-    """A (3,6)-regular code of 2,048 bits and eleven frames; a twelfth ends early, in the middle
-    of its last number."""
+    """A (3,6)-regular code of 2,048 bits and fourteen frames, the last three of them weak; a
+    fifteenth ends early, in the middle of its last number."""
     rng = Prng(20_05)
     table = tables.half_rate(rng)
-    frames = b"".join(map(frame_bytes, long_frames(rng, table)))
-    return code_file(table) + frames + frame_bytes(hard_frame(rng, table[0], 9, 0))[:-1]
+    frames = long_frames(rng, table)
+    short = frame_bytes(hard_frame(rng, table[0], 9, 0))[:-1]
+    frames += weak_frames(Prng(20_09), table)
+    return code_file(table) + b"".join(map(frame_bytes, frames)) + short
 
 
 def case_report():

@@ -1,8 +1,11 @@
 """Frames, words, points and certificates for a given table.
 
 A table is a pair (n, checks) as in make_tables.  The makers here know the formats of
-document 01 but take no answer from the decoder; only `run_certificate` runs it.
+document 01 but take no answer from the decoder; only `run_certificate` and `other_certificate`
+run it.
 """
+
+from unittest import mock
 
 import certificate
 import report
@@ -99,6 +102,16 @@ def random_codeword(rng, table):
     return [word >> bit & 1 for bit in range(n)]
 
 
+def other_codeword(rng, table):
+    """A codeword that is not all 0.  Where there is one, half of all codewords at most have a 0
+    at its one, so 200 draws don't miss them all."""
+    for _ in range(200):
+        codeword = random_codeword(rng, table)
+        if 1 in codeword:
+            return codeword
+    raise AssertionError(f"only the zero word in {table}")
+
+
 def random_spins(rng, count):
     """Spins of several kinds: anywhere, near the ends, near zero, tied, from a short list."""
     kind = rng.between(0, 5)
@@ -129,6 +142,19 @@ def run_certificate(table, frame):
     if rounds.rounds(data, frame, record, rounds.ROUNDS_LIMIT, lent) != rounds.CERTIFIED:
         return None
     return lent.word, bytes(lent.certificate[:4 + 10 * entry_count(lent.certificate)])
+
+
+def divide_toward_zero(total, count):
+    """Step 1's division as it is not: whole rests are lost."""
+    quotient = abs(total) // count
+    return quotient if total >= 0 else -quotient
+
+
+def other_certificate(table, frame):
+    """What another decoder writes for the frame, one that divides toward zero, or None.  Its
+    words and certificates are as good as ours: the judge does not ask who wrote them."""
+    with mock.patch.object(rounds, "divide_nearest", divide_toward_zero):
+        return run_certificate(table, frame)
 
 
 def read_entries(data):

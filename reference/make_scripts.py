@@ -15,18 +15,30 @@ DOCUMENT_RUNS = [(tables.three_bits(), [4000, 4000, -2000]), (tables.one_bit(), 
                  (tables.three_bits(), [-4000, -4000, -2000]),
                  (tables.three_bits(), [10, 10, 10])]
 
-# Found by trying many small frames; the self test makes sure of the rounds.  1,025 stands for
-# a run that is spent in round 1,024 and would have been certified by one round more.
+# Runs that end in round 1,024 or close to it, with that round, found by trying many small frames;
+# the self test makes sure of the rounds.  1,025 stands for a run that is spent in round 1,024 and
+# would have been certified by one round more.
 TWO_TRIANGLES = (5, [[0, 1, 2], [2, 3, 4]])
 THREE_TRIANGLES = (7, [[0, 1, 2], [2, 3, 4], [4, 5, 6]])
-LATE_RUNS = [(1024, TWO_TRIANGLES, [6, -6, -4, 3, 5]), (1024, TWO_TRIANGLES, [4, -2, 5, -5, -5]),
-             (1024, TWO_TRIANGLES, [-7, 8, -5, -22, -21]),
-             (1024, THREE_TRIANGLES, [-2, 5, 2, -6, -6, -3, 2]),
-             (1023, THREE_TRIANGLES, [-6, 3, 4, -5, -3, -3, 6]),
-             (1022, THREE_TRIANGLES, [12, 7, -2, 4, -15, -2, 13]),
-             (1019, TWO_TRIANGLES, [7, -10, -3, -1, 0]), (911, tables.three_bits(), [5, 1, 0]),
-             (1025, TWO_TRIANGLES, [5, -1, 4, 0, 3]), (1025, TWO_TRIANGLES, [2, 5, -3, -3, 6]),
-             (1025, THREE_TRIANGLES, [9, -10, 17, 0, 13, 3, -19])]
+LATE_RUNS = [(1024, TWO_TRIANGLES, [6, -6, -4, 3, 5]), (1024, TWO_TRIANGLES, [-3, 6, 1, -5, -6]),
+             (1024, TWO_TRIANGLES, [9, -7, -3, -7, -5]),
+             (1024, THREE_TRIANGLES, [2, 8, 5, 1, -4, -8, 2]),
+             (1023, THREE_TRIANGLES, [3, -2, -3, 5, 1, 1, -1]),
+             (1022, THREE_TRIANGLES, [-1, 1, 1, -4, 6, -1, -5]),
+             (911, tables.three_bits(), [5, 1, 0]), (1025, TWO_TRIANGLES, [-1, 6, 5, -1, 6]),
+             (1025, TWO_TRIANGLES, [1, -5, 1, 3, -3]),
+             (1025, THREE_TRIANGLES, [5, -1, -5, -2, 1, -1, 5])]
+
+# Runs that a decoder would end in these rounds if it divided toward zero.  Most end elsewhere.
+LATE_TOWARD_ZERO = [
+    (1024, TWO_TRIANGLES, [6, -6, -4, 3, 5]), (1024, TWO_TRIANGLES, [4, -2, 5, -5, -5]),
+    (1024, TWO_TRIANGLES, [-7, 8, -5, -22, -21]),
+    (1024, THREE_TRIANGLES, [-2, 5, 2, -6, -6, -3, 2]),
+    (1023, THREE_TRIANGLES, [-6, 3, 4, -5, -3, -3, 6]),
+    (1022, THREE_TRIANGLES, [12, 7, -2, 4, -15, -2, 13]),
+    (1019, TWO_TRIANGLES, [7, -10, -3, -1, 0]), (911, tables.three_bits(), [5, 1, 0]),
+    (1025, TWO_TRIANGLES, [5, -1, 4, 0, 3]), (1025, TWO_TRIANGLES, [2, 5, -3, -3, 6]),
+    (1025, THREE_TRIANGLES, [9, -10, 17, 0, 13, 3, -19])]
 
 
 def document_runs():
@@ -40,10 +52,10 @@ def document_runs():
     return script + zero + calls([1, 1000, 1024, 0, 1], exact(tables.three_bits()))
 
 
-def late_runs(rng):
-    """Runs that end in round 1,024 or close to it: at once, up to the last round, in parts."""
+def late_runs(rng, runs):
+    """Up to the stated round and beyond it: at once, up to the last round, in parts."""
     script = []
-    for ending, table, frame in LATE_RUNS:
+    for ending, table, frame in runs:
         lengths = exact(table)
         for wants in ([1024, 1], [ending - 2, 1, 0, 1, 1], [ending - 1 - 500, 1024],
                       [call.wanted for call in make_runs.split_wants(rng, ending)] + [3]):
@@ -129,13 +141,13 @@ def swaps():
 
 
 def emptied_runs(rng):
-    """Runs on tables with empty checks: document 01's frame, every ending, round 1,024 and the
-    one that would be too late, and lists with refusals."""
+    """Runs on tables with empty checks: document 01's frame, every ending, calls up to round
+    1,024 and the one too late, and lists with refusals."""
     extremes = Fill(*(kept.extreme for kept in vars(KEPT).values()))
     three, frame = tables.with_empty(tables.three_bits(), [0, 1, 1]), [4000, 4000, -2000]
     script = fresh(three, frame, extremes) + calls([0] + [1] * 4, exact(three))
     script += fresh(three, [0, 0, 0]) + calls([1, 1024, 1], exact(three))
-    for ending, table, frame in [LATE_RUNS[0], LATE_RUNS[3], LATE_RUNS[8]]:
+    for ending, table, frame in [LATE_TOWARD_ZERO[k] for k in (0, 3, 8)]:
         table = tables.emptied(rng, table, 3)
         script += fresh(table, frame) + calls([ending - 2, 1, 1, 1], exact(table))
     for table in tables.emptied_tables(rng, 14):

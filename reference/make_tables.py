@@ -4,8 +4,11 @@ A table is a pair (n, checks); a check is an ascending list of bit numbers.  Eve
 here is meant to be accepted.
 """
 
+from collections import Counter
 from dataclasses import dataclass
 from itertools import accumulate
+
+from prng import Prng
 
 
 def u16(number):
@@ -37,6 +40,13 @@ def layout(table):
 
 def code_file(table):
     return layout(table).to_bytes()
+
+
+def bit_degrees(table):
+    """In how many checks each bit stands."""
+    n, checks = table
+    times = Counter(bit for members in checks for bit in members)
+    return [times[bit] for bit in range(n)]
 
 
 # --- small tables ----------------------------------------------------------------------------
@@ -93,6 +103,18 @@ def regular_table(rng, n, bit_degree, check_degree):
         dealt = rng.shuffled(range(n))
         checks += [sorted(dealt[k:k + check_degree]) for k in range(0, n, check_degree)]
     return n, checks
+
+
+def three_six(n):
+    """A (3,6)-regular table of n bits, a multiple of 6: the same one each time."""
+    return regular_table(Prng(n), n, 3, 6)
+
+
+def stairs():
+    """32 checks and bits of the degrees 32 to 2: bit b stands in the first so many checks."""
+    degrees = [32, 32, 31, 17, 16, 5, 4, 3, 2]
+    return len(degrees), [[bit for bit, degree in enumerate(degrees) if check < degree]
+                          for check in range(32)]
 
 
 def largest_regular(rng):

@@ -9,6 +9,7 @@ from itertools import product
 
 import make_inputs as inputs
 import make_tables as tables
+import make_weak_frames as weak
 from certificate import MULTIPLIER_LIMIT, SCALE_LIMIT, Entry, write_certificate
 from make_tables import code_file
 from table import FRAME_LIMIT, parse_code_file
@@ -41,15 +42,15 @@ def document_others():
                     for multiplier in (1, 4, 5, 6, 4101, MULTIPLIER_LIMIT) for bit in (0, 1)]
 
 
-# --- certificates written by runs ------------------------------------------------------------
+# --- certificates written by runs, of another decoder and of ours ----------------------------
 
-def run_cases(rng, count):
+def run_cases(rng, count, certificate_of):
     """Certified frames of small tables, as the run left word and certificate."""
     cases, small = [], tables.small_tables(rng, 30)
     while len(cases) < count:
         table = rng.choice(small)
         frame = inputs.lively_frame(rng, table[0])
-        written = inputs.run_certificate(table, frame)
+        written = certificate_of(table, frame)
         if written is not None:
             cases.append(JudgeCase(code_file(table), frame, *written))
     return cases
@@ -92,9 +93,9 @@ def scaled_cases(case):
             for factor in (2, 3, 341, 1022, 1023, 1024)]
 
 
-def altered_runs(rng):
+def altered_runs(rng, count, certificate_of):
     cases = []
-    for case in run_cases(rng, 36):
+    for case in run_cases(rng, count, certificate_of):
         entries = inputs.entry_count(case.certificate)
         cases += [case, rng.choice(altered_frames(case)), other_codeword(rng, case)]
         if entries > 0:
@@ -109,9 +110,24 @@ def altered_thoroughly():
     cases = []
     for table, frame, flips in [(tables.three_bits(), [4000, 4000, -2000], (1, 128)),
                                 (tables.hamming(), [3000, -900, 2500, 700, 800, 1900, -600], (1,))]:
-        case = JudgeCase(code_file(table), frame, *inputs.run_certificate(table, frame))
+        case = JudgeCase(code_file(table), frame, *inputs.other_certificate(table, frame))
         cases += (altered_frames(case) + altered_bytes(case, flips) + altered_words(case)
                   + altered_multipliers(case) + scaled_cases(case))
+    return cases
+
+
+def weak_cases(rng):
+    """Weak frames: no cut is needed.  Their words, another codeword, a bit turned, and a number
+    turned, under the certificate of the run."""
+    cases = []
+    for table, frame in weak.leaning_frames(rng, weak.half_sizes):
+        case = JudgeCase(code_file(table), frame, *inputs.run_certificate(table, frame))
+        turned = [-frame[0], *frame[1:]]
+        cases += [case, case._replace(word=inputs.random_codeword(rng, table)),
+                  rng.choice(altered_words(case)), case._replace(frame=turned)]
+    for _, table, frame in weak.MENDED:
+        case = JudgeCase(code_file(table), frame, *inputs.run_certificate(table, frame))
+        cases += [case, rng.choice(altered_frames(case)), rng.choice(altered_multipliers(case))]
     return cases
 
 
@@ -202,7 +218,7 @@ def large_cases(rng):
     """n 2,048: a run's certificate of about 1,000 cuts, and 4,096 entries of gap 0."""
     table = tables.half_rate(rng)
     frame = inputs.channel_frame(rng, table[0], 3000, 3000)
-    case = JudgeCase(code_file(table), frame, *inputs.run_certificate(table, frame))
+    case = JudgeCase(code_file(table), frame, *inputs.other_certificate(table, frame))
     spoilt = inputs.off_by(case.certificate, inputs.entry_count(case.certificate) - 1, 9000)
     tight = tight_case(rng, tables.largest_regular(rng), [0] * 2048, 2, 2)
     return [case, altered_words(case)[-1], case._replace(certificate=spoilt), tight,

@@ -15,6 +15,7 @@ from itertools import zip_longest
 import make_damage as damage
 import make_inputs as inputs
 import make_tables as tables
+import make_weak_frames as weak
 from kind_reports import frame_bytes
 from make_tables import code_file, u16
 from prng import Prng
@@ -174,6 +175,20 @@ def empty_checks(rng):
                framed("empty checks, longest code file", tables.emptied_band(rng), [], [])])
 
 
+def weak_frames(rng):
+    """Numbers smaller than their bits' degrees: certified from half of the degrees on where they
+    follow a codeword, spent below that, and some mended."""
+    leaning = [weak.leaning_frames(rng, sizes) for sizes in (weak.half_sizes, weak.lesser_sizes)]
+    found = []
+    for table in weak.WEAK_TABLES:
+        halves, lesser = ([frame for owner, frame in frames if owner == table]
+                          for frames in leaning)
+        found.append(framed(f"weak frames of {table[0]} bits", table, halves + lesser,
+                            ["certified"] * 2 + ["spent"] * 2))
+    return found + [framed(f"weak frame mended in round {ending}", table, [frame], ["certified"])
+                    for ending, table, frame in weak.MENDED]
+
+
 def long_lists(rng):
     """More bytes than a pipe holds; and a large table."""
     table, largest = tables.hamming(), tables.largest_regular(rng)
@@ -187,7 +202,8 @@ def long_lists(rng):
 def report_inputs():
     rng = Prng(20_06)
     return (early_ends(rng) + heads() + faults() + too_many_edges(rng) + last_frames(rng)
-            + out_of_range() + endings() + long_lists(rng) + no_members() + empty_checks(rng))
+            + out_of_range() + endings() + long_lists(rng) + no_members() + empty_checks(rng)
+            + weak_frames(Prng(20_10)))
 
 
 # --- the command line ------------------------------------------------------------------------

@@ -49,8 +49,14 @@ def buffer_lengths(code):
                    masks=checks, word=code.bits, certificate=4 + 10 * checks)
 
 
-def divide_toward_zero(total, count):
-    quotient = abs(total) // count
+def divide_nearest(total, count):
+    """The whole number nearest to total / count, of two equally near the one farther from 0.
+
+    The size is divided and the sign put back, so that negating a total negates its quotient.
+    """
+    quotient, rest = divmod(abs(total), count)
+    if 2 * rest >= count:
+        quotient += 1
     return quotient if total >= 0 else -quotient
 
 
@@ -59,7 +65,7 @@ def spins_of_bits(code, frame, copies, offsets):
     spins = []
     for number, edges in zip(frame, code.edges_of_bit):
         total = number + sum(copies[edge] - offsets[edge] for edge in edges)
-        spins.append(cut.clip(divide_toward_zero(total, len(edges))))
+        spins.append(cut.clip(divide_nearest(total, len(edges))))
     return spins
 
 

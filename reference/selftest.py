@@ -9,6 +9,7 @@ import time
 import traceback
 
 import test_calls
+import test_division
 import test_empty
 import test_examples
 import test_kinds
@@ -18,8 +19,8 @@ import test_refusals
 import test_search
 from support import Account
 
-PARTS = [test_examples, test_search, test_optimal, test_calls, test_empty, test_refusals,
-         test_kinds, test_mutants]
+PARTS = [test_examples, test_division, test_search, test_optimal, test_calls, test_empty,
+         test_refusals, test_kinds, test_mutants]
 
 
 def run_test(test, account):

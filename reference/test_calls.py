@@ -103,6 +103,12 @@ def plain_check(values):
     return copies(least), least, mask
 
 
+def plain_nearest(fraction):
+    """Of the whole numbers around the fraction the nearest; on a tie the greater in size."""
+    around = (math.floor(fraction), math.ceil(fraction))
+    return min(around, key=lambda whole: (abs(fraction - whole), -abs(whole)))
+
+
 def plain_round(table, frame, copies, offsets):
     """Steps 1 to 3 of document 01 once more, with fractions for step 1."""
     n, checks = table
@@ -110,7 +116,7 @@ def plain_round(table, frame, copies, offsets):
     spins = []
     for bit in range(n):
         told = [z - y for z, y, owner in zip(copies, offsets, edges) if owner == bit]
-        spins.append(cut.clip(math.trunc(Fraction(frame[bit] + sum(told), len(told)))))
+        spins.append(cut.clip(plain_nearest(Fraction(frame[bit] + sum(told), len(told)))))
     values = [spins[bit] + offset for bit, offset in zip(edges, offsets)]
     new_copies, multipliers, masks = [], [], []
     for members in checks:

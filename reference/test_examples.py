@@ -12,7 +12,7 @@ from certificate import BrokenCheck, Entry, Gap, write_certificate
 from cut import cut_search
 from prng import Prng
 from make_runs import Call
-from rounds import CERTIFIED, RUNNING, buffer_lengths
+from rounds import CERTIFIED, RUNNING, SPENT, buffer_lengths
 from support import Run, expect, expect_equal
 from table import parse_code_file
 
@@ -93,12 +93,49 @@ def three_frame_report():
 # --- frames worked by hand beyond document 01 ------------------------------------------------
 
 def odd_total_frame():
-    """One bit in two checks of one member, frame (-5): the total -5 over 2 edges is -2."""
+    """One bit in two checks of one member, frame (-5): the total -5 over 2 edges is -3."""
     run = fresh(tables.stacked_singles(2), [-5])
-    expect_round(run, RUNNING, spins=[-2], multipliers=[4098, 4098], offsets=[-4098, -4098])
-    expect_round(run, CERTIFIED, spins=[4096], multipliers=[4098, 4098])
-    expect_ending(run, 2, [0], "02 00 01 00 00 00 02 10 00 00 01 00 02 10 00 00 01 00 00 00"
+    expect_round(run, RUNNING, spins=[-3], multipliers=[4099, 4099], offsets=[-4099, -4099])
+    expect_round(run, CERTIFIED, spins=[4096], multipliers=[4099, 4099])
+    expect_ending(run, 2, [0], "02 00 01 00 00 00 03 10 00 00 01 00 03 10 00 00 01 00 00 00"
                   "01 00 00 00")
+
+
+def first_totals():
+    """One bit in so many checks of one member: in round 1 its number is divided by them."""
+    for degree, number, spin in [(3, 1, 0), (3, 2, 1), (3, 4, 1), (3, 5, 2), (2, 1, 1), (2, 3, 2),
+                                 (32, 15, 0), (32, 16, 1), (32, 47, 1), (32, 48, 2)]:
+        for sign in (1, -1):
+            run = fresh(tables.stacked_singles(degree), [sign * number])
+            run.call(Call(1, None))
+            expect_equal(run.round_shown().spins, [sign * spin], f"{sign * number} over {degree}")
+
+
+def weak_frame():
+    """All numbers 2 on the Hamming code, whose bits have degree 1, 2 and 3: 2 over 3 is 1, so
+    no spin is 0, no check is cut, and the bound is 14 at once.  Negated under 1110000 alike."""
+    for signs, word in [([1] * 7, [0] * 7), ([-1, -1, -1, 1, 1, 1, 1], [1, 1, 1, 0, 0, 0, 0])]:
+        run = fresh(tables.hamming(), [2 * sign for sign in signs])
+        sizes = [2, 2, 1, 2, 1, 1, 1]
+        expect_round(run, CERTIFIED, multipliers=[0, 0, 0],
+                     spins=[sign * size for sign, size in zip(signs, sizes)])
+        expect_ending(run, 1, word, "00 00 01 00")
+
+
+def half_frame():
+    """A ring of five bits of degree 2: 1 over 2 is 1, -1 over 2 is -1, and round 1 certifies."""
+    for number, bit in [(1, 0), (-1, 1)]:
+        run = fresh(tables.cycle_table(5), [number] * 5)
+        expect_round(run, CERTIFIED, spins=[number] * 5, multipliers=[0] * 5)
+        expect_ending(run, 1, [bit] * 5, "00 00 01 00")
+
+
+def too_weak_frame():
+    """1 over 3 is 0: two bits in three checks never leave spin 0, though they lean alike."""
+    run = fresh((2, [[0, 1]] * 3), [1, 1])
+    expect_round(run, RUNNING, spins=[0, 0], copies=[0] * 6, offsets=[0] * 6, multipliers=[0] * 3)
+    expect_equal(run.call(Call(1024, None)).answer, SPENT, "a frame of ones over three")
+    expect_equal(run.round_shown().spins, [0, 0], "spins of round 1,024")
 
 
 def side_change_frame():
@@ -160,8 +197,9 @@ def report_edges():
 
 
 FRAME_TESTS = [cut_examples, leaning_frame, two_ones_frame, four_gaps, one_bit_frame,
-               three_frame_report, odd_total_frame, side_change_frame, second_best_frame,
-               empty_check_frame, empty_check_named, report_edges]
+               three_frame_report, odd_total_frame, first_totals, weak_frame, half_frame,
+               too_weak_frame, side_change_frame, second_best_frame, empty_check_frame,
+               empty_check_named, report_edges]
 
 
 def worked_examples(account):

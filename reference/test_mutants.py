@@ -8,6 +8,7 @@ from unittest import mock
 
 import certificate
 import cut
+import make_inputs as inputs
 import rounds
 import table
 from support import expect
@@ -56,9 +57,25 @@ def any_mask_on_empty(right_check):
                                         else right_check(code, entry, before))
 
 
+def halves_toward_zero(total, count):
+    quotient = -((count - 2 * abs(total)) // (2 * count))
+    return quotient if total >= 0 else -quotient
+
+
+def halves_upward(total, count):
+    return (2 * total + count) // (2 * count)
+
+
+WRONG_DIVISIONS = {
+    "division toward zero": inputs.divide_toward_zero,
+    "division with halves toward zero": halves_toward_zero,
+    "division with halves upward": halves_upward,
+    "division downward": lambda total, count: total // count,
+}
+
 MUTANTS = {
     "side change omitted": (cut, "known_cut", cut_without_side_change),
-    "division downward": (rounds, "divide_toward_zero", lambda total, count: total // count),
+    **{name: (rounds, "divide_nearest", wrong) for name, wrong in WRONG_DIVISIONS.items()},
     "zero spin read as bit 0": (rounds, "candidate", lambda spins: [int(s < 0) for s in spins]),
     "d - 1 for d - 2": (certificate, "dual_bound", bound_with_one_too_many),
     "any codeword certified by a run": (rounds, "certified_word", any_codeword),

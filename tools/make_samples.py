@@ -34,20 +34,21 @@ from prng import Prng                                       # noqa: E402
 
 THOUSAND = 1000
 
-# noise: groups of frames, each a count and a standard deviation in thousandths of the gain.
+# groups: of frames, each a count, a gain, and a standard deviation in thousandths of the gain.
 # spoilt: frame numbers to numbers out of range, put into their first place.
 # short: bytes of a short last frame.
-Sample = namedtuple("Sample", "name table seed gain noise spoilt short")
+Sample = namedtuple("Sample", "name table seed groups spoilt short")
 Sent = namedtuple("Sent", "word frame")
 
 
 SAMPLES = [
-    Sample("hamming", make_tables.hamming(), 7, 1000, [(40, 800)], {}, 0),
-    Sample("array", sample_codes.array(13, 3), 13, 1000, [(36, 550)], {20: FRAME_LIMIT + 1}, 337),
-    Sample("regular", make_tables.regular_table(Prng(504), 504, 3, 6), 36, 2000,
-           [(20, 700), (1, 950), (3, 600)], {22: -32768}, 1),
-    Sample("ccsds", sample_codes.ccsds(), 128, 3000, [(12, 750)], {}, 0),
-    Sample("wifi", sample_codes.wifi(), 648, 3000, [(9, 700), (3, 650)], {}, 0),
+    Sample("hamming", make_tables.hamming(), 7, [(40, 1000, 800)], {}, 0),
+    Sample("array", sample_codes.array(13, 3), 13, [(36, 1000, 550)], {20: FRAME_LIMIT + 1}, 337),
+    # The last whole frame is weak: its numbers are 2 in size, where each bit stands in 3 checks.
+    Sample("regular", make_tables.regular_table(Prng(504), 504, 3, 6), 36,
+           [(20, 2000, 700), (1, 2000, 950), (3, 2000, 600), (1, 2, 0)], {22: -32768}, 1),
+    Sample("ccsds", sample_codes.ccsds(), 128, [(12, 3000, 750)], {}, 0),
+    Sample("wifi", sample_codes.wifi(), 648, [(9, 3000, 700), (3, 3000, 650)], {}, 0),
 ]
 
 
@@ -67,11 +68,11 @@ def received(rng, bit, gain, deviation):
 def sent_frames(sample):
     """The sent codewords and what was received of them, spoilt numbers put in."""
     rng = Prng(sample.seed)
-    deviations = [deviation for count, deviation in sample.noise for _ in range(count)]
+    channels = [channel for count, *channel in sample.groups for _ in range(count)]
     sent = []
-    for number, deviation in enumerate(deviations):
+    for number, (gain, deviation) in enumerate(channels):
         word = random_codeword(rng, sample.table)
-        frame = [received(rng, bit, sample.gain, deviation) for bit in word]
+        frame = [received(rng, bit, gain, deviation) for bit in word]
         frame[0] = sample.spoilt.get(number, frame[0])
         sent.append(Sent(word, frame))
     return sent

@@ -63,16 +63,19 @@ def frame_bytes(folder):
     return (folder / "frames.bin").read_bytes()
 
 
+def numbers_of(own):
+    """The numbers of one frame's bytes."""
+    return [int.from_bytes(own[k:k + 2], "little", signed=True) for k in range(0, len(own), 2)]
+
+
 def expected_refusals(n, data):
     """Refusals by frame number, from the bytes alone."""
     refused = {}
     for frame, at in enumerate(range(0, len(data), 2 * n)):
         own = data[at:at + 2 * n]
-        numbers = [int.from_bytes(own[k:k + 2], "little", signed=True)
-                   for k in range(0, len(own), 2)]
         if len(own) < 2 * n:
             refused[frame] = 8
-        elif any(abs(number) > FRAME_LIMIT for number in numbers):
+        elif any(abs(number) > FRAME_LIMIT for number in numbers_of(own)):
             refused[frame] = 9
     return refused
 
@@ -142,6 +145,14 @@ class Files(unittest.TestCase):
         found = [sorted_of(folder) for folder in FOLDERS]
         self.assertTrue(all(one.certified() and one.spent for one in found))
         self.assertEqual({number for one in found for number in one.refusals}, {8, 9})
+
+    def test_the_weak_frame_is_certified_at_once(self):
+        n, checks = table_of(SAMPLES / "regular")
+        numbers = numbers_of(frame_bytes(SAMPLES / "regular")[24 * 2 * n:25 * 2 * n])
+        self.assertEqual({abs(number) for number in numbers}, {2})
+        word = sum(1 << bit for bit, number in enumerate(numbers) if number < 0)
+        self.assertTrue(word != 0 and meets_all((n, checks), word))
+        self.assertEqual(report_of(SAMPLES / "regular")[1][24], Certified(1, 2 * n, 0))
 
     def test_frames_known_to_be_wrong_are_certified(self):
         lists = [(folder, wrong_of(folder)) for folder in FOLDERS if wrong_of(folder) is not None]
