@@ -145,7 +145,7 @@ def run_certificate(table, frame):
 
 
 def divide_toward_zero(total, count):
-    """Step 1's division as it is not: whole rests are lost."""
+    """Not step 1's division: what is left over is dropped."""
     quotient = abs(total) // count
     return quotient if total >= 0 else -quotient
 
