@@ -1,5 +1,5 @@
 -- Reduced numbers, bound and gap of a word and a list of multipliers (document 01, "Certificates"). Definitions only. Assumes nothing.
-use mathlib.Core.Bool.{Bool, true, false}
+use mathlib.Core.Bool.{Bool}
 use mathlib.Core.List.{List, [], _∷_}
 use Prim.Native.Nat.{ℕ}
 use lib.Dec.{eqb}

@@ -17,9 +17,9 @@ use Rattle.rules.specs.Bound.{reduced, bound, gap}
 use Rattle.rules.specs.Round.{total, divided, spin, round}
 use Rattle.rules.specs.Certificate.{certificateOf, itemsAt, follows, onItem, onItems, onCertificate}
 use Rattle.rules.specs.Judge.{verdict, judge, judgeReply}
-use Rattle.rules.specs.Buffers.{Buffers, fits, fitsStart}
+use Rattle.rules.specs.Buffers.{fits, fitsStart}
 use Rattle.rules.specs.Run.{next, iterate, sound, admits, callOn, call, start}
-use Rattle.rules.specs.Question.{Question, shows, boundIs, judged, Said, reply, leaving, number, Case, asked, said, answerTo}
+use Rattle.rules.specs.Question.{shows, boundIs, judged, reply, leaving, number, Case, asked, said, answerTo}
 
 -- "One check on bits 0, 1, 2", as the code file of document 01's frame report; and "one check on one bit"
 unfoldable pub threeBits : List ℕ

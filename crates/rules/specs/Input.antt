@@ -1,6 +1,6 @@
 -- What is handed in beside the code file: frame, word, point, check number, with refusals 8, 9, 15, 16 and 17. Each is a test in front of what
 -- follows. Definitions only. Assumes nothing.
-use mathlib.Core.Bool.{Bool, true, false, _&&_}
+use mathlib.Core.Bool.{Bool, true, _&&_}
 use mathlib.Core.List.{List, [], _∷_}
 use Prim.Native.Nat.{ℕ}
 use lib.Dec.{leb, ltb, eqb}

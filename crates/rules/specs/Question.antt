@@ -1,9 +1,8 @@
 -- Questions to the definitions, and what each answers: the language of the tables of worked examples (Frames, Examples). Definitions only.
 -- Assumes nothing.
-use mathlib.Core.Bool.{Bool}
 use mathlib.Core.List.{List, [], _∷_}
 use Prim.Native.Nat.{ℕ}
-use lib.ListN.{take, replicate}
+use lib.ListN.{replicate}
 use lib.IntN.{ℤ, pos}
 use Rattle.rules.specs.Limits.{roundLimit}
 use Rattle.rules.specs.Refusal.{Answer, refused, gives, Reply, replyOf}
@@ -14,7 +13,7 @@ use Rattle.rules.specs.Bound.{bound}
 use Rattle.rules.specs.Certificate.{scaleOf, itemsOf, rowsAt}
 use Rattle.rules.specs.Judge.{judgeReply}
 use Rattle.rules.specs.Buffers.{Buffers, lent, needs, startLent, blank}
-use Rattle.rules.specs.Run.{Status, Run, iterate, Called, call, statusValues, Started, start, progressValues}
+use Rattle.rules.specs.Run.{Run, iterate, Called, call, statusValues, start, progressValues}
 use Rattle.rules.specs.Calls.{Call, callList, startedRun, runAfter, countedIn}
 use Rattle.rules.specs.Report.{Line, frameLine}
 

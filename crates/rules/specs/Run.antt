@@ -10,7 +10,7 @@ use lib.ListN.{take}
 use lib.IntN.{ℤ, pos}
 use Rattle.integers.specs.Sum.{AllWithin}
 use Rattle.rules.specs.Limits.{unit, roundLimit, offsetPerRound, maxMultiplier}
-use Rattle.rules.specs.Refusal.{Answer, refused, gives, must, then, Reply, replyOf, askedTooMuch, bufferShort, runEnded, runDamaged, multiplierLarge}
+use Rattle.rules.specs.Refusal.{Answer, refused, gives, must, then, askedTooMuch, bufferShort, runEnded, runDamaged, multiplierLarge}
 use Rattle.rules.specs.Table.{Table, edgesOf}
 use Rattle.rules.specs.CodeFile.{codeFile}
 use Rattle.rules.specs.Input.{eachWithin, onFrame}

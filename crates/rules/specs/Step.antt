@@ -1,5 +1,5 @@
 -- One check in a round: the multiplier, the new copies and the new offsets (document 01, "One round", steps 2 and 3). Definitions only. Assumes nothing.
-use mathlib.Core.Bool.{Bool, true, false, cond}
+use mathlib.Core.Bool.{Bool, cond}
 use mathlib.Core.List.{List, [], _∷_}
 use mathlib.Core.Option.{Option, some, none}
 use Prim.Native.Nat.{ℕ, zero, suc, _+_, _*_, _^_}
