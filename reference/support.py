@@ -2,10 +2,13 @@
 
 import copy
 from collections import Counter, namedtuple
+from unittest import mock
 
 import decoder
 import make_runs
+import rounds
 from make_tables import code_file
+from report import fresh_buffers
 from rounds import CERTIFIED, Round, buffer_lengths
 from table import parse_code_file
 
@@ -86,3 +89,13 @@ class Run:
         for name, needed in vars(buffer_lengths(self.code)).items():
             expect_equal(vars(self.lent)[name][needed:], vars(self.junk)[name][needed:],
                          f"{name} past its stated length")
+
+
+def rounds_to_the_end(table, frame):
+    """The record of a run that may take 1,100 rounds."""
+    data = code_file(table)
+    lent = fresh_buffers(parse_code_file(data))
+    record = decoder.start(data, lent.copies, lent.offsets)
+    with mock.patch.object(rounds, "ROUNDS_LIMIT", 1100):
+        decoder.rounds(data, frame, record, 1100, lent)
+    return record

@@ -3,14 +3,17 @@
 from fractions import Fraction
 from unittest import mock
 
+import call_script
 import make_inputs as inputs
 import make_tables as tables
 import make_weak_frames as weak
+import make_weak_scripts as weak_scripts
 import rounds
+from call_script import StartRun
 from make_runs import Call
 from prng import Prng
-from rounds import CERTIFIED, SPENT, divide_nearest
-from support import Run, expect, expect_equal
+from rounds import CERTIFIED, SPENT, Record, divide_nearest
+from support import Run, expect, expect_equal, rounds_to_the_end
 from table import DEGREE_LIMIT
 from test_calls import plain_nearest
 from test_examples import leaning_frame, one_bit_frame, three_frame_report, two_ones_frame
@@ -119,5 +122,45 @@ def less_than_halves_stay(account):
         account.add("frames at spin 0 throughout", any(frame))
 
 
+# --- the stored scripts ----------------------------------------------------------------------
+
+def endings_told(script):
+    """How each run of a script ends, as the lines tell: answer and rounds done."""
+    answers = [line.split()[1:3] for line in call_script.play(script)]
+    return [told for told in answers if told[0] in ("certified", "spent")]
+
+
+def weak_runs_end_as_claimed(account):
+    """From half of the degrees on certified by round 1, below it spent, the mended ones in their
+    rounds.  Divided toward zero, none of them is certified."""
+    account.announce("weak runs certified in round 1", "weak runs spent", "weak runs mended")
+    halves, lesser = weak_scripts.half_runs(Prng(84)), weak_scripts.lesser_runs(Prng(84))
+    for script, ending, name in [(halves, ["certified", "1"], "weak runs certified in round 1"),
+                                 (lesser, ["spent", "1024"], "weak runs spent")]:
+        runs = sum(isinstance(call, StartRun) for call in script)
+        expect_equal(endings_told(script), [ending] * runs, name)
+        account.add(name, runs)
+    for ending, table, frame in weak.MENDED:
+        expect_equal(rounds_to_the_end(table, frame), Record(ending, "certified"), f"{frame}")
+        account.add("weak runs mended")
+    with mock.patch.object(rounds, "divide_nearest", inputs.divide_toward_zero):
+        expect(["certified", "1"] not in endings_told(halves), "halves divided toward zero")
+        for _, table, frame in weak.MENDED:
+            expect_equal(rounds_to_the_end(table, frame).status, "spent", f"{frame}")
+
+
+def wrong_divisions_show(account):
+    """The lines of half-done runs with totals beside a half, and those of degree 32, tell every
+    wrong division from the right one."""
+    account.announce("wrong divisions in the lines")
+    for script in (weak_scripts.resumed_beside_halves(Prng(85)), weak_scripts.wide_runs()):
+        told = call_script.play(script)
+        for name, division in WRONG_DIVISIONS.items():
+            with mock.patch.object(rounds, "divide_nearest", division):
+                expect(call_script.play(script) != told, f"not told by the lines: {name}")
+            account.add("wrong divisions in the lines")
+
+
 TESTS = [quotients_by_hand, quotients_are_nearest, document_frames_keep_their_results,
-         wrong_divisions_differ, halves_move_at_once, less_than_halves_stay]
+         wrong_divisions_differ, halves_move_at_once, less_than_halves_stay,
+         weak_runs_end_as_claimed, wrong_divisions_show]

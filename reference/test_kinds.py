@@ -19,18 +19,15 @@ import make_inputs as inputs
 import make_scripts
 import make_tables as tables
 import make_verdicts
-import make_weak_frames as weak
 import make_weak_scripts as weak_scripts
 import report_inputs
 import rounds
 from call_script import CAPACITY, KEPT, CallRounds, Fill, Program, PutEdge, StartRun, UseCode, UseFrame
 from packing import i32, u8, u32
 from prng import Prng
-from report import fresh_buffers
 from rounds import Buffers, Record
-from support import expect, expect_equal
+from support import expect, expect_equal, rounds_to_the_end
 from table import parse_code_file
-from test_mutants import WRONG_DIVISIONS
 
 
 class Reader:
@@ -236,16 +233,6 @@ def checksums_by_definition(account):
             account.add("checksums compared")
 
 
-def rounds_to_the_end(table, frame):
-    """The record of a run that may take 1,100 rounds."""
-    data = tables.code_file(table)
-    lent = fresh_buffers(parse_code_file(data))
-    record = decoder.start(data, lent.copies, lent.offsets)
-    with mock.patch.object(rounds, "ROUNDS_LIMIT", 1100):
-        decoder.rounds(data, frame, record, 1100, lent)
-    return record
-
-
 def late_runs_end_late(account):
     """The stored frames end in the rounds that are claimed for them."""
     account.announce("runs certified in round 1,024", "runs one round too late",
@@ -259,43 +246,6 @@ def late_runs_end_late(account):
             expect_equal(rounds_to_the_end(table, frame), Record(ending, "certified"), f"{frame}")
         account.add("runs that end elsewhere, divided toward zero",
                     rounds_to_the_end(table, frame) != Record(ending, "certified"))
-
-
-def endings_told(script):
-    """How each run of a script ends, as the lines tell: answer and rounds done."""
-    answers = [line.split()[1:3] for line in call_script.play(script)]
-    return [told for told in answers if told[0] in ("certified", "spent")]
-
-
-def weak_runs_end_as_claimed(account):
-    """From half of the degrees on certified by round 1, below it spent, the mended ones in their
-    rounds.  Divided toward zero, none of them is certified."""
-    account.announce("weak runs certified in round 1", "weak runs spent", "weak runs mended")
-    halves, lesser = weak_scripts.half_runs(Prng(84)), weak_scripts.lesser_runs(Prng(84))
-    for script, ending, name in [(halves, ["certified", "1"], "weak runs certified in round 1"),
-                                 (lesser, ["spent", "1024"], "weak runs spent")]:
-        runs = sum(isinstance(call, StartRun) for call in script)
-        expect_equal(endings_told(script), [ending] * runs, name)
-        account.add(name, runs)
-    for ending, table, frame in weak.MENDED:
-        expect_equal(rounds_to_the_end(table, frame), Record(ending, "certified"), f"{frame}")
-        account.add("weak runs mended")
-    with mock.patch.object(rounds, "divide_nearest", inputs.divide_toward_zero):
-        expect(["certified", "1"] not in endings_told(halves), "halves divided toward zero")
-        for _, table, frame in weak.MENDED:
-            expect_equal(rounds_to_the_end(table, frame).status, "spent", f"{frame}")
-
-
-def wrong_divisions_show(account):
-    """The lines of half-done runs with totals beside a half, and those of degree 32, tell every
-    wrong division from the right one."""
-    account.announce("wrong divisions in the lines")
-    for script in (weak_scripts.resumed_beside_halves(Prng(85)), weak_scripts.wide_runs()):
-        told = call_script.play(script)
-        for name, division in WRONG_DIVISIONS.items():
-            with mock.patch.object(rounds, "divide_nearest", division):
-                expect(call_script.play(script) != told, f"not told by the lines: {name}")
-            account.add("wrong divisions in the lines")
 
 
 def list_pairs_pair_up(account):
@@ -353,5 +303,4 @@ def report_inputs_cover_all(account):
 
 TESTS = [case_cuts_cover_all, case_judge_cover_all, tight_certificates_have_gap_0,
          case_calls_cover_all, checksums_by_definition, late_runs_end_late,
-         weak_runs_end_as_claimed, wrong_divisions_show, list_pairs_pair_up, stored_reports,
-         report_inputs_cover_all]
+         list_pairs_pair_up, stored_reports, report_inputs_cover_all]
