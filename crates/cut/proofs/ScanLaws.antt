@@ -18,7 +18,6 @@ use Rattle.rules.specs.Limits.{unit}
 use Rattle.rules.specs.Table.{at}
 use Rattle.rules.specs.Mask.{digit, maskOf}
 use Rattle.rules.specs.Cut.{isNeg, negatives}
-use Rattle.rules.specs.Step.{clips}
 use Rattle.rules.specs.Buffers.{over}
 use Rattle.rules.proofs.Masks.{mask-below}
 use Rattle.cut.specs.declared.scan.Scan.{Scan}
@@ -31,10 +30,6 @@ use Rattle.cut.proofs.HeightLaws.{floor, is-above, higher-left, higher-
 pub negatives-length : (ss : List ℤ) → length (negatives ss) ≡ length ss
 negatives-length [] = refl
 negatives-length (s ∷ ss) = ap suc (negatives-length ss)
-
-pub clips-length : (u : ℕ) (vs : List ℤ) → length (clips u vs) ≡ length vs
-clips-length u [] = refl
-clips-length u (v ∷ vs) = ap suc (clips-length u vs)
 
 -- ---- one value more, as the code's two arms have it
 abbrev scanOf : ℕ → ℕ → ℤ → ℕ → Scan

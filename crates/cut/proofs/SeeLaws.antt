@@ -24,7 +24,7 @@ use Rattle.rules.specs.Mask.{maskOf}
 use Rattle.rules.specs.Cut.{negatives, isNeg, smallest, keep, cut}
 use Rattle.rules.specs.Step.{clips}
 use Rattle.rules.specs.Buffers.{over}
-use Rattle.rules.proofs.Steps.{clips-within}
+use Rattle.rules.proofs.Steps.{clips-length, clips-within}
 use Rattle.rules.proofs.Masks.{set-mask, mask-below, odd-ones}
 use Rattle.rules.proofs.EmptyLaws.{empty-uncut}
 use Rattle.cut.specs.declared.scan.Scan.{Scan}
@@ -33,7 +33,7 @@ use Rattle.cut.specs.Heights.{height, heightsOf, highest, sideBy, Seen, 
 use Rattle.cut.specs.Scan.{sights, Highest, Scanned, stays, changes, whenOdd, whenEven, decided}
 use Rattle.cut.proofs.HeightLaws.{highest-set, sights-top, sights-length}
 use Rattle.cut.proofs.ClipLaws.{clips-signs, clips-left, size-at, smallest-high}
-use Rattle.cut.proofs.ScanLaws.{negatives-length, clips-length}
+use Rattle.cut.proofs.ScanLaws.{negatives-length}
 use Rattle.cut.proofs.SideLaws.{changeSide, change-pays, cut-odd, cut-even}
 use Rattle.cut.proofs.MaskLaws.{mask-change}
 

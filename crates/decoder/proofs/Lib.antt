@@ -1,7 +1,6 @@
 pub mod ExactLaws
 pub mod IterateLaws
 pub mod RoundSpinsLaws
-pub mod FillLaws
 pub mod PlaceLaws
 pub mod AddEdgesLaws
 pub mod TotalsLaws

@@ -15,8 +15,8 @@ use Rattle.integers.specs.Linear.{lin, arithZ, Within}
 use Rattle.rules.specs.Table.{at}
 use Rattle.rules.specs.Mask.{setOf}
 use Rattle.rules.specs.Step.{move}
+use Rattle.rules.proofs.FillLaws.{fill, fill-none, fill-length, fill-at, fill-more, fill-all}
 use Rattle.decoder.specs.Stepped.{newCopies, newOffsets, MoveFits}
-use Rattle.decoder.proofs.FillLaws.{fill, fill-none, fill-length, fill-at, fill-more, fill-all}
 use Rattle.decoder.proofs.PlaceLaws.{minus-length, minus-at}
 use Rattle.decoder.proofs.MaskLaws.{set-at, set-alike}
 use Rattle.decoder.proofs.StepListLaws.{moves-length, moves-at}

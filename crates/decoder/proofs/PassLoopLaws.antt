@@ -1,10 +1,10 @@
 -- The pass's loop: where it stands after j checks, what it hands to the next, and what it leaves. Assumes nothing.
 use mathlib.Core.Path.{_≡_, sym, _∙_, ap, ap₂, subst}
-use mathlib.Core.List.{List, []}
+use mathlib.Core.List.{List, [], _++_, append-assoc}
 use Prim.Native.Nat.{ℕ, _+_, _-_, _≤_, _<_}
 use native.Mathlib.Omega.{arith}
 use lib.ListN.{length, getD, take, drop, length-drop}
-use lib.Seq.{length-take-le}
+use lib.Seq.{length-take-le, take-add, drop-drop, take-at, drop-at}
 use lib.IntN.{ℤ}
 use Rattle.integers.specs.Sum.{AllWithin}
 use Rattle.rules.specs.Limits.{unit, offsetLimit, maxDegree}
@@ -14,15 +14,28 @@ use Rattle.rules.specs.Step.{Step, step}
 use Rattle.rules.specs.Round.{values, pass, entriesIn}
 use Rattle.rules.proofs.Pass.{AllLaid, pass-laid, copies-length, offsets-length, entries-length, drop-within}
 use Rattle.rules.proofs.RoundSizes.{multipliers-length, masks-length}
+use Rattle.rules.proofs.FillLaws.{fill, fill-none, fill-length, fill-rest, fill-more, fill-is, fill-all}
 use Rattle.table.specs.Layout.{checksFrom, edgesBefore}
 use Rattle.decoder.specs.Stepped.{Stepped, steppedBy, steppedOn, stepped}
 use Rattle.decoder.specs.Passed.{Passed, passedTo, passed, PassFits}
-use Rattle.decoder.specs.Parts.{part, placed, onePassed, OneFits}
-use Rattle.decoder.proofs.FillLaws.{fill, fill-none, fill-length, fill-rest, fill-more, fill-part, fill-all}
+use Rattle.decoder.specs.Parts.{part, splice, placed, onePassed, OneFits}
 use Rattle.decoder.proofs.PlaceLaws.{take-within}
 use Rattle.decoder.proofs.StepListLaws.{values-take}
 use Rattle.table.proofs.LayoutLaws.{before-all, before-most, members-long, start-is, starts-long, start-next, part-is, part-degree, part-below}
 use Rattle.decoder.proofs.PassLaws.{stepAt, copies-at, offsets-at, multiplier-at, mask-at}
+
+-- the part from a to e, which is what ts has there
+fill-part : {A : Type 0} (a e : ℕ) (ts xs now p : List A) → length ts ≡ length xs → a ≤ e → e ≤ length xs
+    → p ≡ part a e ts → now ≡ fill a ts xs → splice a e p now ≡ fill e ts xs
+unfolding part splice
+fill-part a e ts xs now p same h k w q =
+    let front : length (take a ts) ≡ a = length-take-le a ts (omega arith) in
+    let back : a + (e - a) ≡ e = omega arith in
+    ap (λ x. take a x ++ (p ++ drop (e - a) (drop a x))) (q ∙ fill-is a ts xs (omega arith) (omega arith))
+    ∙ ap₂ (λ x r. x ++ (p ++ drop (e - a) r)) (take-at (take a ts) (drop a xs) a front) (drop-at (take a ts) (drop a xs) a front)
+    ∙ sym (append-assoc (take a ts) p (drop (e - a) (drop a xs)))
+    ∙ ap₂ _++_ (ap (λ x. take a ts ++ x) w ∙ sym (take-add a (e - a) ts) ∙ ap (λ n. take n ts) back) (drop-drop (e - a) a xs ∙ ap (λ n. drop n xs) back)
+    ∙ sym (fill-is e ts xs (omega arith) k)
 
 -- j checks are done: the edges before check j, and j multipliers and masks
 pub record Passing (f : ℕ → ℤ) (ss ms : List ℕ) (q₀ q : Passed) (j : ℕ) : Type 0 where

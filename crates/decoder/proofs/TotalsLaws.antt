@@ -13,7 +13,7 @@ use Rattle.integers.specs.Sum.{AllWithin}
 use Rattle.rules.specs.Limits.{unit, maxBits, offsetLimit, valueLimit, frameLimit, maxBitDegree}
 use Rattle.rules.specs.Table.{degreeOf, at}
 use Rattle.rules.specs.Sound.{Below}
-use Rattle.rules.specs.Step.{minus}
+use Rattle.rules.specs.Step.{clips, minus}
 use Rattle.rules.specs.Bound.{gather}
 use Rattle.rules.specs.Buffers.{over}
 use Rattle.rules.specs.Round.{divided, total, spin, firstOf}
@@ -24,9 +24,8 @@ use Rattle.rules.proofs.Optimal.{within-at}
 use Rattle.rules.proofs.Pass.{append-within, drop-within}
 use Rattle.rules.proofs.Steps.{minus-within}
 use Rattle.decoder.specs.Spins.{SpinsFit}
-use Rattle.decoder.specs.Totals.{Gathered, EdgesFit, TotalsFit, spinAt}
-use Rattle.spin.specs.Spin.{spinOf}
-use Rattle.decoder.proofs.PlaceLaws.{minus-length, minus-at, first-same}
+use Rattle.decoder.specs.Totals.{Gathered, EdgesFit, TotalsFit, quotientAt}
+use Rattle.decoder.proofs.PlaceLaws.{minus-length, minus-at, first-same, clips-first}
 use Rattle.decoder.proofs.AddEdgesLaws.{degree-take, gather-within}
 
 -- ---- an edge's weight, and the total with it
@@ -93,6 +92,7 @@ module _ (n : ℕ) (l : List ℤ) (ms ds : List ℕ) (z y : List ℤ) (fit : Spi
         let inStart : i < length (over l zeros) = omega (arith, start-long, fit .few) in
         g .sums i inStart ∙ ap (λ x. x +ℤ gather i ms (minus z y)) (List·getD-append l (drop (length l) zeros) (pos 0) i inFrame)
 
-    pub spins-are : firstOf n (spinAt t ds) ≡ firstOf n (spin unit ms l (record { copies = z; offsets = y }))
-    unfolding spinAt spinOf spin
-    spins-are = first-same n (spinAt t ds) (spin unit ms l (record { copies = z; offsets = y })) (λ i h. ap₂ (λ x d. clipZ unit (divided x d)) (total-is i h) (fit .degrees i h))
+    pub spins-are : clips unit (firstOf n (quotientAt t ds)) ≡ firstOf n (spin unit ms l (record { copies = z; offsets = y }))
+    unfolding quotientAt spin
+    spins-are = clips-first unit n (quotientAt t ds)
+        ∙ first-same n _ (spin unit ms l (record { copies = z; offsets = y })) (λ i h. ap₂ (λ x d. clipZ unit (divided x d)) (total-is i h) (fit .degrees i h))

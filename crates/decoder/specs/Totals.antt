@@ -10,7 +10,7 @@ use Rattle.rules.specs.Limits.{unit, maxBitDegree, frameLimit, offsetLimit}
 use Rattle.rules.specs.Table.{degreeOf, at}
 use Rattle.rules.specs.Sound.{Below}
 use Rattle.rules.specs.Bound.{gather}
-use Rattle.spin.specs.Spin.{spinOf}
+use Rattle.rules.specs.Round.{divided}
 
 -- new is old with the weights ws of the edges at the members ms added, each at its member
 pub record Gathered (old new : List ℤ) (ms : List ℕ) (ws : List ℤ) : Type 0 where
@@ -32,6 +32,6 @@ pub record TotalsFit (n : ℕ) (t : List ℤ) (ds : List ℕ) : Type 0 where
   pub totals : n ≤ length t
   pub degrees : n ≤ length ds
 
--- bit i's spin, from the lists of totals and degrees
-unfoldable pub spinAt : List ℤ → List ℕ → ℕ → ℤ
-spinAt t ds i = spinOf (at t i) (getD ds i 0)
+-- bit i's total over its degree, from the lists of both
+unfoldable pub quotientAt : List ℤ → List ℕ → ℕ → ℤ
+quotientAt t ds i = divided (at t i) (getD ds i 0)

@@ -1,6 +1,7 @@
 // The spins of a round (document 01, "One round", step 1).
 use limits::MAX_BITS;
-use spin::spin_of;
+use spin::clip_all;
+use spin::quotient_of;
 ghost use mathlib.Core.Path.{_≡_};
 ghost use Prim.Native.Nat.{_≤_};
 ghost use lib.ListN.{length};
@@ -9,7 +10,7 @@ ghost use Rattle.rules.specs.Buffers.{over};
 ghost use Rattle.rules.specs.Step.{minus};
 ghost use Rattle.rules.specs.Round.{spin, firstOf};
 ghost use Rattle.decoder.specs.Spins.{SpinsFit};
-ghost use Rattle.decoder.specs.Totals.{Gathered, EdgesFit, TotalsFit, spinAt};
+ghost use Rattle.decoder.specs.Totals.{Gathered, EdgesFit, TotalsFit, quotientAt};
 
 // The frame numbers at the front of the totals.
 pub(crate) fn take_frame(frame: &[i16], totals: &mut [i32])
@@ -36,14 +37,14 @@ pub(crate) fn add_edges(members: &[u16], copies: &[i32], offsets: &[i32], totals
     }
 }
 
-// Each bit's spin from its total.
+// Each bit's total divided by its number of edges.
 pub(crate) fn divide_totals(totals: &[i32], degrees: &[u16], spins: &mut [i32])
     requires { ⌜ TotalsFit (length (now spins)) (now totals) (now degrees) ⌝ }
-    ensures { λ _. ⌜ now (spins .exit) ≡ firstOf (length (now (spins .entry))) (spinAt (now (totals .entry)) (now (degrees .entry))) ⌝ }
+    ensures { λ _. ⌜ now (spins .exit) ≡ firstOf (length (now (spins .entry))) (quotientAt (now (totals .entry)) (now (degrees .entry))) ⌝ }
 {
     let mut i: usize = 0;
     while i < spins.len() {
-        spins[i] = spin_of(totals[i], degrees[i]);
+        spins[i] = quotient_of(totals[i], degrees[i]);
         i += 1;
     }
 }
@@ -65,4 +66,5 @@ pub(crate) fn find_spins(
     take_frame(frame, &mut totals);
     add_edges(members, copies, offsets, &mut totals);
     divide_totals(&totals, degrees, spins);
+    clip_all(spins);
 }

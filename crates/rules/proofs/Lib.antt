@@ -25,6 +25,7 @@ pub mod WrittenPasses
 pub mod EmptyLaws
 pub mod BufferLaws
 pub mod StoreLaws
+pub mod FillLaws
 pub mod RoundSizes
 pub mod Runs
 pub mod Lends

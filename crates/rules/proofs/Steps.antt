@@ -3,13 +3,16 @@ use mathlib.Core.Path.{_≡_, refl, _∙_, ap, ap₂, fun-ext}
 use mathlib.Core.Bool.{Bool, true, false}
 use mathlib.Core.List.{List, [], _∷_}
 use mathlib.Core.Option.{Option, some, none}
-use Prim.Native.Nat.{ℕ, suc, _+_, _*_, _^_, _≤_}
+use Prim.Native.Nat.{ℕ, zero, suc, _+_, _*_, _^_, _<_, _≤_}
 use native.Mathlib.Omega.{arith}
+use native.Mathlib.Nat.{le-of-suc-le-suc}
+use lib.ListN.{length}
 use lib.IntN.{ℤ, pos, _+ℤ_}
 use lib.Signed.{ltZ}
 use Rattle.integers.specs.Order.{within-sub}
 use Rattle.integers.specs.Clip.{clipZ, clip-within}
 use Rattle.integers.specs.Sum.{AllWithin}
+use Rattle.rules.specs.Table.{at}
 use Rattle.rules.specs.Parity.{_⊕_, turn, side, plus, turns, odd, Alike, left}
 use Rattle.rules.specs.Cut.{cut}
 use Rattle.rules.specs.Step.{clips, move, moves, short, lastWhere, multiplier, Entry, inactive, active, Step, minus, settle, stepBy, step}
@@ -22,6 +25,15 @@ use Rattle.rules.proofs.Multiplier.{multiplier-least}
 pub clips-within : (u : ℕ) (vs : List ℤ) → AllWithin u (clips u vs)
 clips-within u [] = tt
 clips-within u (v ∷ vs) = (clip-within u v, clips-within u vs)
+
+pub clips-length : (u : ℕ) (vs : List ℤ) → length (clips u vs) ≡ length vs
+clips-length u [] = refl
+clips-length u (v ∷ vs) = ap suc (clips-length u vs)
+
+pub clips-at : (u : ℕ) (vs : List ℤ) (i : ℕ) → i < length vs → at (clips u vs) i ≡ clipZ u (at vs i)
+clips-at u [] i h = absurd (omega arith)
+clips-at u (v ∷ vs) zero h = refl
+clips-at u (v ∷ vs) (suc i) h = clips-at u vs i (le-of-suc-le-suc h)
 
 clips-turn : (u : ℕ) (cs : List Bool) (vs : List ℤ) → clips u (turns cs vs) ≡ turns cs (clips u vs)
 clips-turn u [] vs = refl

@@ -1,20 +1,12 @@
--- A bit's spin from its total and its number of edges, and whether a round has a candidate (document 01, "One round", steps 1 and 4). Definitions only.
+-- What the code's division of a total asks and says, and whether a round has a candidate (document 01, "One round", steps 1 and 4). Definitions only.
 -- Assumes nothing.
 use mathlib.Core.Bool.{Bool, true, cond, not, _&&_}
 use mathlib.Core.List.{List, [], _∷_}
-use Prim.Native.Nat.{ℕ}
 use lib.IntN.{ℤ, pos, _+ℤ_}
 use lib.Signed.{_≤ℤ_, ltZ}
 use Rattle.integers.specs.Linear.{Within}
-use Rattle.integers.specs.Clip.{clipZ}
-use Rattle.rules.specs.Limits.{unit}
-use Rattle.rules.specs.Round.{divided, isZero}
+use Rattle.rules.specs.Round.{isZero}
 
--- "the total divided by its number of edges, then clipped"
-unfoldable pub spinOf : ℤ → ℕ → ℤ
-spinOf t d = clipZ unit (divided t d)
-
--- ---- what the quotient toward zero lacks
 -- a number of edges, as the code holds it
 pub record Degree (d : ℤ) : Type 0 where
   pub some : pos 1 ≤ℤ d

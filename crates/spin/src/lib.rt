@@ -6,8 +6,10 @@ ghost use mathlib.Core.Bool.{not, _&&_};
 ghost use lib.IntN.{pos, negℤ, natAbs};
 ghost use lib.Signed.{_≤ℤ_};
 ghost use Rattle.integers.specs.Clip.{clipZ};
+ghost use Rattle.rules.specs.Limits.{unit};
+ghost use Rattle.rules.specs.Step.{clips};
 ghost use Rattle.rules.specs.Round as rule;
-ghost use Rattle.spin.specs.Spin.{spinOf, Degree, Remainder, lacks, noZero};
+ghost use Rattle.spin.specs.Spin.{Degree, Remainder, lacks, noZero};
 
 // 1 if a remainder is half of d or more above 0, else 0.
 fn half_above(r: i32, d: i32) -> i32
@@ -42,6 +44,17 @@ fn divided(total: i32, d: i32) -> i32
     q + half_above(r, d) - half_below(r, d)
 }
 
+// A bit's total over its number of edges. A bit of a table has an edge; of one that had none it would
+// be 0.
+pub fn quotient_of(total: i32, degree: u16) -> i32
+    ensures { λ q. ⌜ q ≡ rule.divided total degree ⌝ }
+{
+    if degree == 0 {
+        return 0;
+    }
+    divided(total, degree as i32)
+}
+
 // Clipped to -limit..limit.
 fn clip_to(x: i32, limit: i32) -> i32
     requires { ⌜ pos 0 ≤ℤ limit ⌝ }
@@ -56,15 +69,16 @@ fn clip_to(x: i32, limit: i32) -> i32
     x
 }
 
-// "Divided by its number of edges, then clipped." A bit of a table has an edge; the spin of one that
-// had none would be 0.
-pub fn spin_of(total: i32, degree: u16) -> i32
-    ensures { λ r. ⌜ r ≡ spinOf total degree ⌝ }
+// "Then clipped to -U..U": in a pass of its own, which tests several at once. Clipped where they are
+// divided, they would be waited for and the tests mispredicted.
+pub fn clip_all(spins: &mut [i32])
+    ensures { λ _. ⌜ now (spins .exit) ≡ clips unit (now (spins .entry)) ⌝ }
 {
-    if degree == 0 {
-        return 0;
+    let mut i: usize = 0;
+    while i < spins.len() {
+        spins[i] = clip_to(spins[i], UNIT);
+        i += 1;
     }
-    clip_to(divided(total, degree as i32), UNIT)
 }
 
 // Whether all spins up to this one are decided.

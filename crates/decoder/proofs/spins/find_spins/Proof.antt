@@ -1,10 +1,11 @@
--- `find_spins` meets its contract: the frame, then the edges, then the division make the spins. Assumes nothing.
-use mathlib.Core.Path.{sym, _∙_, subst}
+-- `find_spins` meets its contract: the frame, the edges, the division and the clip make the spins. Assumes nothing.
+use mathlib.Core.Path.{sym, _∙_, ap, subst}
 use mathlib.Core.List.{List}
 use lib.ListN.{length}
 use lib.IntN.{ℤ}
 use borrow.Author.Needs.{needs}
-use Rattle.rules.specs.Step.{minus}
+use Rattle.rules.specs.Limits.{unit}
+use Rattle.rules.specs.Step.{clips, minus}
 use Rattle.rules.specs.Buffers.{over}
 use Rattle.decoder.specs.Totals.{Gathered, EdgesFit}
 use Rattle.decoder.proofs.TotalsLaws.{zeros, edges-fit, totals-fit, spins-are}
@@ -41,10 +42,11 @@ divide-totals-requires c κs =
 
 returns : tie.Need-returns
 returns c =
-    let added = c .before .before .before .before .before in
+    let divided = c .before .before .before .before in
+    let added = divided .before .before .before .before in
     let start = begun added in
     let args = start .args in
-    c .before .divide-totals .ensures
+    c .before .clip-all .ensures ∙ ap (clips unit) (divided .divide-totals .ensures)
     ∙ spins-are (length (args .spins .now)) (args .frame .now) (args .members .now) (args .degrees .now) (args .copies .now) (args .offsets .now) (start .pre) (totals added) (gathered added)
 
 pub find-spins-spec : {M : Type 1} → statement M
@@ -57,5 +59,6 @@ find-spins-spec =
     add-edges-requires
     (λ c. search needs)
     divide-totals-requires
+    (λ c κs. tt)
     (λ c. search needs)
     returns)

@@ -9,7 +9,7 @@ use mir.Val.{SFits}
 use mir.Facts.{toZ-ofZ, sfits-widen}
 use Rattle.integers.specs.Machine.{fit}
 use Rattle.rules.specs.Table.{at}
-use Rattle.decoder.proofs.FillLaws.{fill, fill-none, fill-length, fill-more, fill-over}
+use Rattle.rules.proofs.FillLaws.{fill, fill-none, fill-length, fill-more, fill-over}
 use Rattle.decoder.proofs.spins.take_frame.Statement.{statement}
 use Rattle.decoder.proofs.spins.take_frame.Tie as tie
 

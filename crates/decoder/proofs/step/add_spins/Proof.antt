@@ -14,7 +14,7 @@ use Rattle.rules.specs.Table.{at}
 use Rattle.rules.specs.Round.{values}
 use Rattle.rules.proofs.Optimal.{within-at}
 use Rattle.rules.proofs.Duality.{below-at}
-use Rattle.decoder.proofs.FillLaws.{fill, fill-none, fill-length, fill-at, fill-more, fill-all}
+use Rattle.rules.proofs.FillLaws.{fill, fill-none, fill-length, fill-at, fill-more, fill-all}
 use Rattle.decoder.proofs.StepListLaws.{values-length, values-at}
 use Rattle.decoder.proofs.step.add_spins.Statement.{statement}
 use Rattle.decoder.proofs.step.add_spins.Tie as tie

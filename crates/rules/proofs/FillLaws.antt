@@ -1,14 +1,12 @@
--- A loop that writes place after place, or part after part: the first i places of the list that it makes, then the old ones. One set of laws serves every such loop. Assumes nothing.
-use mathlib.Core.Path.{_≡_, refl, sym, _∙_, ap, ap₂}
-use mathlib.Core.List.{List, [], _∷_, _++_, append-assoc}
-use Prim.Native.Nat.{ℕ, zero, suc, _+_, _-_, _≤_, _<_}
+-- A loop that writes place after place: the first i places of the list that it makes, then the old ones. One set of laws serves every such loop. Assumes nothing.
+use mathlib.Core.Path.{_≡_, refl, sym, _∙_, ap}
+use mathlib.Core.List.{List, [], _∷_, _++_}
+use Prim.Native.Nat.{ℕ, zero, suc, _+_, _≤_, _<_}
 use native.Mathlib.Nat.{le-of-suc-le-suc, suc-inj}
 use native.Mathlib.Numerals.{add-one}
 use native.Mathlib.Omega.{arith}
 use lib.ListN.{length, getD, take, drop, set}
-use lib.Seq.{length-take-le, take-add, drop-drop, take-at, drop-at}
 use Rattle.rules.specs.Buffers.{over}
-use Rattle.decoder.specs.Parts.{part, splice}
 
 -- the first i of ts, and the rest of xs
 pub fill : {A : Type 0} → ℕ → List A → List A → List A
@@ -55,25 +53,12 @@ fill-suc (suc i) (t ∷ ts) (x ∷ xs) d h = ap (λ r. t ∷ r) (fill-suc i ts x
 pub fill-more : {A : Type 0} (i : ℕ) (ts xs now : List A) (w d : A) → i < length ts → w ≡ getD ts i d → now ≡ fill i ts xs → set now i w ≡ fill (i + 1) ts xs
 fill-more i ts xs now w d h e p = ap (λ l. set l i w) p ∙ ap (set (fill i ts xs) i) e ∙ fill-suc i ts xs d h ∙ ap (λ n. fill n ts xs) (sym (add-one i))
 
-fill-is : {A : Type 0} (i : ℕ) (ts xs : List A) → i ≤ length ts → i ≤ length xs → fill i ts xs ≡ take i ts ++ drop i xs
+pub fill-is : {A : Type 0} (i : ℕ) (ts xs : List A) → i ≤ length ts → i ≤ length xs → fill i ts xs ≡ take i ts ++ drop i xs
 unfolding fill
 fill-is zero ts xs h k = refl
 fill-is (suc i) [] xs h k = absurd (omega arith)
 fill-is (suc i) (t ∷ ts) [] h k = absurd (omega arith)
 fill-is (suc i) (t ∷ ts) (x ∷ xs) h k = ap (λ r. t ∷ r) (fill-is i ts xs (le-of-suc-le-suc h) (le-of-suc-le-suc k))
-
--- the part from a to e, which is what ts has there
-pub fill-part : {A : Type 0} (a e : ℕ) (ts xs now p : List A) → length ts ≡ length xs → a ≤ e → e ≤ length xs
-    → p ≡ part a e ts → now ≡ fill a ts xs → splice a e p now ≡ fill e ts xs
-unfolding part splice
-fill-part a e ts xs now p same h k w q =
-    let front : length (take a ts) ≡ a = length-take-le a ts (omega arith) in
-    let back : a + (e - a) ≡ e = omega arith in
-    ap (λ x. take a x ++ (p ++ drop (e - a) (drop a x))) (q ∙ fill-is a ts xs (omega arith) (omega arith))
-    ∙ ap₂ (λ x r. x ++ (p ++ drop (e - a) r)) (take-at (take a ts) (drop a xs) a front) (drop-at (take a ts) (drop a xs) a front)
-    ∙ sym (append-assoc (take a ts) p (drop (e - a) (drop a xs)))
-    ∙ ap₂ _++_ (ap (λ x. take a ts ++ x) w ∙ sym (take-add a (e - a) ts) ∙ ap (λ n. take n ts) back) (drop-drop (e - a) a xs ∙ ap (λ n. drop n xs) back)
-    ∙ sym (fill-is e ts xs (omega arith) k)
 
 fill-front : {A : Type 0} (ts xs : List A) → length ts ≤ length xs → fill (length ts) ts xs ≡ over ts xs
 unfolding fill
