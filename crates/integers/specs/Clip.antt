@@ -39,7 +39,7 @@ pub data Place (n : ℕ) (z : ℤ) : Type 0 where
   above : pos n <ℤ z → Place n z
   inside : Within n z → Place n z
 
-in-both : (n : ℕ) (z : ℤ) → negℤ (pos n) ⩽ z → z ⩽ pos n → Within n z
+pub in-both : (n : ℕ) (z : ℤ) → negℤ (pos n) ⩽ z → z ⩽ pos n → Within n z
 in-both n z = simp lin (omega arithZ)
 
 pub place : (n : ℕ) (z : ℤ) → Place n z

@@ -1,2 +1,2 @@
-pub mod SpinOfLaws
+pub mod SpinLaws
 pub mod DecidedLaws

@@ -3,8 +3,7 @@
 use limits::UNIT;
 ghost use mathlib.Core.Path.{_≡_};
 ghost use mathlib.Core.Bool.{not, _&&_};
-ghost use lib.IntN.{pos, negℤ, natAbs};
-ghost use lib.Signed.{_≤ℤ_};
+ghost use lib.IntN.{negℤ, natAbs};
 ghost use Rattle.integers.specs.Clip.{clipZ};
 ghost use Rattle.rules.specs.Limits.{unit};
 ghost use Rattle.rules.specs.Step.{clips};
@@ -55,28 +54,27 @@ pub fn quotient_of(total: i32, degree: u16) -> i32
     divided(total, degree as i32)
 }
 
-// Clipped to -limit..limit.
-fn clip_to(x: i32, limit: i32) -> i32
-    requires { ⌜ pos 0 ≤ℤ limit ⌝ }
-    ensures { λ r. ⌜ r ≡ clipZ (natAbs limit) x ⌝ }
+// "Clipped to -U..U."
+fn clip(x: i32) -> i32
+    ensures { λ r. ⌜ r ≡ clipZ unit x ⌝ }
 {
-    if x < -limit {
-        return -limit;
+    if x < -UNIT {
+        return -UNIT;
     }
-    if limit < x {
-        return limit;
+    if UNIT < x {
+        return UNIT;
     }
     x
 }
 
-// "Then clipped to -U..U": in a pass of its own, which tests several at once. Clipped where they are
+// Each spin clipped: in a pass of its own, which tests several at once. Clipped where they are
 // divided, they would be waited for and the tests mispredicted.
 pub fn clip_all(spins: &mut [i32])
     ensures { λ _. ⌜ now (spins .exit) ≡ clips unit (now (spins .entry)) ⌝ }
 {
     let mut i: usize = 0;
     while i < spins.len() {
-        spins[i] = clip_to(spins[i], UNIT);
+        spins[i] = clip(spins[i]);
         i += 1;
     }
 }

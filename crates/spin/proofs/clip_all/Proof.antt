@@ -34,10 +34,10 @@ loop-again c =
     let here = c .before .before .before in
     let spins = here .before .args .spins .now in
     let inside : here .loop .i < length spins = omega (arith, long here) in
-    let read = toZ-ofZ (fit w32 (at (here .loop .spins) (here .loop .i)) (c .before .clip-to-arg .given)) ∙ old here in (
+    let read = toZ-ofZ (fit w32 (at (here .loop .spins) (here .loop .i)) (c .before .clip-arg .given)) ∙ old here in (
       omega arith,
       fill-more (here .loop .i) _ _ _ _ (pos 0) (omega (arith, clips-length unit spins))
-          (toZ-ofZ (fit w32 (c .clip-to .result) (c .clip-to .ok)) ∙ c .clip-to .ensures ∙ ap (clipZ unit) read ∙ sym (clips-at unit spins (here .loop .i) inside)) (here .loop .inv .1),
+          (toZ-ofZ (fit w32 (c .clip .result) (c .clip .ok)) ∙ c .clip .ensures ∙ ap (clipZ unit) read ∙ sym (clips-at unit spins (here .loop .i) inside)) (here .loop .inv .1),
     )
 
 returns : tie.Need-returns Inv-loop μ-loop

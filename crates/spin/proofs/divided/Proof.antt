@@ -12,7 +12,7 @@ use Rattle.integers.specs.Division.{divZ, signed-times, rest-is}
 use Rattle.integers.specs.Machine.{fit, raw, reads, op-fits, quot-fits, quot-div, ofZ-pos, signed-fits}
 use Rattle.rules.specs.Round.{divided}
 use Rattle.spin.specs.Spin.{Degree, Remainder, lacks}
-use Rattle.spin.proofs.SpinOfLaws.{degree-is, degree-some, degree-few, left, rounded, raised-fits, rounded-fits, left-small}
+use Rattle.spin.proofs.SpinLaws.{degree-is, degree-some, degree-few, left, rounded, raised-fits, rounded-fits, left-small}
 use Rattle.spin.proofs.divided.Statement.{statement}
 use Rattle.spin.proofs.divided.Tie as tie
 

@@ -4,7 +4,7 @@ use lib.IntN.{_+ℤ_}
 use mir.Facts.{toZ-ofZ}
 use Rattle.integers.specs.Linear.{lin, arithZ}
 use Rattle.integers.specs.Machine.{known, raw, reads}
-use Rattle.spin.proofs.SpinOfLaws.{at-most, above, lacks-one, lacks-none}
+use Rattle.spin.proofs.SpinLaws.{at-most, above, lacks-one, lacks-none}
 use Rattle.spin.proofs.half_above.Statement.{statement}
 use Rattle.spin.proofs.half_above.Tie as tie
 

@@ -5,7 +5,7 @@ use lib.Signed.{_<ℤ_}
 use mir.Facts.{toZ-ofZ}
 use Rattle.integers.specs.Linear.{lin, arithZ, _⩽_}
 use Rattle.integers.specs.Machine.{known, raw, reads}
-use Rattle.spin.proofs.SpinOfLaws.{at-most, above, lacks-one, lacks-none}
+use Rattle.spin.proofs.SpinLaws.{at-most, above, lacks-one, lacks-none}
 use Rattle.spin.proofs.half_below.Statement.{statement}
 use Rattle.spin.proofs.half_below.Tie as tie
 

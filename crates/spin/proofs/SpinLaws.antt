@@ -1,4 +1,4 @@
--- The nearest quotient from the one toward zero and its remainder, and the code's clipping. Assumes nothing.
+-- The nearest quotient from the one toward zero and its remainder, and what the code's comparisons say. Assumes nothing.
 use mathlib.Core.Path.{_≡_, refl, sym, _∙_, ap, ap₂, subst}
 use mathlib.Core.Bool.{true, false}
 use Prim.Native.Nat.{ℕ, suc, _+_, _*_, _/_, _%_, _≤_, _<_}
@@ -11,7 +11,6 @@ use mir.Syntax.{Width}
 use mir.Val.{SFits}
 use Rattle.integers.specs.Linear.{lin, arithZ, le-out, _⩽_, Within, lt-ltZ, le-ltZ}
 use Rattle.integers.specs.Order.{ltZ-lt, nltZ-le, leZ-le, nleZ-lt}
-use Rattle.integers.specs.Clip.{clipZ, clip-low, clip-mid, clip-high}
 use Rattle.integers.specs.Product.{natAbs-is, within}
 use Rattle.integers.specs.Division.{signed, signed-size, divZ, nearest, nearest-le, nearest-up, nearest-stays}
 use Rattle.integers.specs.Machine.{signed-fits}
@@ -117,20 +116,3 @@ module _ (d : ℕ) (h : 1 ≤ d) where
 
   pub left-small : (m : ℕ) → d ≤ m → (t : ℤ) → Within m (left t d)
   left-small m k t = within m (left t d) (omega (arith, signed-size t (natAbs t % d), mod-lt (natAbs t) h))
-
--- ---- the code's clipping: m is the limit, and n what it reads as its negation
-module _ (x l : ℤ) (h : pos 0 ≤ℤ l) where
-  pub clipped-low : x <ℤ (pos 0 -ℤ l) → pos 0 -ℤ l ≡ clipZ (natAbs l) x
-  clipped-low k = minus-is l ∙ ap negℤ (natural-is l h) ∙ sym (clip-low (natAbs l) x (subst (λ z. x <ℤ z) (minus-is l ∙ ap negℤ (natural-is l h)) k))
-    where
-      minus-is : (l : ℤ) → pos 0 -ℤ l ≡ negℤ l
-      minus-is l = simp lin (omega arithZ)
-
-  pub clipped-high : l <ℤ x → l ≡ clipZ (natAbs l) x
-  clipped-high k = natural-is l h ∙ sym (clip-high (natAbs l) x (subst (λ z. z <ℤ x) (natural-is l h) k))
-
-  pub clipped-mid : (pos 0 -ℤ l) ≤ℤ x → x ≤ℤ l → x ≡ clipZ (natAbs l) x
-  clipped-mid k j = sym (clip-mid (natAbs l) x (mid (natAbs l) x (subst (λ z. (pos 0 -ℤ z) ≤ℤ x) (natural-is l h) k) (subst (λ z. x ≤ℤ z) (natural-is l h) j)))
-    where
-      mid : (n : ℕ) (x : ℤ) → (pos 0 -ℤ pos n) ≤ℤ x → x ≤ℤ pos n → Within n x
-      mid n x = simp lin (omega arithZ)
