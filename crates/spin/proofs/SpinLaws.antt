@@ -1,5 +1,5 @@
 -- The nearest quotient from the one toward zero and its remainder, and what the code's comparisons say. Assumes nothing.
-use mathlib.Core.Path.{_≡_, refl, sym, _∙_, ap, ap₂, subst}
+use mathlib.Core.Path.{_≡_, sym, _∙_, ap, ap₂, subst}
 use mathlib.Core.Bool.{true, false}
 use Prim.Native.Nat.{ℕ, suc, _+_, _*_, _/_, _%_, _≤_, _<_}
 use native.Mathlib.Omega.{arith}
@@ -11,7 +11,7 @@ use mir.Syntax.{Width}
 use mir.Val.{SFits}
 use Rattle.integers.specs.Linear.{lin, arithZ, le-out, _⩽_, Within, lt-ltZ, le-ltZ}
 use Rattle.integers.specs.Order.{ltZ-lt, nltZ-le, leZ-le, nleZ-lt}
-use Rattle.integers.specs.Product.{natAbs-is, within}
+use Rattle.integers.specs.Product.{abs-pos, natAbs-is, within}
 use Rattle.integers.specs.Division.{signed, signed-size, divZ, nearest, nearest-le, nearest-up, nearest-stays}
 use Rattle.integers.specs.Machine.{signed-fits}
 use Rattle.rules.specs.Round.{divided}
@@ -31,14 +31,10 @@ module _ {x x' y y' : ℤ} (e : x ≡ x') (f : y ≡ y') where
   pub above : leZ x y ≡ false → y' <ℤ x'
   above h = subst (λ z. y' <ℤ z) e (subst (λ z. z <ℤ x) f (nleZ-lt x y h))
 
-pub natural-is : (z : ℤ) → pos 0 ≤ℤ z → z ≡ pos (natAbs z)
-natural-is (pos n) h = refl
-natural-is (negsuc n) h = absurd (omega arithZ)
-
 -- ---- a number of edges
 module _ {d : ℤ} (h : Degree d) where
   pub degree-is : d ≡ pos (natAbs d)
-  degree-is = natural-is d (above-none d (h .some))
+  degree-is = sym (abs-pos d (above-none d (h .some)))
     where
       above-none : (d : ℤ) → pos 1 ⩽ d → pos 0 ⩽ d
       above-none d = simp lin (omega arithZ)

@@ -11,9 +11,9 @@ use mir.Facts.{toZ-ofZ}
 use borrow.Author.Needs.{needs}
 use Rattle.rules.specs.Limits.{stepLimit}
 use Rattle.integers.specs.Machine.{fit, to-unsigned}
+use Rattle.integers.specs.Product.{abs-pos}
 use Rattle.decoder.specs.Lifted.{sumAt, lack, lackLimit, reach}
 use Rattle.decoder.proofs.MultiplierLaws.{level-met, together-fits, start-fits, start-most}
-use Rattle.spin.proofs.SpinOfLaws.{natural-is}
 use Rattle.decoder.proofs.multiplier.first_step.Statement.{statement}
 use Rattle.decoder.proofs.multiplier.first_step.Tie as tie
 
@@ -60,7 +60,7 @@ returns c =
     let z = lack (a .heights .now) in (
       omega (arith, alone-most (c .before)),
       subst (λ n. reach ≤ sumAt (a .heights .now) ((n + (length (a .heights .now) - 1)) / length (a .heights .now))) (ap natAbs (sym (together-is (c .before))))
-          (level-met (a .heights .now) (natAbs z) (c .before .before .pre .some) (sym (natural-is z (lack-fits (c .before) .1)))),
+          (level-met (a .heights .now) (natAbs z) (c .before .before .pre .some) (abs-pos z (lack-fits (c .before) .1))),
     )
 
 returns-2 : tie.Need-returns-2
