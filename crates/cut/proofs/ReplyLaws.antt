@@ -21,6 +21,7 @@ use Rattle.rules.specs.Cut.{cut, cutSearch, maskAnswer, cutAnswer}
 use Rattle.rules.specs.Certificate.{membersAt}
 use Rattle.rules.specs.Step.{clips}
 use Rattle.rules.proofs.Basics.{and-both}
+use Rattle.rules.proofs.RangeLaws.{each-all}
 use Rattle.rules.proofs.Optimal.{within-at}
 use Rattle.inputs.specs.Refusals.{pointRefusal, orElse, turnedDown}
 use Rattle.inputs.proofs.RefusalLaws.{else-refused, else-none, cond-none, test-number, turned-else, turned-refused, turned-none}
@@ -30,12 +31,6 @@ use Rattle.cut.specs.Search.{searchRefusal, spinsAt, searchOn, maskGives
 use Rattle.cut.proofs.MaskLaws.{mask-none, mask-some}
 
 -- ---- the point
-pub each-all : (u : ℕ) (zs : List ℤ) → eachWithin u zs ≡ true → AllWithin u zs
-each-all u [] e = tt
-each-all u (z ∷ zs) e =
-    let p = and-both (leb (natAbs z) u) (eachWithin u zs) e in
-    (within u z (leb-true (natAbs z) u (p .0)), each-all u zs (p .1))
-
 pub point-right : (n : ℕ) (s : List ℤ) → pointRefusal n s ≡ 0 → (length s ≡ n) × AllWithin unit s
 unfolding pointRefusal
 point-right n s e =

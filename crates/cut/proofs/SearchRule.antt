@@ -29,8 +29,9 @@ use Rattle.cut.specs.declared.Found.{Found}
 use Rattle.cut.specs.declared.Found.the-variants.{Nothing, Mask}
 use Rattle.cut.specs.Reply.{foundOf}
 use Rattle.cut.specs.Search.{Inputs, spinsAt, OnlyCut, NoCut}
+use Rattle.rules.proofs.RangeLaws.{each-all}
 use Rattle.cut.proofs.GatherLaws.{values-length}
-use Rattle.cut.proofs.ReplyLaws.{each-all, values-within}
+use Rattle.cut.proofs.ReplyLaws.{values-within}
 use Rattle.cut.proofs.ViewLaws.{found-inj}
 
 module _ (file : List ℕ) (t : Table) (accepted : codeFile file ≡ gives t) (s : List ℤ) (size : length s ≡ t .bits) (range : eachWithin unit s ≡ true) (j : ℕ) (listed : j < checksOf t) where

@@ -11,34 +11,37 @@ use Rattle.rules.specs.Refusal.{Answer, refused, gives, multiplierLarge}
 use Rattle.rules.specs.Table.{Table, edges, edgesOf, checksOf}
 use Rattle.rules.specs.CodeFile.{codeFile}
 use Rattle.rules.specs.Buffers.{Buffers, by-name, lengthsOf, needs, over}
-use Rattle.rules.specs.Run.{Status, running, certified, spent, Run, stateIn, iterate, answerAt, refusedAt, perform, callOn, callBy, call, Safe}
+use Rattle.rules.specs.Run.{Status, running, certified, spent, Run, iterate, answerAt, refusedAt, perform, callOn, callBy, call, Safe}
 use Rattle.rules.proofs.AnswerLaws.{refused≢gives, gives-inj}
 use Rattle.rules.proofs.Tables.{file-sound}
 use Rattle.rules.proofs.BufferLaws.{fits-part}
 use Rattle.rules.proofs.CallPasses.{running-is}
+use Rattle.rules.proofs.RangeLaws.{each-all}
+use Rattle.rules.proofs.Runs.{sound-safe}
 use Rattle.rules.proofs.Counted.{all-counted}
 use Rattle.table.specs.Starts.{startsOf}
 use Rattle.table.specs.Layout.{Opened}
 use Rattle.table.proofs.LayoutLaws.{laid-opened}
-use Rattle.cut.proofs.ReplyLaws.{each-all}
 use Rattle.run.specs.declared.Admitted.{Admitted}
 use Rattle.run.specs.declared.Admitted.the-variants.{Refused, Sized}
 use Rattle.run.specs.Slices.{lentOf, toldOf}
 use Rattle.run.specs.Admitted.{Sizes, admittedOf, sizesOf, Admission, admissionBy, admission}
-use Rattle.run.proofs.AdmitLaws.{Admits, admits-refused, admits-gives, admission-room, sound-safe}
+use Rattle.run.proofs.AdmitLaws.{Admits, admits-refused, admits-gives, admission-room}
 use Rattle.decoder.specs.Finished.{frontTable, PartsFit}
 
 -- ---- admission to a run's next call, with all its buffers lent: of a table, of a code file, and as the code answers it
 abbrev admissionOf : Answer Table → List ℤ → ℕ → Run → List ℕ → List ℕ → Admission
-admissionOf a l wanted r ss ms = admissionBy a l wanted (lengthsOf (r .buffers)) (r .progress) (r .buffers .copies) (r .buffers .offsets) ss ms
+admissionOf a l wanted r ss ms = admissionBy a l wanted (lengthsOf (r .buffers)) (r .progress) (r .buffers .copies) (r .buffers .offsets) (r .buffers .sums) ss ms
 
 abbrev pub admissionIn : List ℕ → List ℤ → ℕ → Run → List ℕ → List ℕ → Admission
-admissionIn file l wanted r ss ms = admission file l wanted (lentOf (toldOf (r .buffers)) (r .buffers .copies) (r .buffers .offsets)) (r .progress) (r .buffers .copies) (r .buffers .offsets) ss ms
+admissionIn file l wanted r ss ms =
+    let b = r .buffers in
+    admission file l wanted (lentOf (toldOf b) (b .copies) (b .offsets) (b .sums)) (r .progress) (b .copies) (b .offsets) (b .sums) ss ms
 
 abbrev answered : Admitted → List ℕ → List ℕ → Admission
 answered a ss ms = record { answer = admittedOf a; starts = ss; members = ms }
 
-told-lengths : (b : Buffers) → lentOf (toldOf b) (b .copies) (b .offsets) ≡ lengthsOf b
+told-lengths : (b : Buffers) → lentOf (toldOf b) (b .copies) (b .offsets) (b .sums) ≡ lengthsOf b
 told-lengths b = fun-ext (by-name (search))
 
 -- ---- refused
@@ -68,8 +71,9 @@ module _ (file : List ℕ) (l : List ℤ) (wanted : ℕ) (r : Run) (ss ms : List
   roomy-in =
       let z = r .buffers .copies in
       let y = r .buffers .offsets in
-      admission-room file ss ms hs hm l wanted (lentOf (toldOf (r .buffers)) z y) (r .progress) z y
-      ∙ ap (λ n. admissionBy (codeFile file) l wanted n (r .progress) z y ss ms) (told-lengths (r .buffers))
+      let x = r .buffers .sums in
+      admission-room file ss ms hs hm l wanted (lentOf (toldOf (r .buffers)) z y x) (r .progress) z y x
+      ∙ ap (λ n. admissionBy (codeFile file) l wanted n (r .progress) z y x ss ms) (told-lengths (r .buffers))
 
   -- with the table's own sizes, starts and members
   module _ (t : Table) (isFile : codeFile file ≡ gives t) (a : Admits t l wanted (lengthsOf (r .buffers)) r (sizesOf t)) where
@@ -86,11 +90,6 @@ module _ (file : List ℕ) (l : List ℤ) (wanted : ℕ) (r : Run) (ss ms : List
     table-is : frontTable (t .bits) (checksOf t) (edgesOf t) startsIn membersIn ≡ t
     table-is = gives-inj _ t (sym (opened .isFile) ∙ isFile)
 
-    safe : Safe t r
-    safe =
-        let s = sound-safe (r .progress .rounds) (stateIn t (r .buffers)) (a .sound) in
-        record { copies = s .1; offsets = s .2; early = λ e. s .0 }
-
     parts-fit : PartsFit (t .bits) (checksOf t) (edgesOf t) l startsIn membersIn r
     parts-fit = record {
       size = a .frameLong;
@@ -102,13 +101,13 @@ module _ (file : List ℕ) (l : List ℤ) (wanted : ℕ) (r : Run) (ss ms : List
       checks = ap checksOf (sym table-is);
       room = fits-part (needs t) (lengthsOf (r .buffers)) (a .room);
       runs = running-is (r .progress .status) (a .running);
-      safe = subst (λ x. Safe x r) (sym table-is) safe;
+      safe = subst (λ x. Safe x r) (sym table-is) (sound-safe t r (a .sound));
     }
 
     parts-call : Done file l wanted r (t .bits) (checksOf t) (edgesOf t) startsIn membersIn
     unfolding call callOn
     parts-call x q e f =
-        let due = answers (end .progress .status) (end .progress .rounds) (r .progress .rounds + wanted) (all-counted t l wanted r safe) in
+        let due = answers (end .progress .status) (end .progress .rounds) (r .progress .rounds + wanted) (all-counted t l wanted r (sound-safe t r (a .sound))) in
         ap₂ (λ y p. record { answer = y; run = p }) (f ∙ ap (λ p. gives (p .progress .status)) is ∙ due) is
         ∙ ap (perform t l wanted r) (sym (a .admitted)) ∙ ap (callBy l wanted r) (sym isFile)
       where

@@ -47,10 +47,10 @@ abbrev pub startsFile : StartCall → List ℕ
 startsFile x = now (x .args .0)
 
 abbrev pub startsLent : StartCall → Buffers
-startsLent x = startLent (now (x .args .1 .0)) (now (x .args .1 .1 .0))
+startsLent x = startLent (now (x .args .1 .0)) (now (x .args .1 .1 .0)) (now (x .args .1 .1 .1 .0))
 
 abbrev pub startGave : StartCall → Started
-startGave x = record { answer = startedOf (x .result); buffers = startLent (now (x .exit .1 .0)) (now (x .exit .1 .1 .0)) }
+startGave x = record { answer = startedOf (x .result); buffers = startLent (now (x .exit .1 .0)) (now (x .exit .1 .1 .0)) (now (x .exit .1 .1 .1 .0)) }
 
 pub record RoundsCall : Type 0 where
   pub lives : Lfts (rd.signature .lifetimes)
@@ -72,7 +72,7 @@ abbrev pub roundsRun : RoundsCall → Run
 roundsRun x =
     let b = x .args .1 .1 .1 .1 in
     runIn (x .args .1 .1 .0)
-    (lent (now (b .0)) (now (b .1 .0)) (now (b .1 .1 .0)) (now (b .1 .1 .1 .0)) (now (b .1 .1 .1 .1 .0)) (now (b .1 .1 .1 .1 .1 .0)) (now (b .1 .1 .1 .1 .1 .1 .0)))
+    (lent (now (b .0)) (now (b .1 .0)) (now (b .1 .1 .0)) (now (b .1 .1 .1 .0)) (now (b .1 .1 .1 .1 .0)) (now (b .1 .1 .1 .1 .1 .0)) (now (b .1 .1 .1 .1 .1 .1 .0)) (now (b .1 .1 .1 .1 .1 .1 .1 .0)))
 
 abbrev pub roundsGave : RoundsCall → Called
 roundsGave x =
@@ -80,7 +80,7 @@ roundsGave x =
     record {
       answer = outcomeOf (x .result .outcome);
       run = runIn (x .result .run)
-          (lent (now (b .0)) (now (b .1 .0)) (now (b .1 .1 .0)) (now (b .1 .1 .1 .0)) (now (b .1 .1 .1 .1 .0)) (now (b .1 .1 .1 .1 .1 .0)) (now (b .1 .1 .1 .1 .1 .1 .0)));
+          (lent (now (b .0)) (now (b .1 .0)) (now (b .1 .1 .0)) (now (b .1 .1 .1 .0)) (now (b .1 .1 .1 .1 .0)) (now (b .1 .1 .1 .1 .1 .0)) (now (b .1 .1 .1 .1 .1 .1 .0)) (now (b .1 .1 .1 .1 .1 .1 .1 .0)));
     }
 
 -- what the contracts say, by document 01's definitions

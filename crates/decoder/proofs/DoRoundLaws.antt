@@ -3,24 +3,29 @@ use mathlib.Core.Path.{_≡_, refl, sym, _∙_, ap, ap₂, subst}
 use mathlib.Core.Bool.{Bool, true, false}
 use mathlib.Core.List.{List, [], _∷_}
 use mathlib.Core.Option.{Option}
-use Prim.Native.Nat.{ℕ, suc, _*_, _≤_, _<_}
+use Prim.Native.Nat.{ℕ, zero, suc, _*_, _≤_, _<_}
 use native.Mathlib.Omega.{arith}
-use lib.ListN.{length}
-use lib.IntN.{ℤ}
+use lib.ListN.{length, getD, length-replicate}
+use lib.IntN.{ℤ, pos, _+ℤ_}
 use Rattle.integers.specs.Linear.{Within}
+use Rattle.integers.specs.Clip.{clipZ}
 use Rattle.integers.specs.Sum.{AllWithin}
-use Rattle.rules.specs.Limits.{unit, roundLimit, offsetPerRound, offsetLimit, stepLimit, maxBitDegree}
+use Rattle.rules.specs.Limits.{unit, roundLimit, offsetPerRound, offsetLimit, valueLimit, weightLimit, sumLimit, stepLimit, maxBitDegree}
 use Rattle.rules.specs.Table.{Table, at, edges, edgesOf, degreeOf}
 use Rattle.rules.specs.Cut.{negatives, keep}
-use Rattle.rules.specs.Step.{Entry}
-use Rattle.rules.specs.Round.{State, spin, firstOf, Round, round}
-use Rattle.rules.specs.Buffers.{spins, copies, offsets, multipliers, masks, multipliersOf, masksOf, roundLent}
+use Rattle.rules.specs.Step.{Entry, minus}
+use Rattle.rules.specs.Round.{State, total, divided, spin, firstOf, sumsOf, Round, round}
+use Rattle.rules.specs.Buffers.{spins, copies, offsets, sums, multipliers, masks, zeros, multipliersOf, masksOf, roundLent}
 use Rattle.rules.specs.Run.{Progress, Run, statusAt, moved, stateIn, iterate}
-use Rattle.rules.proofs.Pass.{AtMost}
-use Rattle.rules.proofs.RoundSizes.{first-length, Sized, round-sized}
+use Rattle.rules.proofs.BufferLaws.{over-exact}
+use Rattle.rules.specs.Scatter.{Room}
+use Rattle.rules.proofs.Pass.{AtMost, all-wider}
+use Rattle.rules.proofs.Steps.{minus-within}
+use Rattle.rules.proofs.SumLaws.{zeros-room, sum-within}
+use Rattle.rules.proofs.RoundSizes.{first-length, first-at, Sized, round-sized}
 use Rattle.rules.proofs.Runs.{multipliers-limit, safe-moves}
 use Rattle.table.specs.Layout.{checksFrom, tableOf, Holds}
-use Rattle.decoder.specs.Spins.{SpinsFit}
+use Rattle.decoder.specs.Spins.{SpinsFit, Spun}
 use Rattle.decoder.specs.Passed.{Passed, PassFits, passed, passedOf}
 use Rattle.decoder.specs.Closing.{AllUpTo, GapFits}
 use Rattle.run.specs.Ending.{closing, statusBy, recordBy}
@@ -28,7 +33,8 @@ use Rattle.run.proofs.EndingLaws.{counted-next}
 use Rattle.decoder.specs.Found.{found}
 use Rattle.decoder.specs.Rounds.{Given, looped, filled, roundsFrom, Ready}
 use Rattle.table.proofs.LayoutLaws.{members-below, members-fit}
-use Rattle.decoder.proofs.ExactLaws.{over-exact, state-exact}
+use Rattle.decoder.proofs.PlaceLaws.{first-same}
+use Rattle.decoder.proofs.ExactLaws.{state-exact, sums-exact}
 use Rattle.decoder.proofs.RoundLaws.{spins-are, passed-is, spins-within, foundIn, round-closed}
 
 up-to : (n : ℕ) (es : List Entry) → AtMost n es → AllUpTo n (multipliersOf es)
@@ -39,13 +45,9 @@ status-by : (k : ℕ) (b : Bool) (w : List Bool) → statusBy b k ≡ statusAt k
 status-by k true w = refl
 status-by k false w = refl
 
--- ---- wider limits
-pub wide-all : (a b : ℕ) (xs : List ℤ) → a ≤ b → AllWithin a xs → AllWithin b xs
-wide-all a b [] h w = tt
-wide-all a b (x ∷ xs) h w = (one x (w .0), wide-all a b xs h (w .1))
-  where
-    one : (x : ℤ) → Within a x → Within b x
-    one x w = record { hi = omega arith; lo = omega arith }
+first-all : (b n : ℕ) (f : ℕ → ℤ) → ((i : ℕ) → i < n → Within b (f i)) → AllWithin b (firstOf n f)
+first-all b zero f w = tt
+first-all b (suc n) f w = (w 0 (omega arith), first-all b n (λ i. f (suc i)) (λ i h. w (suc i) (omega arith)))
 
 offsets-low : (k : ℕ) → k < roundLimit → offsetPerRound * k ≤ offsetLimit
 offsets-low k h = omega arith
@@ -83,33 +85,53 @@ module _ {l : List ℤ} {ss ms ds : List ℕ} {r : Run} (g : Given (length l) l 
   offsets-within = subst (λ s. AllWithin (offsetPerRound * r .progress .rounds) (s .offsets)) here (h .safe .offsets)
 
   offsets-few : AllWithin offsetLimit (r .buffers .offsets)
-  offsets-few = wide-all (offsetPerRound * r .progress .rounds) offsetLimit (r .buffers .offsets) (offsets-low (r .progress .rounds) early) offsets-within
+  offsets-few = all-wider (offsetPerRound * r .progress .rounds) offsetLimit (r .buffers .offsets) (offsets-low (r .progress .rounds) early) offsets-within
 
-  pub spins-fit : SpinsFit (length (r .buffers .spins)) l ms ds (r .buffers .copies) (r .buffers .offsets)
-  spins-fit = subst (λ n. SpinsFit n l ms ds (r .buffers .copies) (r .buffers .offsets)) (sym spins-long) (record {
-    few = g .holds .sound .bits .1;
+  sums-long : length (r .buffers .sums) ≡ length l
+  sums-long = ap (λ n. n sums) (h .sizes)
+
+  -- the sums are those of copies and offsets
+  sums-are : r .buffers .sums ≡ sumsOf (length l) ms (record { copies = r .buffers .copies; offsets = r .buffers .offsets })
+  sums-are = sym (sums-exact (tableOf (length l) ss ms) (filled (tableOf (length l) ss ms) r .buffers) (h .sizes)) ∙ h .safe .sums
+      ∙ ap₂ (sumsOf (length l)) (sym (g .holds .members)) here
+
+  standing : (i : ℕ) → i < length l → degreeOf i ms ≤ maxBitDegree
+  standing i k = subst (λ es. degreeOf i es ≤ maxBitDegree) (sym (g .holds .members)) (g .holds .sound .standing i k .1)
+
+  weights-within : AllWithin weightLimit (minus (r .buffers .copies) (r .buffers .offsets))
+  weights-within = all-wider valueLimit weightLimit (minus (r .buffers .copies) (r .buffers .offsets)) (omega arith)
+      (minus-within unit offsetLimit (r .buffers .copies) (r .buffers .offsets) (subst (λ s. AllWithin unit (s .copies)) here (h .safe .copies)) offsets-few)
+
+  sums-within : AllWithin sumLimit (r .buffers .sums)
+  unfolding sumsOf
+  sums-within = subst (AllWithin sumLimit) (sym sums-are)
+      (first-all sumLimit (length l) _ (λ i k. sum-within i ms (minus (r .buffers .copies) (r .buffers .offsets)) (standing i k) weights-within))
+
+  pub spins-fit : SpinsFit (length (r .buffers .spins)) l ds (r .buffers .sums)
+  spins-fit = subst (λ n. SpinsFit n l ds (r .buffers .sums)) (sym spins-long) (record {
     size = g .size;
     frame = g .frame;
-    edges = members-fit (length l) ss ms (g .holds) .0;
-    below = members-below (length l) ss ms (g .holds);
-    copiesLong = copies-long;
-    offsetsLong = offsets-long;
-    copies = subst (λ s. AllWithin unit (s .copies)) here (h .safe .copies);
-    offsets = offsets-few;
+    sumsLong = sums-long;
+    sums = sums-within;
     room = g .room;
-    degrees = g .degrees;
-    standing = λ i k. subst (λ es. (1 ≤ degreeOf i es) × (degreeOf i es ≤ maxBitDegree)) (sym (g .holds .members)) (g .holds .sound .standing i k);
   })
 
   -- after step 1
-  module _ {s : List ℤ} (e : s ≡ firstOf (length (r .buffers .spins)) (spin unit ms l (record { copies = r .buffers .copies; offsets = r .buffers .offsets }))) where
+  module _ {s x : List ℤ} (e : Spun (length (r .buffers .spins)) l ds (r .buffers .sums) s x) where
+    spin-is : (i : ℕ) → i < length l → clipZ unit (divided (at l i +ℤ at (r .buffers .sums) i) (getD ds i 0)) ≡ spin unit ms l (record { copies = r .buffers .copies; offsets = r .buffers .offsets }) i
+    unfolding spin total sumsOf
+    spin-is i k = ap₂ (λ a d. clipZ unit (divided (at l i +ℤ a) d)) (ap (λ q. at q i) sums-are ∙ first-at (length l) _ i k) (g .degrees i k)
+
     e' : s ≡ firstOf (length l) (spin unit ms l (record { copies = r .buffers .copies; offsets = r .buffers .offsets }))
-    e' = e ∙ ap (λ n. firstOf n (spin unit ms l (record { copies = r .buffers .copies; offsets = r .buffers .offsets }))) spins-long
+    e' = e .spins ∙ ap (λ n. firstOf n (λ i. clipZ unit (divided (at l i +ℤ at (r .buffers .sums) i) (getD ds i 0)))) spins-long ∙ first-same (length l) _ _ spin-is
+
+    cleared : x ≡ zeros (length l)
+    cleared = e .sums ∙ ap zeros spins-long
 
     s-long : length s ≡ length l
     s-long = ap length e' ∙ first-length (length l) _
 
-    pub pass-fits : PassFits (length s) ss ms s (r .buffers .copies) (r .buffers .offsets) (r .buffers .multipliers) (r .buffers .masks)
+    pub pass-fits : PassFits (length s) ss ms s (r .buffers .copies) (r .buffers .offsets) x (r .buffers .multipliers) (r .buffers .masks)
     pass-fits = record {
       holds = subst (λ k. Holds k ss ms) (sym s-long) (g .holds);
       size = refl;
@@ -117,6 +139,8 @@ module _ {l : List ℤ} {ss ms ds : List ℕ} {r : Run} (g : Given (length l) l 
       copiesLong = copies-long;
       offsetsLong = offsets-long;
       offsets = offsets-few;
+      sumsLong = ap length cleared ∙ length-replicate (length l) (pos 0) ∙ sym s-long;
+      room = subst (Room ms) (sym cleared) (zeros-room (length l) ms standing);
       multipliersLong = ap (λ n. n multipliers) (h .sizes);
       masksLong = ap (λ n. n masks) (h .sizes);
     }
@@ -126,10 +150,10 @@ module _ {l : List ℤ} {ss ms ds : List ℕ} {r : Run} (g : Given (length l) l 
     spins-is = e' ∙ spins-are (length l) l ss ms (g .holds) _
 
     -- after steps 2 and 3
-    module _ {p : Passed} (f : p ≡ passed (at s) (checksFrom ss ms) (r .buffers .offsets)) where
+    module _ {p : Passed} (f : p ≡ passed (at s) (checksFrom ss ms) (r .buffers .offsets) x) where
       pass-is : p ≡ passedOf d
       unfolding d t st
-      pass-is = passed-is (length l) l ss ms (g .holds) (record { copies = r .buffers .copies; offsets = r .buffers .offsets }) s p e' f
+      pass-is = passed-is (length l) l ss ms (g .holds) (record { copies = r .buffers .copies; offsets = r .buffers .offsets }) s x p e' cleared f
 
       sized : Sized t d
       unfolding d t
@@ -165,15 +189,16 @@ module _ {l : List ℤ} {ss ms ds : List ℕ} {r : Run} (g : Given (length l) l 
             (status-by (suc (r .progress .rounds)) (closing (foundIn t l (round t l st))) (negatives (round t l st .spins)) ∙ ap (statusAt (suc (r .progress .rounds))) (round-closed t l st))
 
         -- the round is what the rules' next round is
-        pub done-law : record { progress = q; buffers = roundLent s (p .copies) (p .offsets) (p .multipliers) (p .masks) } ≡ roundsFrom 1 l ss ms r
+        pub done-law : record { progress = q; buffers = roundLent s (p .copies) (p .offsets) (p .sums) (p .multipliers) (p .masks) } ≡ roundsFrom 1 l ss ms r
         unfolding roundsFrom iterate d t st
-        done-law = ap₂ (λ x y. record { progress = x; buffers = y }) record-is (ap₂ (λ x y. roundLent x (y .copies) (y .offsets) (y .multipliers) (y .masks)) spins-is pass-is ∙ sym exact)
+        done-law = ap₂ (λ x y. record { progress = x; buffers = y }) record-is (ap₂ (λ v y. roundLent v (y .copies) (y .offsets) (y .sums) (y .multipliers) (y .masks)) spins-is pass-is ∙ sym exact)
             ∙ ap (λ x. looped (moved (filled t r) (round t l x))) (sym here) ∙ ap looped (sym (safe-moves t l (filled t r) (h .safe) (h .runs)))
           where
-            exact : looped (moved (filled t r) d) .buffers ≡ roundLent (d .spins) (d .state .copies) (d .state .offsets) (multipliersOf (d .entries)) (masksOf (d .entries))
+            exact : looped (moved (filled t r) d) .buffers ≡ roundLent (d .spins) (d .state .copies) (d .state .offsets) (d .sums) (multipliersOf (d .entries)) (masksOf (d .entries))
             exact = λ i. roundLent
                 (over-exact (d .spins) (r .buffers .spins) (sized .spins ∙ sym (ap (λ n. n spins) (h .sizes))) i)
                 (over-exact (d .state .copies) (r .buffers .copies) (sized .copies ∙ sym (ap (λ n. n copies) (h .sizes))) i)
                 (over-exact (d .state .offsets) (r .buffers .offsets) (sized .offsets ∙ sym (ap (λ n. n offsets) (h .sizes))) i)
+                (over-exact (d .sums) (r .buffers .sums) (sized .sums ∙ sym (ap (λ n. n sums) (h .sizes))) i)
                 (over-exact (multipliersOf (d .entries)) (r .buffers .multipliers) (sized .multipliers ∙ sym (ap (λ n. n multipliers) (h .sizes))) i)
                 (over-exact (masksOf (d .entries)) (r .buffers .masks) (sized .masks ∙ sym (ap (λ n. n masks) (h .sizes))) i)

@@ -93,7 +93,7 @@ module _ (l : List ℤ) (ss ms : List ℕ) (wanted : ℕ) (r₀ : Run) (k : ℕ)
 
   q-safe : Safe t (filled t q)
   unfolding iterate was t
-  q-safe = let s = iterate-safe t l 1 (filled t r) (g .safe) in subst (λ x. Safe t (filled t x)) (sym q-is) (record { copies = s .copies; offsets = s .offsets; early = s .early })
+  q-safe = let s = iterate-safe t l 1 (filled t r) (g .safe) in subst (λ x. Safe t (filled t x)) (sym q-is) (record { copies = s .copies; offsets = s .offsets; sums = s .sums; early = s .early })
 
   q-sizes : lengthsOf (filled t q .buffers) ≡ needs t
   unfolding iterate was t

@@ -2,8 +2,7 @@ pub mod ExactLaws
 pub mod IterateLaws
 pub mod RoundSpinsLaws
 pub mod PlaceLaws
-pub mod AddEdgesLaws
-pub mod TotalsLaws
+pub mod SpinsLaws
 pub mod PerformLaws
 pub mod CallLaws
 pub mod MaskLaws

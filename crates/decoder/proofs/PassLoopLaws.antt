@@ -2,24 +2,28 @@
 use mathlib.Core.Path.{_≡_, sym, _∙_, ap, ap₂, subst}
 use mathlib.Core.List.{List, [], _++_, append-assoc}
 use Prim.Native.Nat.{ℕ, _+_, _-_, _≤_, _<_}
+use native.Mathlib.Nat.{add-sub-of-le}
 use native.Mathlib.Omega.{arith}
-use lib.ListN.{length, getD, take, drop, length-drop}
+use lib.ListN.{length, getD, take, drop, length-drop, take-append-drop}
 use lib.Seq.{length-take-le, take-add, drop-drop, take-at, drop-at}
 use lib.IntN.{ℤ}
 use Rattle.integers.specs.Sum.{AllWithin}
-use Rattle.rules.specs.Limits.{unit, offsetLimit, maxDegree}
+use Rattle.rules.specs.Limits.{unit, offsetLimit, weightLimit, maxDegree}
 use Rattle.rules.specs.Table.{at}
 use Rattle.rules.specs.Sound.{Below}
-use Rattle.rules.specs.Step.{Step, step}
-use Rattle.rules.specs.Round.{values, pass, entriesIn}
-use Rattle.rules.proofs.Pass.{AllLaid, pass-laid, copies-length, offsets-length, entries-length, drop-within}
+use Rattle.rules.specs.Step.{Step, step, minus}
+use Rattle.rules.specs.Round.{values, pass, copiesIn, offsetsIn, entriesIn}
+use Rattle.rules.proofs.Pass.{AllLaid, pass-laid, copies-length, offsets-length, entries-length, copies-within, offsets-within, take-within, drop-within}
 use Rattle.rules.proofs.RoundSizes.{multipliers-length, masks-length}
+use Rattle.rules.specs.Scatter.{scatter, Room, Added}
+use Rattle.rules.proofs.Optimal.{within-at}
+use Rattle.rules.proofs.Steps.{minus-within, minus-length, minus-drop, minus-take}
+use Rattle.rules.proofs.SumLaws.{room-first, added-none, added-all, added-part}
 use Rattle.rules.proofs.FillLaws.{fill, fill-none, fill-length, fill-rest, fill-more, fill-is, fill-all}
 use Rattle.table.specs.Layout.{checksFrom, edgesBefore}
-use Rattle.decoder.specs.Stepped.{Stepped, steppedBy, steppedOn, stepped}
+use Rattle.decoder.specs.Stepped.{Stepped, summed, steppedBy, steppedOn, stepped}
 use Rattle.decoder.specs.Passed.{Passed, passedTo, passed, PassFits}
 use Rattle.decoder.specs.Parts.{part, splice, placed, onePassed, OneFits}
-use Rattle.decoder.proofs.PlaceLaws.{take-within}
 use Rattle.decoder.proofs.StepListLaws.{values-take}
 use Rattle.table.proofs.LayoutLaws.{before-all, before-most, members-long, start-is, starts-long, start-next, part-is, part-degree, part-below}
 use Rattle.decoder.proofs.PassLaws.{stepAt, copies-at, offsets-at, multiplier-at, mask-at}
@@ -37,22 +41,27 @@ fill-part a e ts xs now p same h k w q =
     ∙ ap₂ _++_ (ap (λ x. take a ts ++ x) w ∙ sym (take-add a (e - a) ts) ∙ ap (λ n. take n ts) back) (drop-drop (e - a) a xs ∙ ap (λ n. drop n xs) back)
     ∙ sym (fill-is e ts xs (omega arith) k)
 
+-- z − y of each edge
+abbrev weightsIn : Passed → List ℤ
+weightsIn p = minus (p .copies) (p .offsets)
+
 -- j checks are done: the edges before check j, and j multipliers and masks
 pub record Passing (f : ℕ → ℤ) (ss ms : List ℕ) (q₀ q : Passed) (j : ℕ) : Type 0 where
   pub few : j ≤ length (checksFrom ss ms)
-  pub copies : q .copies ≡ fill (getD ss j 0) (passed f (checksFrom ss ms) (q₀ .offsets) .copies) (q₀ .copies)
-  pub offsets : q .offsets ≡ fill (getD ss j 0) (passed f (checksFrom ss ms) (q₀ .offsets) .offsets) (q₀ .offsets)
-  pub multipliers : q .multipliers ≡ fill j (passed f (checksFrom ss ms) (q₀ .offsets) .multipliers) (q₀ .multipliers)
-  pub masks : q .masks ≡ fill j (passed f (checksFrom ss ms) (q₀ .offsets) .masks) (q₀ .masks)
+  pub copies : q .copies ≡ fill (getD ss j 0) (passed f (checksFrom ss ms) (q₀ .offsets) (q₀ .sums) .copies) (q₀ .copies)
+  pub offsets : q .offsets ≡ fill (getD ss j 0) (passed f (checksFrom ss ms) (q₀ .offsets) (q₀ .sums) .offsets) (q₀ .offsets)
+  pub sums : Added ms (weightsIn (passed f (checksFrom ss ms) (q₀ .offsets) (q₀ .sums))) (q₀ .sums) (getD ss j 0) (q .sums)
+  pub multipliers : q .multipliers ≡ fill j (passed f (checksFrom ss ms) (q₀ .offsets) (q₀ .sums) .multipliers) (q₀ .multipliers)
+  pub masks : q .masks ≡ fill j (passed f (checksFrom ss ms) (q₀ .offsets) (q₀ .sums) .masks) (q₀ .masks)
 
-pub passed-eq : {a a' b b' : List ℤ} {c c' d d' : List ℕ} → a ≡ a' → b ≡ b' → c ≡ c' → d ≡ d' → passedTo a b c d ≡ passedTo a' b' c' d'
-passed-eq p q r s = λ i. passedTo (p i) (q i) (r i) (s i)
+pub passed-eq : {a a' b b' x x' : List ℤ} {c c' d d' : List ℕ} → a ≡ a' → b ≡ b' → x ≡ x' → c ≡ c' → d ≡ d' → passedTo a b x c d ≡ passedTo a' b' x' c' d'
+passed-eq p q x r s = λ i. passedTo (p i) (q i) (x i) (r i) (s i)
 
 part-length : {A : Type 0} (a e : ℕ) (l : List A) → e ≤ length l → length (part a e l) ≡ e - a
 unfolding part
 part-length a e l h = length-take-le (e - a) (drop a l) (omega (arith, length-drop a l))
 
-module _ {n : ℕ} {ss ms : List ℕ} {s z y : List ℤ} {bs ks : List ℕ} (fits : PassFits n ss ms s z y bs ks) where
+module _ {n : ℕ} {ss ms : List ℕ} {s z y x : List ℤ} {bs ks : List ℕ} (fits : PassFits n ss ms s z y x bs ks) where
   abbrev cs : List (List ℕ)
   cs = checksFrom ss ms
 
@@ -60,10 +69,10 @@ module _ {n : ℕ} {ss ms : List ℕ} {s z y : List ℤ} {bs ks : List ℕ} (fit
   steps = pass unit (at s) (checksFrom ss ms) y
 
   abbrev goal : Passed
-  goal = passed (at s) (checksFrom ss ms) y
+  goal = passed (at s) (checksFrom ss ms) y x
 
   abbrev first : Passed
-  first = passedTo z y bs ks
+  first = passedTo z y x bs ks
 
   abbrev from : ℕ → ℕ
   from j = getD ss j 0
@@ -87,6 +96,14 @@ module _ {n : ℕ} {ss ms : List ℕ} {s z y : List ℤ} {bs ks : List ℕ} (fit
   unfolding passed
   masks-same = masks-length (entriesIn steps) ∙ entries-length unit cs steps laid ∙ sym (fits .masksLong)
 
+  weights-long : length (weightsIn goal) ≡ length ms
+  weights-long = minus-length (goal .copies) (goal .offsets) (copies-same ∙ fits .copiesLong ∙ sym (offsets-same ∙ fits .offsetsLong)) ∙ copies-same ∙ fits .copiesLong
+
+  weights-within : AllWithin weightLimit (weightsIn goal)
+  unfolding passed
+  weights-within = minus-within unit (unit + offsetLimit + unit) (copiesIn steps) (offsetsIn steps) (copies-within unit cs steps laid)
+      (offsets-within unit offsetLimit (at s) (within-at unit s (fits .spins)) cs y (fits .offsets))
+
   pub one-more : length ss ≡ length cs + 1
   one-more = starts-long n ss ms (fits .holds)
 
@@ -102,6 +119,7 @@ module _ {n : ℕ} {ss ms : List ℕ} {s z y : List ℤ} {bs ks : List ℕ} (fit
     few = omega arith;
     copies = sym (fill-none (goal .copies) z) ∙ ap (λ a. fill a (goal .copies) z) start-first;
     offsets = sym (fill-none (goal .offsets) y) ∙ ap (λ a. fill a (goal .offsets) y) start-first;
+    sums = subst (λ a. Added ms (weightsIn goal) x a x) start-first (added-none (fits .room));
     multipliers = sym (fill-none (goal .multipliers) bs);
     masks = sym (fill-none (goal .masks) ks);
   }
@@ -126,13 +144,15 @@ module _ {n : ℕ} {ss ms : List ℕ} {s z y : List ℤ} {bs ks : List ℕ} (fit
     pub past : length (q .masks) ≤ j → length cs ≤ j
     past h = omega (arith, masks-long)
 
-    pub passing-long : (length (q .copies) ≡ length z) × (length (q .offsets) ≡ length y) × (length (q .multipliers) ≡ length bs) × (length (q .masks) ≡ length ks)
-    passing-long = (copies-long ∙ sym (fits .copiesLong), offsets-long ∙ sym (fits .offsetsLong), multipliers-long ∙ sym (fits .multipliersLong), masks-long ∙ sym (fits .masksLong))
+    pub passing-long : (length (q .copies) ≡ length z) × (length (q .offsets) ≡ length y) × (length (q .sums) ≡ length x) × (length (q .multipliers) ≡ length bs) × (length (q .masks) ≡ length ks)
+    passing-long = (copies-long ∙ sym (fits .copiesLong), offsets-long ∙ sym (fits .offsetsLong), g .sums .long, multipliers-long ∙ sym (fits .multipliersLong), masks-long ∙ sym (fits .masksLong))
 
     pub passing-last : length cs ≤ j → q ≡ goal
+    unfolding passed
     passing-last h = passed-eq
         (g .copies ∙ fill-all (from j) (goal .copies) z copies-same (end ∙ sym (fits .copiesLong)))
         (g .offsets ∙ fill-all (from j) (goal .offsets) y offsets-same (end ∙ sym (fits .offsetsLong)))
+        (added-all (g .sums) (omega (arith, end)) ∙ ap (λ l. scatter l (weightsIn goal) x) (fits .holds .members))
         (g .multipliers ∙ fill-all j (goal .multipliers) bs multipliers-same (done ∙ sym (fits .multipliersLong)))
         (g .masks ∙ fill-all j (goal .masks) ks masks-same (done ∙ sym (fits .masksLong)))
       where
@@ -162,7 +182,22 @@ module _ {n : ℕ} {ss ms : List ℕ} {s z y : List ℤ} {bs ks : List ℕ} (fit
       offsets-are = ap (λ l. take (from (j + 1) - from j) (drop (from j) l)) (g .offsets)
           ∙ ap (take (from (j + 1) - from j)) (fill-rest (from j) (goal .offsets) y)
 
-      fits-there : OneFits j (from j) (from (j + 1)) s ms (q .copies) (q .offsets) (q .multipliers) (q .masks)
+      -- what is left of a list begins with this check's part
+      begins : {A : Type 0} (l : List A) → drop (from j) l ≡ part (from j) (from (j + 1)) l ++ drop (from (j + 1)) l
+      unfolding part
+      begins l = sym (take-append-drop (from (j + 1) - from j) (drop (from j) l))
+          ∙ ap (λ r. take (from (j + 1) - from j) (drop (from j) l) ++ r) (drop-drop (from (j + 1) - from j) (from j) l ∙ ap (λ k. drop k l) (add-sub-of-le ordered))
+
+      room-there : Room (part (from j) (from (j + 1)) ms) (q .sums)
+      room-there = room-first (part (from j) (from (j + 1)) ms) (drop (from (j + 1)) ms) (subst (λ l. Room l (q .sums)) (begins ms) (g .sums .room))
+
+      sums-size : length (q .sums) ≡ length s
+      sums-size = g .sums .long ∙ fits .sumsLong
+
+      below-there : Below (length s) (part (from j) (from (j + 1)) ms)
+      below-there = subst (λ l. Below (length s) l) (sym members-are) (subst (λ k. Below k (getD cs j [])) (sym (fits .size)) (part-below n ss ms (fits .holds) j h))
+
+      fits-there : OneFits j (from j) (from (j + 1)) s ms (q .copies) (q .offsets) (q .sums) (q .multipliers) (q .masks)
       fits-there = record {
         ordered = ordered;
         membersEnd = end-in;
@@ -172,31 +207,50 @@ module _ {n : ℕ} {ss ms : List ℕ} {s z y : List ℤ} {bs ks : List ℕ} (fit
         maskThere = omega (arith, masks-long);
         step = record {
           few = subst (λ l. length l ≤ maxDegree) (sym members-are) (part-degree n ss ms (fits .holds) j h);
-          below = subst (λ l. Below (length s) l) (sym members-are) (subst (λ k. Below k (getD cs j [])) (sym (fits .size)) (part-below n ss ms (fits .holds) j h));
+          below = below-there;
           copiesLong = part-length (from j) (from (j + 1)) (q .copies) (omega (arith, end-in, copies-long)) ∙ sym (part-length (from j) (from (j + 1)) ms end-in);
           offsetsLong = part-length (from j) (from (j + 1)) (q .offsets) (omega (arith, end-in, offsets-long)) ∙ sym (part-length (from j) (from (j + 1)) ms end-in);
           spins = fits .spins;
           offsets = subst (AllWithin offsetLimit) (sym offsets-are) (take-within offsetLimit (from (j + 1) - from j) (drop (from j) y) (drop-within offsetLimit (from j) y (fits .offsets)));
+          sumsLong = sums-size;
+          room = room-there;
         };
       }
 
-      pub one-fits : {a : ℕ} → a ≡ from j → OneFits j a (from (j + 1)) s ms (q .copies) (q .offsets) (q .multipliers) (q .masks)
-      one-fits e = subst (λ a. OneFits j a (from (j + 1)) s ms (q .copies) (q .offsets) (q .multipliers) (q .masks)) (sym e) fits-there
+      pub one-fits : {a : ℕ} → a ≡ from j → OneFits j a (from (j + 1)) s ms (q .copies) (q .offsets) (q .sums) (q .multipliers) (q .masks)
+      one-fits e = subst (λ a. OneFits j a (from (j + 1)) s ms (q .copies) (q .offsets) (q .sums) (q .multipliers) (q .masks)) (sym e) fits-there
 
       values-are : values (at s) (part (from j) (from (j + 1)) ms) (part (from j) (from (j + 1)) (q .offsets)) ≡ values (at s) (getD cs j []) (drop (edgesBefore j cs) y)
       values-are = ap₂ (values (at s)) members-are (offsets-are ∙ ap₂ (λ k a. take k (drop a y)) width (start-is n ss ms (fits .holds) j (g .few)))
           ∙ values-take (at s) (getD cs j []) (drop (edgesBefore j cs) y)
 
-      stepped-is : stepped (at s) (part (from j) (from (j + 1)) ms) (part (from j) (from (j + 1)) (q .offsets)) ≡ steppedBy (stepAt unit (at s) cs y j)
+      stepped-is : stepped (at s) (part (from j) (from (j + 1)) ms) (part (from j) (from (j + 1)) (q .offsets)) (q .sums)
+          ≡ steppedBy (part (from j) (from (j + 1)) ms) (q .sums) (stepAt unit (at s) cs y j)
       unfolding stepped steppedOn
-      stepped-is = ap (λ v. steppedBy (step unit v)) values-are
+      stepped-is = ap (λ v. steppedBy (part (from j) (from (j + 1)) ms) (q .sums) (step unit v)) values-are
 
       -- the part of a list from start j to start j + 1
       here : (l p : List ℤ) → take (length (getD cs j [])) (drop (edgesBefore j cs) l) ≡ p → p ≡ part (from j) (from (j + 1)) l
       unfolding part
       here l p e = sym e ∙ ap₂ (λ k a. take k (drop a l)) (sym width) (sym (start-is n ss ms (fits .holds) j (g .few)))
 
-      passing-placed : Passing (at s) ss ms first (placed j (from j) (from (j + 1)) (steppedBy (stepAt unit (at s) cs y j)) q) (j + 1)
+      -- z − y of this check's edges
+      weights-are : minus (stepAt unit (at s) cs y j .copies) (stepAt unit (at s) cs y j .offsets) ≡ part (from j) (from (j + 1)) (weightsIn goal)
+      unfolding passed part
+      weights-are = ap₂ minus (here (goal .copies) _ (copies-at unit (at s) cs y j h)) (here (goal .offsets) _ (offsets-at unit (at s) cs y j h))
+          ∙ sym (ap (take (from (j + 1) - from j)) (minus-drop (from j) (goal .copies) (goal .offsets)) ∙ minus-take (from (j + 1) - from j) (drop (from j) (goal .copies)) (drop (from j) (goal .offsets)))
+
+      sums-next : Added ms (weightsIn goal) x (from (j + 1)) (summed (part (from j) (from (j + 1)) ms) (stepAt unit (at s) cs y j .copies) (stepAt unit (at s) cs y j .offsets) (q .sums))
+      unfolding part
+      sums-next = added-part (from (j + 1)) (part (from j) (from (j + 1)) ms) (minus (stepAt unit (at s) cs y j .copies) (stepAt unit (at s) cs y j .offsets)) (g .sums) (begins ms) (begins (weightsIn goal) ∙ ap (λ l. l ++ drop (from (j + 1)) (weightsIn goal)) (sym weights-are))
+          (ap length weights-are ∙ part-length (from j) (from (j + 1)) (weightsIn goal) (omega (arith, end-in, weights-long)) ∙ sym (part-length (from j) (from (j + 1)) ms end-in))
+          (subst (λ k. Below k (part (from j) (from (j + 1)) ms)) (sym sums-size) below-there)
+          (subst (AllWithin weightLimit) (sym weights-are) part-within)
+        where
+          part-within : AllWithin weightLimit (part (from j) (from (j + 1)) (weightsIn goal))
+          part-within = take-within weightLimit (from (j + 1) - from j) (drop (from j) (weightsIn goal)) (drop-within weightLimit (from j) (weightsIn goal) weights-within)
+
+      passing-placed : Passing (at s) ss ms first (placed j (from j) (from (j + 1)) (steppedBy (part (from j) (from (j + 1)) ms) (q .sums) (stepAt unit (at s) cs y j)) q) (j + 1)
       unfolding passed
       passing-placed = record {
         few = omega arith;
@@ -204,6 +258,7 @@ module _ {n : ℕ} {ss ms : List ℕ} {s z y : List ℤ} {bs ks : List ℕ} (fit
             (here (goal .copies) _ (copies-at unit (at s) cs y j h)) (g .copies);
         offsets = fill-part (from j) (from (j + 1)) (goal .offsets) y (q .offsets) _ offsets-same ordered (omega (arith, end-in, fits .offsetsLong))
             (here (goal .offsets) _ (offsets-at unit (at s) cs y j h)) (g .offsets);
+        sums = sums-next;
         multipliers = fill-more j (goal .multipliers) bs (q .multipliers) _ 0 (omega (arith, multipliers-same, fits .multipliersLong)) (sym (multiplier-at unit (at s) cs y j h)) (g .multipliers);
         masks = fill-more j (goal .masks) ks (q .masks) _ 0 (omega (arith, masks-same, fits .masksLong)) (sym (mask-at unit (at s) cs y j h)) (g .masks);
       }

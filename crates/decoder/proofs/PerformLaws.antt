@@ -10,10 +10,10 @@ use lib.Seq.{length-take-le}
 use lib.IntN.{ℤ}
 use Rattle.integers.specs.Sum.{AllWithin}
 use Rattle.rules.specs.Limits.{unit, maxBits, maxChecks, offsetPerRound, certificateLength}
-use Rattle.rules.specs.Table.{Table, edgesOf, degreeOf}
+use Rattle.rules.specs.Table.{Table, edges, edgesOf, degreeOf}
 use Rattle.rules.specs.Cut.{negatives, keep}
-use Rattle.rules.specs.Round.{Round}
-use Rattle.rules.specs.Buffers.{spins, copies, offsets, multipliers, masks, word, certificate, Buffer, Elem, the, lent, lengthsOf, needsBy, needs}
+use Rattle.rules.specs.Round.{sumsOf, Round}
+use Rattle.rules.specs.Buffers.{spins, copies, offsets, sums, multipliers, masks, word, certificate, Buffer, Elem, the, lent, lengthsOf, needsBy, needs}
 use Rattle.rules.specs.Buffers.{Part, partOf, over, overBy, wordLeft, certificateLeft, multipliersOf, masksOf, bytesOf}
 use Rattle.rules.specs.Run.{Status, running, certified, spent, Run, moved, stateIn, iterate, Safe}
 use Rattle.rules.specs.Calls.{lend}
@@ -21,7 +21,7 @@ use Rattle.rules.specs.Certificate.{certificateOf}
 use Rattle.rules.proofs.Basics.{none≢some, some-inj}
 use Rattle.rules.proofs.BufferLaws.{part-refl, lengths-part, take-over, AllPast, past-lengths}
 use Rattle.rules.proofs.CallPasses.{round-proper}
-use Rattle.rules.proofs.RoundSizes.{Sized, round-sized, state-part}
+use Rattle.rules.proofs.RoundSizes.{Sized, round-sized, state-part, sums-part}
 use Rattle.rules.proofs.Runs.{coming, Kept, iterate-kept, held-start, iterate-held, running≢certified, spent≢certified}
 use Rattle.rules.proofs.Lends.{iterate-lend}
 use Rattle.writing.specs.Written.{certificateFrom}
@@ -72,6 +72,7 @@ module _ {n m e : ℕ} {l : List ℤ} {ss ms : List ℕ} {r : Run} (h : PartsFit
   part-safe = record {
     copies = subst (λ s. AllWithin unit (s .copies)) (sym here) (h .safe .copies);
     offsets = subst (λ s. AllWithin (offsetPerRound * r .progress .rounds) (s .offsets)) (sym here) (h .safe .offsets);
+    sums = sums-part t (needsBy n m e) (r .buffers) part-needs ∙ h .safe .sums ∙ ap (sumsOf (t .bits) (edges (t .checks))) (sym here);
     early = h .safe .early;
   }
     where
@@ -93,7 +94,7 @@ module _ {n m e : ℕ} {l : List ℤ} {ss ms : List ℕ} {r : Run} (h : PartsFit
   parts-ready = subst (λ k. Steady (frontTable k m e ss ms) (looped (lend (needsBy n m e) r))) (sym (h .size)) (record {
     runs = h .runs;
     sizes = filled-sizes t (lend (needsBy n m e) r) part-sizes;
-    safe = record { copies = part-safe .copies; offsets = part-safe .offsets; early = part-safe .early };
+    safe = record { copies = part-safe .copies; offsets = part-safe .offsets; sums = part-safe .sums; early = part-safe .early };
   })
 
   module _ (wanted : ℕ) {x : Run} (f : x ≡ roundsFrom wanted l (take (m + 1) ss) (take e ms) (looped (lend (needsBy n m e) r))) where
@@ -126,6 +127,9 @@ module _ {n m e : ℕ} {l : List ℤ} {ss ms : List ℕ} {r : Run} (h : PartsFit
     abbrev offsetsNow : List ℤ
     offsetsNow = x .buffers .offsets ++ drop e (r .buffers .offsets)
 
+    abbrev sumsNow : List ℤ
+    sumsNow = x .buffers .sums ++ drop n (r .buffers .sums)
+
     abbrev multipliersNow : List ℕ
     multipliersNow = x .buffers .multipliers ++ drop m (r .buffers .multipliers)
 
@@ -140,6 +144,9 @@ module _ {n m e : ℕ} {l : List ℤ} {ss ms : List ℕ} {r : Run} (h : PartsFit
 
     offsets-back : offsetsNow ≡ end .buffers .offsets
     offsets-back = back offsets (x .buffers .offsets) (ap (λ q. q .buffers .offsets) rounds-are)
+
+    sums-back : sumsNow ≡ end .buffers .sums
+    sums-back = back sums (x .buffers .sums) (ap (λ q. q .buffers .sums) rounds-are)
 
     multipliers-back : multipliersNow ≡ end .buffers .multipliers
     multipliers-back = back multipliers (x .buffers .multipliers) (ap (λ q. q .buffers .multipliers) rounds-are)
@@ -240,10 +247,10 @@ module _ {n m e : ℕ} {l : List ℤ} {ss ms : List ℕ} {r : Run} (h : PartsFit
 
     -- the whole run as the call leaves it, with g for word and certificate
     abbrev leaving : Ending → Run
-    leaving g = record { progress = x .progress; buffers = lent spinsNow copiesNow offsetsNow multipliersNow masksNow (g .word) (g .certificate) }
+    leaving g = record { progress = x .progress; buffers = lent spinsNow copiesNow offsetsNow sumsNow multipliersNow masksNow (g .word) (g .certificate) }
 
     pub performed : {g : Ending} → g ≡ ended (x .progress .status) → leaving g ≡ end
     performed j = λ i. record {
       progress = rounds-are i .progress;
-      buffers = lent (spins-back i) (copies-back i) (offsets-back i) (multipliers-back i) (masks-back i) ((j ∙ ended-right) i .word) ((j ∙ ended-right) i .certificate);
+      buffers = lent (spins-back i) (copies-back i) (offsets-back i) (sums-back i) (multipliers-back i) (masks-back i) ((j ∙ ended-right) i .word) ((j ∙ ended-right) i .certificate);
     }

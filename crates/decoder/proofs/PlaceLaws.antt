@@ -12,24 +12,6 @@ use Rattle.rules.specs.Table.{at}
 use Rattle.rules.specs.Step.{clips, minus}
 use Rattle.rules.specs.Round.{firstOf}
 
--- ---- every element between -b and b
-pub take-within : (b n : ℕ) (xs : List ℤ) → AllWithin b xs → AllWithin b (take n xs)
-take-within b zero xs h = tt
-take-within b (suc n) [] h = tt
-take-within b (suc n) (x ∷ xs) h = (h .0, take-within b n xs (h .1))
-
--- ---- differences
-pub minus-length : (vs zs : List ℤ) → length vs ≡ length zs → length (minus vs zs) ≡ length vs
-minus-length [] zs h = refl
-minus-length (v ∷ vs) [] h = absurd (omega arith)
-minus-length (v ∷ vs) (z ∷ zs) h = ap suc (minus-length vs zs (suc-inj h))
-
-pub minus-at : (vs zs : List ℤ) (k : ℕ) → k < length vs → k < length zs → at (minus vs zs) k ≡ at vs k -ℤ at zs k
-minus-at [] zs k h l = absurd (omega arith)
-minus-at (v ∷ vs) [] k h l = absurd (omega arith)
-minus-at (v ∷ vs) (z ∷ zs) zero h l = refl
-minus-at (v ∷ vs) (z ∷ zs) (suc k) h l = minus-at vs zs k (le-of-suc-le-suc h) (le-of-suc-le-suc l)
-
 -- ---- the first n numbers of f
 pub first-same : (n : ℕ) (f g : ℕ → ℤ) → ((i : ℕ) → i < n → f i ≡ g i) → firstOf n f ≡ firstOf n g
 first-same zero f g h = refl

@@ -12,16 +12,17 @@ use Rattle.rules.specs.Limits.{unit}
 use Rattle.rules.specs.Table.{Table, edges, at}
 use Rattle.rules.specs.Parity.{meets}
 use Rattle.rules.specs.Cut.{negatives, keep}
-use Rattle.rules.specs.Step.{Entry}
+use Rattle.rules.specs.Step.{Entry, Step, minus}
 use Rattle.rules.specs.Bound.{Row, rowsOf, gap}
-use Rattle.rules.specs.Round.{State, spin, pass, entriesIn, candidate, isZero, certify, firstOf, Round, round}
-use Rattle.rules.specs.Buffers.{multipliersOf, masksOf}
+use Rattle.rules.specs.Round.{State, spin, pass, copiesIn, offsetsIn, entriesIn, candidate, isZero, certify, firstOf, sumsOf, Round, round}
+use Rattle.rules.specs.Buffers.{zeros, multipliersOf, masksOf}
 use Rattle.rules.proofs.WrittenPasses.{AllProper}
 use Rattle.rules.proofs.CallPasses.{round-proper}
 use Rattle.rules.proofs.RoundSizes.{first-length, first-at}
 use Rattle.rules.proofs.Runs.{spin-within}
+use Rattle.rules.proofs.SumLaws.{scatter-sums}
 use Rattle.table.specs.Layout.{checksFrom, tableOf, Holds}
-use Rattle.decoder.specs.Passed.{Passed, passedBy, passedOf, passed}
+use Rattle.decoder.specs.Passed.{Passed, passedTo, passedBy, passedOf, passed}
 use Rattle.decoder.specs.Closing.{metBy, rowsFrom}
 use Rattle.run.specs.Ending.{closing}
 use Rattle.decoder.specs.Found.{found}
@@ -41,9 +42,18 @@ module _ (n : ℕ) (l : List ℤ) (ss ms : List ℕ) (h : Holds n ss ms) (st : S
   steps-are : pass unit (at (firstOf n f)) (checksFrom ss ms) (st .offsets) ≡ pass unit f (checksFrom ss ms) (st .offsets)
   steps-are = pass-same n f (at (firstOf n f)) (first-at n f) unit (checksFrom ss ms) (st .offsets) (h .sound .below)
 
-  pub passed-is : (s : List ℤ) (p : Passed) → s ≡ firstOf n (spin unit ms l st) → p ≡ passed (at s) (checksFrom ss ms) (st .offsets) → p ≡ passedOf (round (tableOf n ss ms) l st)
-  unfolding round passed f
-  passed-is s p e g = g ∙ ap (λ x. passedBy (pass unit (at x) (checksFrom ss ms) (st .offsets))) (e ∙ spins-are) ∙ ap passedBy steps-are
+  -- the sums begin at zero
+  pub passed-is : (s x : List ℤ) (p : Passed) → s ≡ firstOf n (spin unit ms l st) → x ≡ zeros n → p ≡ passed (at s) (checksFrom ss ms) (st .offsets) x
+      → p ≡ passedOf (round (tableOf n ss ms) l st)
+  unfolding round passed f sumsOf
+  passed-is s x p e z g = g ∙ ap₂ (λ v w. passedBy es w (pass unit (at v) (checksFrom ss ms) (st .offsets))) (e ∙ spins-are) z ∙ ap (passedBy es (zeros n)) steps-are
+      ∙ ap (λ w. passedTo (copiesIn ts) (offsetsIn ts) w (multipliersOf (entriesIn ts)) (masksOf (entriesIn ts))) (scatter-sums n es (minus (copiesIn ts) (offsetsIn ts)))
+    where
+      es : List ℕ
+      es = edges (checksFrom ss ms)
+
+      ts : List Step
+      ts = pass unit (spin unit (edges (checksFrom ss ms)) l st) (checksFrom ss ms) (st .offsets)
 
 first-within : (u n : ℕ) (g : ℕ → ℤ) → ((i : ℕ) → Within u (g i)) → AllWithin u (firstOf n g)
 first-within u zero g w = tt

@@ -10,12 +10,13 @@ use lib.IntN.{ℤ}
 use Rattle.integers.specs.Sum.{AllWithin}
 use Rattle.rules.specs.Limits.{unit, offsetLimit, stepLimit, valueLimit, maxDegree}
 use Rattle.rules.specs.Table.{at}
+use Rattle.rules.specs.Sound.{Below}
 use Rattle.rules.specs.Mask.{setOf}
 use Rattle.rules.specs.Cut.{cut}
 use Rattle.rules.specs.Buffers.{over, multiplierOf}
 use Rattle.rules.specs.Step.{clips, multiplier, minus, stepBy, step}
 use Rattle.rules.specs.Round.{values}
-use Rattle.rules.proofs.BufferLaws.{over-length}
+use Rattle.rules.proofs.BufferLaws.{over-exact, take-exact, over-length}
 use Rattle.rules.proofs.Signs.{alike-length}
 use Rattle.rules.proofs.CutRule.{Cuts, cut-sound}
 use Rattle.rules.proofs.Multiplier.{moves-zero}
@@ -27,46 +28,50 @@ use Rattle.cut.specs.Heights.{heightsOf, highest, sideBy, seenOn, seen}
 use Rattle.cut.proofs.MaskLaws.{mask-none, mask-some}
 use Rattle.cut.proofs.SeeLaws.{seen-whole}
 use Rattle.decoder.specs.Lifted.{Rising, LeastAt, MultiplierOf}
-use Rattle.decoder.specs.Stepped.{steppedTo, steppedBy, steppedOn, stepped, newCopies, newOffsets, StepFits, MoveFits}
+use Rattle.decoder.specs.Stepped.{Stepped, steppedTo, summed, steppedBy, steppedOn, stepped, newCopies, StepFits, MoveFits, Moved}
 use Rattle.decoder.proofs.MaskLaws.{set-alike}
-use Rattle.decoder.proofs.ExactLaws.{over-exact, take-exact}
 use Rattle.decoder.proofs.MultiplierLaws.{heights-length, heights-few, rising, least-is}
 use Rattle.decoder.proofs.StepListLaws.{values-length}
 
-stepped-eq : {a a' b b' : List ℤ} {c c' d d' : ℕ} → a ≡ a' → b ≡ b' → c ≡ c' → d ≡ d' → steppedTo a b c d ≡ steppedTo a' b' c' d'
-stepped-eq p q r s = λ i. steppedTo (p i) (q i) (r i) (s i)
+stepped-eq : {a a' b b' x x' : List ℤ} {c c' d d' : ℕ} → a ≡ a' → b ≡ b' → x ≡ x' → c ≡ c' → d ≡ d' → steppedTo a b x c d ≡ steppedTo a' b' x' c' d'
+stepped-eq p q x r s = λ i. steppedTo (p i) (q i) (x i) (r i) (s i)
 
--- ---- v the values, m the mask of their cut
-module _ (v : List ℤ) (m : ℕ) (e : m ≡ cutMask (cut unit (clips unit v))) where
+-- ---- ms the members, xs the sums before, v the values, m the mask of their cut
+module _ (ms : List ℕ) (xs v : List ℤ) (m : ℕ) (e : m ≡ cutMask (cut unit (clips unit v))) where
   no-cut : m ≡ 0 → cut unit (clips unit v) ≡ none
   no-cut z = mask-none unit (clips unit v) (sym e ∙ z)
 
   some-cut : (m ≡ 0 → ⊥) → cut unit (clips unit v) ≡ some (setOf (length v) m)
   some-cut f = mask-some unit (clips unit v) m e f ∙ ap (λ n. some (setOf n m)) (alike-length v (clips unit v) (clips-alike unit v))
 
-  pub multiplier-none : m ≡ 0 → 0 ≡ steppedOn v .multiplier
+  pub multiplier-none : m ≡ 0 → 0 ≡ steppedOn ms xs v .multiplier
   unfolding steppedOn step
   multiplier-none z = sym (ap (λ o. multiplierOf (stepBy unit v o .entry)) (no-cut z))
 
-  pub multiplier-some : (m ≡ 0 → ⊥) → multiplier unit (setOf (length v) m) v ≡ steppedOn v .multiplier
+  pub multiplier-some : (m ≡ 0 → ⊥) → multiplier unit (setOf (length v) m) v ≡ steppedOn ms xs v .multiplier
   unfolding steppedOn step
   multiplier-some f = sym (ap (λ o. multiplierOf (stepBy unit v o .entry)) (some-cut f))
 
-  step-is : (b : ℕ) (z y : List ℤ) → b ≡ steppedOn v .multiplier → z ≡ newCopies b m v → y ≡ newOffsets b m v → steppedTo z y b m ≡ steppedOn v
+  step-is : (b : ℕ) (z y x : List ℤ) → b ≡ steppedOn ms xs v .multiplier → Moved b m ms v xs z y x → steppedTo z y x b m ≡ steppedOn ms xs v
   unfolding steppedOn step
-  step-is b z y eb ez ey = go (ℕ-discrete m 0)
+  step-is b z y x eb moved = stepped-eq (moved .copies) (moved .offsets) (moved .sums) refl refl ∙ go (ℕ-discrete m 0)
     where
+      -- what a multiplier and a mask leave, with what they make of the copies
+      with-copies : List ℤ → ℕ → ℕ → Stepped
+      with-copies z b k = steppedTo z (minus v z) (summed ms z (minus v z) xs) b k
+
       clipped : b ≡ 0 → newCopies b m v ≡ clips unit v
       clipped q = ap (λ n. newCopies n m v) q ∙ moves-zero unit (setOf (length v) m) v (set-alike v m)
 
-      go : Dec (m ≡ 0) → steppedTo z y b m ≡ steppedBy (stepBy unit v (cut unit (clips unit v)))
-      go (yes q) = stepped-eq (ez ∙ clipped (eb ∙ sym (multiplier-none q))) (ey ∙ ap (minus v) (clipped (eb ∙ sym (multiplier-none q)))) (eb ∙ sym (multiplier-none q)) q
-          ∙ sym (ap (λ o. steppedBy (stepBy unit v o)) (no-cut q))
-      go (no f) = let b = eb ∙ sym (multiplier-some f) in stepped-eq (ez ∙ ap (λ n. newCopies n m v) b) (ey ∙ ap (λ n. newOffsets n m v) b) b (e ∙ ap cutMask (some-cut f))
-          ∙ sym (ap (λ o. steppedBy (stepBy unit v o)) (some-cut f))
+      go : Dec (m ≡ 0) → with-copies (newCopies b m v) b m ≡ steppedBy ms xs (stepBy unit v (cut unit (clips unit v)))
+      go (yes q) = ap₂ (λ z n. with-copies z n m) (clipped (eb ∙ sym (multiplier-none q))) (eb ∙ sym (multiplier-none q)) ∙ ap (with-copies (clips unit v) 0) q
+          ∙ sym (ap (λ o. steppedBy ms xs (stepBy unit v o)) (no-cut q))
+      go (no f) = ap (λ n. with-copies (newCopies n m v) n m) (eb ∙ sym (multiplier-some f))
+          ∙ ap (with-copies (newCopies (multiplier unit (setOf (length v) m) v) m v) (multiplier unit (setOf (length v) m) v)) (e ∙ ap cutMask (some-cut f))
+          ∙ sym (ap (λ o. steppedBy ms xs (stepBy unit v o)) (some-cut f))
 
 -- ---- the heights hs that the cut search leaves of the values v in the place of z, with the greatest of them
-module _ (v z hs : List ℤ) (k m : ℕ) (top : ℤ) (few : length v ≤ maxDegree) (same : length z ≡ length v) (e : (record { number = k; mask = m; top = top; heights = hs }) ≡ seen v z) where
+module _ (ms : List ℕ) (xs v z hs : List ℤ) (k m : ℕ) (top : ℤ) (few : length v ≤ maxDegree) (same : length z ≡ length v) (e : (record { number = k; mask = m; top = top; heights = hs }) ≡ seen v z) where
   whole : (record { number = k; mask = m; top = top; heights = hs }) ≡ seenOn v z
   whole = e ∙ sym (seen-whole v z few (omega arith))
 
@@ -83,7 +88,7 @@ module _ (v z hs : List ℤ) (k m : ℕ) (top : ℤ) (few : length v ≤ maxDegr
   -- a cut's
   module _ (f : m ≡ 0 → ⊥) where
     seen-by : sideBy (cut unit (clips unit v)) v ≡ setOf (length v) m
-    seen-by = ap (λ o. sideBy o v) (some-cut v m mask-is f)
+    seen-by = ap (λ o. sideBy o v) (some-cut ms xs v m mask-is f)
 
     pub heights-are : hs ≡ heightsOf (setOf (length v) m) v
     unfolding seenOn
@@ -95,28 +100,28 @@ module _ (v z hs : List ℤ) (k m : ℕ) (top : ℤ) (few : length v ≤ maxDegr
     top-is = ap (λ s. s .top) whole ∙ ap (λ b. highest (heightsOf b v)) seen-by
 
     cuts : Cuts unit (setOf (length v) m) (clips unit v)
-    cuts = cut-sound unit (clips unit v) (setOf (length v) m) (some-cut v m mask-is f)
+    cuts = cut-sound unit (clips unit v) (setOf (length v) m) (some-cut ms xs v m mask-is f)
 
     pub heights-rise : AllWithin valueLimit v → Rising hs top
     heights-rise w =
         let up = rising (setOf (length v) m) v few w (set-alike v m) cuts in
         subst (λ t. Rising hs t) (sym top-is) (subst (λ l. Rising l (highest (heightsOf (setOf (length v) m) v))) (sym heights-are) up)
 
-    pub least-multiplier-is : (b : ℕ) → AllWithin valueLimit v → LeastAt hs b → b ≡ steppedOn v .multiplier
-    least-multiplier-is b w l = least-is (setOf (length v) m) v few w (set-alike v m) cuts b (subst (λ x. LeastAt x b) heights-are l) ∙ multiplier-some v m mask-is f
+    pub least-multiplier-is : (b : ℕ) → AllWithin valueLimit v → LeastAt hs b → b ≡ steppedOn ms xs v .multiplier
+    least-multiplier-is b w l = least-is (setOf (length v) m) v few w (set-alike v m) cuts b (subst (λ x. LeastAt x b) heights-are l) ∙ multiplier-some ms xs v m mask-is f
 
-  pub multiplier-is : (b : ℕ) → AllWithin valueLimit v → MultiplierOf m hs b → (b ≡ steppedOn v .multiplier) × (b ≤ stepLimit)
+  pub multiplier-is : (b : ℕ) → AllWithin valueLimit v → MultiplierOf m hs b → (b ≡ steppedOn ms xs v .multiplier) × (b ≤ stepLimit)
   multiplier-is b w l = go (ℕ-discrete m 0)
     where
       zero-small : b ≡ 0 → b ≤ stepLimit
       zero-small q = omega arith
 
-      go : Dec (m ≡ 0) → (b ≡ steppedOn v .multiplier) × (b ≤ stepLimit)
-      go (yes q) = (l .none q ∙ multiplier-none v m mask-is q, zero-small (l .none q))
+      go : Dec (m ≡ 0) → (b ≡ steppedOn ms xs v .multiplier) × (b ≤ stepLimit)
+      go (yes q) = (l .none q ∙ multiplier-none ms xs v m mask-is q, zero-small (l .none q))
       go (no f) = (least-multiplier-is f b w (l .some f), l .some f .bounded)
 
 -- ---- what the calls of a step ask, and what it leaves: l is in the offsets' place
-module _ (s : List ℤ) (ms : List ℕ) (z y l : List ℤ) (fits : StepFits s ms z y) (e : l ≡ values (at s) ms y) where
+module _ (s : List ℤ) (ms : List ℕ) (z y x l : List ℤ) (fits : StepFits s ms z y x) (e : l ≡ values (at s) ms y) where
   long : length l ≡ length ms
   long = ap length e ∙ values-length (at s) ms y
 
@@ -131,18 +136,26 @@ module _ (s : List ℤ) (ms : List ℕ) (z y l : List ℤ) (fits : StepFits s ms
 
   module _ (hs : List ℤ) (k m : ℕ) (top : ℤ) (em : (record { number = k; mask = m; top = top; heights = hs }) ≡ seen l z) where
     pub multiplier-asks : (m ≡ 0 → ⊥) → Rising hs top
-    multiplier-asks f = heights-rise l z hs k m top few same em f small
+    multiplier-asks f = heights-rise ms x l z hs k m top few same em f small
 
     module _ (b : ℕ) (least : MultiplierOf m hs b) where
-      pub move-asks : MoveFits b hs l
-      move-asks = record { bounded = multiplier-is l z hs k m top few same em b small least .1; few = few; small = small; copiesLong = heights-long l z hs k m top few same em ∙ same }
+      pub move-asks : MoveFits b ms hs l x
+      move-asks = record {
+        bounded = multiplier-is ms x l z hs k m top few same em b small least .1;
+        few = few;
+        small = small;
+        copiesLong = heights-long ms x l z hs k m top few same em ∙ same;
+        membersLong = sym long;
+        below = subst (λ n. Below n ms) (sym (fits .sumsLong)) (fits .below);
+        room = fits .room;
+      }
 
-      pub step-left : (z' y' : List ℤ) → (z' ≡ newCopies b m l) × (y' ≡ newOffsets b m l) → steppedTo z' y' b m ≡ stepped (at s) ms y
+      pub step-left : (z' y' x' : List ℤ) → Moved b m ms l x z' y' x' → steppedTo z' y' x' b m ≡ stepped (at s) ms y x
       unfolding stepped
-      step-left z' y' q = step-is l m (mask-is l z hs k m top few same em) b z' y' (multiplier-is l z hs k m top few same em b small least .0) (q .0) (q .1) ∙ ap steppedOn e
+      step-left z' y' x' q = step-is ms x l m (mask-is ms x l z hs k m top few same em) b z' y' x' (multiplier-is ms x l z hs k m top few same em b small least .0) q ∙ ap (steppedOn ms x) e
 
 -- ---- a check of degree n, by its first n places
-module _ (n : ℕ) (s : List ℤ) (ms : List ℕ) (z y : List ℤ) (e : length ms ≡ n) (f : StepFits s ms z y) where
+module _ (n : ℕ) (s : List ℤ) (ms : List ℕ) (z y x : List ℤ) (e : length ms ≡ n) (f : StepFits s ms z y x) where
   all-members : take n ms ≡ ms
   all-members = take-exact n ms e
 
@@ -152,13 +165,14 @@ module _ (n : ℕ) (s : List ℤ) (ms : List ℕ) (z y : List ℤ) (e : length m
   all-offsets : take n y ≡ y
   all-offsets = take-exact n y (f .offsetsLong ∙ e)
 
-  pub part-asks : StepFits s (take n ms) (take n z) (take n y)
-  part-asks = subst (λ x. StepFits s x (take n z) (take n y)) (sym all-members)
-      (subst (λ x. StepFits s ms x (take n y)) (sym all-copies) (subst (λ x. StepFits s ms z x) (sym all-offsets) f))
+  pub part-asks : StepFits s (take n ms) (take n z) (take n y) x
+  part-asks = subst (λ l. StepFits s l (take n z) (take n y) x) (sym all-members)
+      (subst (λ l. StepFits s ms l (take n y) x) (sym all-copies) (subst (λ l. StepFits s ms z l x) (sym all-offsets) f))
 
-  pub part-left : (z' y' : List ℤ) (b m : ℕ) → steppedTo z' y' b m ≡ stepped (at s) (take n ms) (take n y)
-      → steppedTo (z' ++ drop n z) (y' ++ drop n y) b m ≡ stepped (at s) ms y
-  part-left z' y' b m h = stepped-eq (none-after z' z (f .copiesLong)) (none-after y' y (f .offsetsLong)) refl refl ∙ h ∙ ap₂ (stepped (at s)) all-members all-offsets
+  pub part-left : (z' y' x' : List ℤ) (b m : ℕ) → steppedTo z' y' x' b m ≡ stepped (at s) (take n ms) (take n y) x
+      → steppedTo (z' ++ drop n z) (y' ++ drop n y) x' b m ≡ stepped (at s) ms y x
+  part-left z' y' x' b m h = stepped-eq (none-after z' z (f .copiesLong)) (none-after y' y (f .offsetsLong)) refl refl refl ∙ h
+      ∙ ap₂ (λ l o. stepped (at s) l o x) all-members all-offsets
     where
-      none-after : (x l : List ℤ) → length l ≡ length ms → x ++ drop n l ≡ x
-      none-after x l k = ap (λ r. x ++ r) (drop-of-length-le l {i = n} (omega arith)) ∙ append-nil x
+      none-after : (u l : List ℤ) → length l ≡ length ms → u ++ drop n l ≡ u
+      none-after u l k = ap (λ r. u ++ r) (drop-of-length-le l {i = n} (omega arith)) ∙ append-nil u

@@ -18,19 +18,20 @@ abbrev pub placed : ℕ → ℕ → ℕ → Stepped → Passed → Passed
 placed j a e s p = record {
   copies = splice a e (s .copies) (p .copies);
   offsets = splice a e (s .offsets) (p .offsets);
+  sums = s .sums;
   multipliers = set (p .multipliers) j (s .multiplier);
   masks = set (p .masks) j (s .mask);
 }
 
 -- check j, whose edges are those from a to e, f the spins and ms the members of all checks
 unfoldable pub onePassed : (ℕ → ℤ) → List ℕ → ℕ → ℕ → ℕ → Passed → Passed
-onePassed f ms j a e p = placed j a e (stepped f (part a e ms) (part a e (p .offsets))) p
+onePassed f ms j a e p = placed j a e (stepped f (part a e ms) (part a e (p .offsets)) (p .sums)) p
 
-pub record OneFits (j a e : ℕ) (s : List ℤ) (ms : List ℕ) (z y : List ℤ) (bs ks : List ℕ) : Type 0 where
+pub record OneFits (j a e : ℕ) (s : List ℤ) (ms : List ℕ) (z y x : List ℤ) (bs ks : List ℕ) : Type 0 where
   pub ordered : a ≤ e
   pub membersEnd : e ≤ length ms
   pub copiesEnd : e ≤ length z
   pub offsetsEnd : e ≤ length y
   pub multiplierThere : j < length bs
   pub maskThere : j < length ks
-  pub step : StepFits s (part a e ms) (part a e z) (part a e y)
+  pub step : StepFits s (part a e ms) (part a e z) (part a e y) x

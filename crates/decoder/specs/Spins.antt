@@ -1,25 +1,38 @@
--- What working out the spins asks of its caller (document 01, "One round", step 1). Definitions only. Assumes nothing.
+-- The spins of a round, from the sums that the run carries (document 01, "One round", step 1). Definitions only. Assumes nothing.
 use mathlib.Core.Path.{_≡_}
 use mathlib.Core.List.{List}
-use Prim.Native.Nat.{ℕ, _≤_, _<_}
+use Prim.Native.Nat.{ℕ, _≤_}
 use lib.ListN.{length, getD}
-use lib.IntN.{ℤ}
-use Rattle.rules.specs.Limits.{unit, maxBits, maxBitDegree, maxEdges, frameLimit, offsetLimit}
+use lib.IntN.{ℤ, _+ℤ_}
+use Rattle.integers.specs.Clip.{clipZ}
 use Rattle.integers.specs.Sum.{AllWithin}
-use Rattle.rules.specs.Table.{degreeOf}
-use Rattle.rules.specs.Sound.{Below}
+use Rattle.rules.specs.Limits.{unit, frameLimit, sumLimit}
+use Rattle.rules.specs.Table.{at}
+use Rattle.rules.specs.Round.{divided, firstOf}
+use Rattle.rules.specs.Buffers.{zeros}
 
--- n bits with frame l, edges at the members ms with copies z and offsets y before round 1,024 at the latest, and the bits' degrees ds
-pub record SpinsFit (n : ℕ) (l : List ℤ) (ms ds : List ℕ) (z y : List ℤ) : Type 0 where
-  pub few : n ≤ maxBits
+-- n bits with frame l, their degrees ds and their sums x
+pub record SpinsFit (n : ℕ) (l : List ℤ) (ds : List ℕ) (x : List ℤ) : Type 0 where
   pub size : length l ≡ n
   pub frame : AllWithin frameLimit l
-  pub edges : length ms ≤ maxEdges
-  pub below : Below n ms
-  pub copiesLong : length z ≡ length ms
-  pub offsetsLong : length y ≡ length ms
-  pub copies : AllWithin unit z
-  pub offsets : AllWithin offsetLimit y
+  pub sumsLong : length x ≡ n
+  pub sums : AllWithin sumLimit x
   pub room : n ≤ length ds
-  pub degrees : (i : ℕ) → i < n → getD ds i 0 ≡ degreeOf i ms
-  pub standing : (i : ℕ) → i < n → (1 ≤ degreeOf i ms) × (degreeOf i ms ≤ maxBitDegree)
+
+-- "Each bit's total is its frame number plus the sum"
+abbrev pub totalsOf : List ℤ → List ℤ → List ℤ
+totalsOf l x = firstOf (length x) (λ i. at l i +ℤ at x i)
+
+-- what dividing n totals t by the degrees ds asks
+pub record TotalsFit (n : ℕ) (t : List ℤ) (ds : List ℕ) : Type 0 where
+  pub totals : n ≤ length t
+  pub degrees : n ≤ length ds
+
+-- bit i's total over its degree, from the lists of both
+unfoldable pub quotientAt : List ℤ → List ℕ → ℕ → ℤ
+quotientAt t ds i = divided (at t i) (getD ds i 0)
+
+-- the n spins, and zeros for what the pass adds to the sums
+pub record Spun (n : ℕ) (l : List ℤ) (ds : List ℕ) (x s' x' : List ℤ) : Type 0 where
+  pub spins : s' ≡ firstOf n (λ i. clipZ unit (divided (at l i +ℤ at x i) (getD ds i 0)))
+  pub sums : x' ≡ zeros n

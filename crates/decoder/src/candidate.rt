@@ -1,5 +1,6 @@
 // The candidate of a round (document 01, "One round", step 4): whether there is one, and whether it meets all checks.
-use super::common::COMMON_DEGREE;
+use super::common::DEGREE_6;
+use super::common::DEGREE_8;
 use spin::all_decided;
 ghost use mathlib.Core.Path.{_≡_};
 ghost use lib.ListN.{length};
@@ -36,13 +37,16 @@ fn is_odd_of(members: &[u16], spins: &[i32]) -> bool
     odd
 }
 
-// The same, with the common degree by itself.
+// The same, with the common degrees by themselves.
 fn is_odd(members: &[u16], spins: &[i32]) -> bool
     requires { ⌜ Below (length (now spins)) (now members) ⌝ }
     ensures { λ r. ⌜ r ≡ odd (bitsAt (negatives (now (spins .entry))) (now (members .entry))) ⌝ }
 {
-    if members.len() == COMMON_DEGREE {
-        return is_odd_of(&members[..COMMON_DEGREE], spins);
+    if members.len() == DEGREE_6 {
+        return is_odd_of(&members[..DEGREE_6], spins);
+    }
+    if members.len() == DEGREE_8 {
+        return is_odd_of(&members[..DEGREE_8], spins);
     }
     is_odd_of(members, spins)
 }
@@ -53,12 +57,13 @@ fn all_even(starts: &[u16], members: &[u16], spins: &[i32]) -> bool
     ensures { λ r. ⌜ r ≡ meets (negatives (now (spins .entry))) (checksFrom (now (starts .entry)) (now (members .entry))) ⌝ }
 {
     let mut j: usize = 0;
+    let mut a: usize = 0;
     while j + 1 < starts.len() {
-        let a = starts[j] as usize;
         let e = starts[j + 1] as usize;
         if is_odd(&members[a..e], spins) {
             return false;
         }
+        a = e;
         j += 1;
     }
     true

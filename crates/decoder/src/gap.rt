@@ -1,5 +1,5 @@
 // The gap of a round's multipliers, scale 1 (document 01, "Certificates"): reduced numbers, bound and agreement.
-use super::common::COMMON_DEGREE;
+use super::common::DEGREE_6;
 use limits::MAX_BITS;
 ghost use mathlib.Core.Path.{_≡_};
 ghost use mathlib.Core.List.{[]};
@@ -51,8 +51,8 @@ fn add_row(members: &[u16], b: u32, mask: u32, numbers: &mut [i64])
     requires { ⌜ RowFits b (now members) (now numbers) ⌝ }
     ensures { λ _. ⌜ now (numbers .exit) ≡ scatterRow (rowOf (now (members .entry)) b mask) (now (numbers .entry)) ⌝ }
 {
-    if members.len() == COMMON_DEGREE {
-        add_row_of(&members[..COMMON_DEGREE], b, mask, numbers);
+    if members.len() == DEGREE_6 {
+        add_row_of(&members[..DEGREE_6], b, mask, numbers);
         return;
     }
     add_row_of(members, b, mask, numbers);

@@ -32,12 +32,13 @@ pub(crate) fn run_rounds(
     spins: &mut [i32],
     copies: &mut [i32],
     offsets: &mut [i32],
+    sums: &mut [i32],
     multipliers: &mut [u32],
     masks: &mut [u32],
 ) -> Record
     requires { ⌜ Given (length (now frame)) (now frame) (now starts) (now members) (now degrees) ⌝ }
-    requires { ⌜ Ready (now frame) (now starts) (now members) (loopIn run (now spins) (now copies) (now offsets) (now multipliers) (now masks)) ⌝ }
-    ensures { λ r. ⌜ LoopBecomes (roundsFrom wanted (now (frame .entry)) (now (starts .entry)) (now (members .entry))) run r spins copies offsets multipliers masks ⌝ }
+    requires { ⌜ Ready (now frame) (now starts) (now members) (loopIn run (now spins) (now copies) (now offsets) (now sums) (now multipliers) (now masks)) ⌝ }
+    ensures { λ r. ⌜ LoopBecomes (roundsFrom wanted (now (frame .entry)) (now (starts .entry)) (now (members .entry))) run r spins copies offsets sums multipliers masks ⌝ }
 {
     let mut at = run;
     let mut k = wanted;
@@ -51,6 +52,7 @@ pub(crate) fn run_rounds(
             spins,
             copies,
             offsets,
+            sums,
             multipliers,
             masks,
         );

@@ -47,12 +47,13 @@ pub fn rounds(
     spins: &mut [i32],
     copies: &mut [i32],
     offsets: &mut [i32],
+    sums: &mut [i32],
     multipliers: &mut [u32],
     masks: &mut [u32],
     word: &mut [u8],
     certificate: &mut [u8],
 ) -> Called
-    ensures { λ r. ⌜ CallBecomes (rule.call (now (code .entry)) (now (frame .entry)) wanted) run r (slices spins copies offsets multipliers masks word certificate) ⌝ }
+    ensures { λ r. ⌜ CallBecomes (rule.call (now (code .entry)) (now (frame .entry)) wanted) run r (slices spins copies offsets sums multipliers masks word certificate) ⌝ }
 {
     let mut starts = [0u16; MAX_CHECKS + 1];
     let mut members = [0u16; MAX_EDGES];
@@ -71,6 +72,7 @@ pub fn rounds(
         lent,
         copies,
         offsets,
+        sums,
         &mut starts,
         &mut members,
     );
@@ -96,6 +98,7 @@ pub fn rounds(
                 spins,
                 copies,
                 offsets,
+                sums,
                 multipliers,
                 masks,
                 word,

@@ -17,13 +17,20 @@ fn pass_one(
     spins: &[i32],
     copies: &mut [i32],
     offsets: &mut [i32],
+    sums: &mut [i32],
     multipliers: &mut [u32],
     masks: &mut [u32],
 )
-    requires { ⌜ OneFits j a e (now spins) (now members) (now copies) (now offsets) (now multipliers) (now masks) ⌝ }
-    ensures { λ _. ⌜ PassBecomes (onePassed (at (now (spins .entry))) (now (members .entry)) j a e) copies offsets multipliers masks ⌝ }
+    requires { ⌜ OneFits j a e (now spins) (now members) (now copies) (now offsets) (now sums) (now multipliers) (now masks) ⌝ }
+    ensures { λ _. ⌜ PassBecomes (onePassed (at (now (spins .entry))) (now (members .entry)) j a e) copies offsets sums multipliers masks ⌝ }
 {
-    let entry = step(spins, &members[a..e], &mut copies[a..e], &mut offsets[a..e]);
+    let entry = step(
+        spins,
+        &members[a..e],
+        &mut copies[a..e],
+        &mut offsets[a..e],
+        sums,
+    );
     store(multipliers, j, entry.multiplier);
     store(masks, j, entry.mask);
 }
@@ -36,18 +43,30 @@ pub(crate) fn pass(
     spins: &[i32],
     copies: &mut [i32],
     offsets: &mut [i32],
+    sums: &mut [i32],
     multipliers: &mut [u32],
     masks: &mut [u32],
 )
-    requires { ⌜ PassFits (length (now spins)) (now starts) (now members) (now spins) (now copies) (now offsets) (now multipliers) (now masks) ⌝ }
-    ensures { λ _. ⌜ PassBecomes (λ p. passed (at (now (spins .entry))) (checksFrom (now (starts .entry)) (now (members .entry))) (p .offsets))
-        copies offsets multipliers masks ⌝ }
+    requires { ⌜ PassFits (length (now spins)) (now starts) (now members) (now spins) (now copies) (now offsets) (now sums) (now multipliers) (now masks) ⌝ }
+    ensures { λ _. ⌜ PassBecomes (λ p. passed (at (now (spins .entry))) (checksFrom (now (starts .entry)) (now (members .entry))) (p .offsets) (p .sums))
+        copies offsets sums multipliers masks ⌝ }
 {
     let mut j: usize = 0;
     let mut a: usize = 0;
     while j < masks.len() {
         let e = starts[j + 1] as usize;
-        pass_one(j, a, e, members, spins, copies, offsets, multipliers, masks);
+        pass_one(
+            j,
+            a,
+            e,
+            members,
+            spins,
+            copies,
+            offsets,
+            sums,
+            multipliers,
+            masks,
+        );
         a = e;
         j += 1;
     }

@@ -64,15 +64,16 @@ pub(crate) fn perform(
     spins: &mut [i32],
     copies: &mut [i32],
     offsets: &mut [i32],
+    sums: &mut [i32],
     multipliers: &mut [u32],
     masks: &mut [u32],
     word: &mut [u8],
     certificate: &mut [u8],
 ) -> Record
     requires { ⌜ PartsFit n m e (now frame) (now starts) (now members)
-        (runIn run (lent (now spins) (now copies) (now offsets) (now multipliers) (now masks) (now word) (now certificate))) ⌝ }
+        (runIn run (lent (now spins) (now copies) (now offsets) (now sums) (now multipliers) (now masks) (now word) (now certificate))) ⌝ }
     ensures { λ r. ⌜ RunBecomes (iterate (frontTable n m e (now (starts .entry)) (now (members .entry))) (now (frame .entry)) wanted)
-        run r (slices spins copies offsets multipliers masks word certificate) ⌝ }
+        run r (slices spins copies offsets sums multipliers masks word certificate) ⌝ }
 {
     let end = m + 1;
     let degrees = count_degrees(&members[..e]);
@@ -86,6 +87,7 @@ pub(crate) fn perform(
         &mut spins[..n],
         &mut copies[..e],
         &mut offsets[..e],
+        &mut sums[..n],
         &mut multipliers[..m],
         &mut masks[..m],
     );

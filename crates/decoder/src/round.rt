@@ -43,15 +43,25 @@ pub(crate) fn do_round(
     spins: &mut [i32],
     copies: &mut [i32],
     offsets: &mut [i32],
+    sums: &mut [i32],
     multipliers: &mut [u32],
     masks: &mut [u32],
 ) -> Record
     requires { ⌜ Given (length (now frame)) (now frame) (now starts) (now members) (now degrees) ⌝ }
-    requires { ⌜ Ready (now frame) (now starts) (now members) (loopIn run (now spins) (now copies) (now offsets) (now multipliers) (now masks)) ⌝ }
-    ensures { λ r. ⌜ LoopBecomes (roundsFrom 1 (now (frame .entry)) (now (starts .entry)) (now (members .entry))) run r spins copies offsets multipliers masks ⌝ }
+    requires { ⌜ Ready (now frame) (now starts) (now members) (loopIn run (now spins) (now copies) (now offsets) (now sums) (now multipliers) (now masks)) ⌝ }
+    ensures { λ r. ⌜ LoopBecomes (roundsFrom 1 (now (frame .entry)) (now (starts .entry)) (now (members .entry))) run r spins copies offsets sums multipliers masks ⌝ }
 {
-    find_spins(frame, members, degrees, copies, offsets, spins);
-    pass(starts, members, spins, copies, offsets, multipliers, masks);
+    find_spins(frame, degrees, sums, spins);
+    pass(
+        starts,
+        members,
+        spins,
+        copies,
+        offsets,
+        sums,
+        multipliers,
+        masks,
+    );
     let what = find_word(frame, starts, members, spins, multipliers, masks);
     record_after(run, what)
 }

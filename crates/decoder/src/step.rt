@@ -1,13 +1,16 @@
 // One check in a round: its cut, its multiplier, its new copies and its new offsets.
-use super::common::COMMON_DEGREE;
+use super::common::DEGREE_6;
+use super::common::DEGREE_8;
 use super::mask::holds;
 use super::multiplier::least_multiplier;
 use super::store::store_signed;
 use cut::clip;
 ghost use mathlib.Core.Path.{_≡_};
-ghost use Prim.Native.Nat.{_≤_};
-ghost use lib.ListN.{length};
+ghost use Prim.Native.Nat.{_≤_, _<_};
+ghost use lib.ListN.{length, set};
 ghost use lib.IntN.{_+ℤ_};
+ghost use mir.Syntax.{w32};
+ghost use mir.Val.{SFits};
 ghost use Rattle.integers.specs.Linear.{Within};
 ghost use Rattle.integers.specs.Sum.{AllWithin};
 ghost use Rattle.rules.specs.Limits.{unit, offsetLimit, stepLimit, valueLimit};
@@ -16,7 +19,7 @@ ghost use Rattle.rules.specs.Sound.{Below};
 ghost use Rattle.rules.specs.Step.{move};
 ghost use Rattle.rules.specs.Round.{values};
 ghost use Rattle.decoder.specs.Lifted.{Rising, MultiplierOf};
-ghost use Rattle.decoder.specs.Stepped.{steppedTo, stepped, newCopies, newOffsets, StepFits, MoveFits};
+ghost use Rattle.decoder.specs.Stepped.{steppedTo, stepped, StepFits, MoveFits, Moved};
 
 // What a check adds to the round's multipliers and masks: 0 and 0 without a cut.
 pub struct Entry {
@@ -67,10 +70,26 @@ fn moved(v: i32, t: bool, b: u32) -> i32
     clip(v - b as i32)
 }
 
-// The new copies z, and y = v - z in the place of v.
-fn move_all(mask: u32, b: u32, copies: &mut [i32], offsets: &mut [i32])
-    requires { ⌜ MoveFits b (now copies) (now offsets) ⌝ }
-    ensures { λ _. ⌜ (now (copies .exit) ≡ newCopies b mask (now (offsets .entry))) × (now (offsets .exit) ≡ newOffsets b mask (now (offsets .entry))) ⌝ }
+// A member's sum with one more edge's z - y.
+fn add_at(sums: &mut [i32], member: u16, weight: i32)
+    requires { ⌜ (member < length (now sums)) × SFits w32 (at (now sums) member +ℤ weight) ⌝ }
+    ensures { λ _. ⌜ now (sums .exit) ≡ set (now (sums .entry)) member (at (now (sums .entry)) member +ℤ weight) ⌝ }
+{
+    let m = member as usize;
+    sums[m] += weight;
+}
+
+// The new copies z, and y = v - z in the place of v; z - y is added to the sum of the member.
+fn move_all(
+    members: &[u16],
+    mask: u32,
+    b: u32,
+    copies: &mut [i32],
+    offsets: &mut [i32],
+    sums: &mut [i32],
+)
+    requires { ⌜ MoveFits b (now members) (now copies) (now offsets) (now sums) ⌝ }
+    ensures { λ _. ⌜ Moved b mask (now (members .entry)) (now (offsets .entry)) (now (sums .entry)) (now (copies .exit)) (now (offsets .exit)) (now (sums .exit)) ⌝ }
 {
     let mut i = 0;
     while i < offsets.len() {
@@ -79,41 +98,64 @@ fn move_all(mask: u32, b: u32, copies: &mut [i32], offsets: &mut [i32])
         let y = v - z;
         store_signed(copies, i, z);
         store_signed(offsets, i, y);
+        add_at(sums, members[i], z - y);
         i += 1;
     }
 }
 
 // "On each check, v = spin + y per edge, and the cut search runs on v clipped." Without a cut the
 // multiplier is 0, and the new copies are v clipped. The heights stand in the copies' place until then.
-fn step_of(spins: &[i32], members: &[u16], copies: &mut [i32], offsets: &mut [i32]) -> Entry
-    requires { ⌜ StepFits (now spins) (now members) (now copies) (now offsets) ⌝ }
-    ensures { λ r. ⌜ steppedTo (now (copies .exit)) (now (offsets .exit)) (r .multiplier) (r .mask)
-        ≡ stepped (at (now (spins .entry))) (now (members .entry)) (now (offsets .entry)) ⌝ }
+fn step_of(
+    spins: &[i32],
+    members: &[u16],
+    copies: &mut [i32],
+    offsets: &mut [i32],
+    sums: &mut [i32],
+) -> Entry
+    requires { ⌜ StepFits (now spins) (now members) (now copies) (now offsets) (now sums) ⌝ }
+    ensures { λ r. ⌜ steppedTo (now (copies .exit)) (now (offsets .exit)) (now (sums .exit)) (r .multiplier) (r .mask)
+        ≡ stepped (at (now (spins .entry))) (now (members .entry)) (now (offsets .entry)) (now (sums .entry)) ⌝ }
 {
     add_spins(spins, members, offsets);
     let found = cut::see(offsets, copies);
     let mask = found.mask;
     let b = multiplier_for(mask, found.top, copies);
-    move_all(mask, b, copies, offsets);
+    move_all(members, mask, b, copies, offsets, sums);
     Entry {
         multiplier: b,
         mask,
     }
 }
 
-// The same, with the common degree by itself.
-pub(crate) fn step(spins: &[i32], members: &[u16], copies: &mut [i32], offsets: &mut [i32]) -> Entry
-    requires { ⌜ StepFits (now spins) (now members) (now copies) (now offsets) ⌝ }
-    ensures { λ r. ⌜ steppedTo (now (copies .exit)) (now (offsets .exit)) (r .multiplier) (r .mask)
-        ≡ stepped (at (now (spins .entry))) (now (members .entry)) (now (offsets .entry)) ⌝ }
+// The same, with the common degrees by themselves.
+pub(crate) fn step(
+    spins: &[i32],
+    members: &[u16],
+    copies: &mut [i32],
+    offsets: &mut [i32],
+    sums: &mut [i32],
+) -> Entry
+    requires { ⌜ StepFits (now spins) (now members) (now copies) (now offsets) (now sums) ⌝ }
+    ensures { λ r. ⌜ steppedTo (now (copies .exit)) (now (offsets .exit)) (now (sums .exit)) (r .multiplier) (r .mask)
+        ≡ stepped (at (now (spins .entry))) (now (members .entry)) (now (offsets .entry)) (now (sums .entry)) ⌝ }
 {
-    if members.len() == COMMON_DEGREE {
+    if members.len() == DEGREE_6 {
         return step_of(
             spins,
-            &members[..COMMON_DEGREE],
-            &mut copies[..COMMON_DEGREE],
-            &mut offsets[..COMMON_DEGREE],
+            &members[..DEGREE_6],
+            &mut copies[..DEGREE_6],
+            &mut offsets[..DEGREE_6],
+            sums,
         );
     }
-    step_of(spins, members, copies, offsets)
+    if members.len() == DEGREE_8 {
+        return step_of(
+            spins,
+            &members[..DEGREE_8],
+            &mut copies[..DEGREE_8],
+            &mut offsets[..DEGREE_8],
+            sums,
+        );
+    }
+    step_of(spins, members, copies, offsets, sums)
 }

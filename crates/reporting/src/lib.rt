@@ -50,9 +50,10 @@ fn decode(code: &[u8], frame: &[i16], word: &mut [u8], certificate: &mut [u8]) -
     let mut spins = [0i32; MAX_BITS];
     let mut copies = [0i32; MAX_EDGES];
     let mut offsets = [0i32; MAX_EDGES];
+    let mut sums = [0i32; MAX_BITS];
     let mut multipliers = [0u32; MAX_CHECKS];
     let mut masks = [0u32; MAX_CHECKS];
-    let started = run::start(code, &mut copies, &mut offsets);
+    let started = run::start(code, &mut copies, &mut offsets, &mut sums);
     match started {
         Started::Refused(k) => Called {
             outcome: Outcome::Refused(k),
@@ -66,6 +67,7 @@ fn decode(code: &[u8], frame: &[i16], word: &mut [u8], certificate: &mut [u8]) -
             &mut spins,
             &mut copies,
             &mut offsets,
+            &mut sums,
             &mut multipliers,
             &mut masks,
             word,

@@ -8,8 +8,8 @@ use native.Mathlib.Omega.{arith}
 use native.Mathlib.Nat.{le-of-suc-le-suc, le-refl, le-trans, add-sub-of-le}
 use lib.Dec.{leb}
 use borrow.Author.Tests.{leb-true, le-leb}
-use lib.ListN.{length, take, drop, length-drop, length-append, take-append-drop, drop-of-length-le}
-use lib.Seq.{length-take-le, take-all, take-at, drop-drop}
+use lib.ListN.{length, take, drop, replicate, length-drop, length-append, take-append-drop, drop-of-length-le}
+use lib.Seq.{length-take-le, take-all, take-at, drop-drop, drop-length}
 use Rattle.rules.specs.Buffers.{Buffer, by-name, Elem, Buffers, the, each, every, Lengths, lengthsOf, Part, fits, partOf, over, overAll, Writes, overBy, write}
 use Rattle.rules.proofs.Basics.{and-first, and-rest}
 
@@ -20,12 +20,25 @@ over-part zero l = refl
 over-part (suc k) [] = refl
 over-part (suc k) (x ∷ l) = ap (λ z. x ∷ z) (over-part k l)
 
+-- zeros, or any one number: a part of them
+pub take-replicate : {A : Type 0} (n k : ℕ) (a : A) → n ≤ k → take n (replicate k a) ≡ replicate n a
+take-replicate zero k a h = refl
+take-replicate (suc n) zero a h = absurd (omega arith)
+take-replicate (suc n) (suc k) a h = ap (λ l. a ∷ l) (take-replicate n k a (le-of-suc-le-suc h))
+
 -- what is written is read back
 pub take-over : {A : Type 0} (k : ℕ) (new old : List A) → length new ≡ k → take k (over new old) ≡ new
 take-over k new old e = take-at new (drop (length new) old) k e
 
 pub over-length : {A : Type 0} (new old : List A) → length new ≤ length old → length (over new old) ≡ length old
 over-length new old h = length-append new (drop (length new) old) ∙ ap (λ n. length new + n) (length-drop (length new) old) ∙ add-sub-of-le h
+
+-- as long as what was there
+pub over-exact : {A : Type 0} (new old : List A) → length new ≡ length old → over new old ≡ new
+over-exact new old e = ap (λ n. new ++ drop n old) e ∙ ap (λ l. new ++ l) (drop-length old) ∙ append-nil new
+
+pub take-exact : {A : Type 0} (n : ℕ) (l : List A) → length l ≡ n → take n l ≡ l
+take-exact n l e = take-all n l (omega arith)
 
 -- writing to a part is the part of writing to the whole
 pub over-take : {A : Type 0} (n : ℕ) (new old : List A) → length new ≤ n → over new (take n old) ≡ take n (over new old)

@@ -1,6 +1,6 @@
 -- Empty checks (document 02, #106): met by every word, cut by no point, without a multiplier, refused in a certificate, and so never in a bound.
 -- A round is as on the table without them. Assumes nothing.
-use mathlib.Core.Path.{_≡_, refl, sym, _∙_, ap, subst}
+use mathlib.Core.Path.{_≡_, refl, sym, _∙_, ap, ap₂, subst}
 use mathlib.Core.Bool.{Bool, true, false, not, _&&_, false≢true}
 use mathlib.Core.Logic.{_↔_}
 use mathlib.Core.List.{List, [], _∷_, _++_}
@@ -19,7 +19,7 @@ use Rattle.rules.specs.CodeFile.{inRange}
 use Rattle.rules.specs.Cut.{cut, keep}
 use Rattle.rules.specs.Step.{Entry, inactive, active, Step, step}
 use Rattle.rules.specs.Bound.{Row, rowsOf, gap}
-use Rattle.rules.specs.Round.{State, spin, values, pass, copiesIn, offsetsIn, entriesIn, candidate, isZero, certify, roundBy, round}
+use Rattle.rules.specs.Round.{State, spin, values, pass, copiesIn, offsetsIn, entriesIn, candidate, isZero, certify, sumsOf, roundBy, round}
 use Rattle.rules.specs.Certificate.{Item, membersAt, follows, onItem, itemsOf, rowsAt}
 use Rattle.rules.specs.Judge.{Verdict}
 use Rattle.rules.specs.Empty.{filled, withoutEmpty, atFilled, SameRound, namesEmpty, AllFilled}
@@ -124,6 +124,7 @@ unfolding round
 round-filled t l s = subst (λ es. SameRound t (round t l s) (by es)) (sym (edges-filled (t .checks))) (record {
   spins = refl;
   state = state-filled unit f (t .checks) (s .offsets);
+  sums = ap₂ (sumsOf (t .bits)) (edges-filled (t .checks)) (state-filled unit f (t .checks) (s .offsets));
   entries = entries-filled unit f (t .checks) (s .offsets);
   word = ap (λ rs. certify (withoutEmpty t) l rs (candidate (t .bits) f)) (rows-filled unit f (t .checks) (s .offsets))
       ∙ certify-filled t l (rowsOf (t .checks) (entriesIn (stepsIn t l s))) (candidate (t .bits) f);

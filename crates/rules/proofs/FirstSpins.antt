@@ -22,21 +22,11 @@ use Rattle.rules.specs.Demand3.{FreshStart}
 use Rattle.rules.proofs.DividedLaws.{divided-zero}
 use Rattle.rules.proofs.Tables.{file-sound}
 use Rattle.rules.proofs.RoundSizes.{first-at}
-use Rattle.rules.proofs.Fresh.{started-state}
-
--- copies and offsets of 0 add nothing to a total
-gather-none : (i : ℕ) (ms : List ℕ) (e : ℕ) → gather i ms (minus (zeros e) (zeros e)) ≡ pos 0
-gather-none i ms zero = refl
-gather-none i [] (suc e) = refl
-gather-none i (m ∷ ms) (suc e) = ap₂ _+ℤ_ (nothing (eqb m i)) (gather-none i ms e)
-  where
-    nothing : (b : Bool) → pick b (pos 0) ≡ pos 0
-    nothing true = refl
-    nothing false = refl
+use Rattle.rules.proofs.Fresh.{zero-sum, started-state}
 
 first-total : (ms : List ℕ) (l : List ℤ) (e i : ℕ) → total ms l (record { copies = zeros e; offsets = zeros e }) i ≡ at l i
 unfolding total
-first-total ms l e i = ap (λ x. at l i +ℤ x) (gather-none i ms e) ∙ none-added (at l i)
+first-total ms l e i = ap (λ x. at l i +ℤ x) (zero-sum i ms e) ∙ none-added (at l i)
   where
     none-added : (x : ℤ) → x +ℤ pos 0 ≡ x
     none-added x = simp lin (omega arithZ)

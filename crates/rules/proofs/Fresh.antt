@@ -6,19 +6,22 @@ use mathlib.Core.List.{List, [], _∷_}
 use Prim.Native.Nat.{ℕ, zero, suc, _*_, _≤_}
 use native.Mathlib.Omega.{arith}
 use native.Mathlib.Nat.{le-trans}
-use lib.Dec.{leb}
+use lib.Dec.{leb, eqb}
 use borrow.Author.Tests.{leb-true, le-leb}
 use lib.ListN.{length, take, replicate, length-take, length-replicate}
-use lib.IntN.{ℤ, pos}
+use lib.IntN.{ℤ, pos, _+ℤ_}
 use Rattle.integers.specs.Order.{within-zero}
-use Rattle.integers.specs.Sum.{AllWithin}
+use Rattle.integers.specs.Sum.{AllWithin, pick}
 use Rattle.rules.specs.Limits.{unit, offsetPerRound}
 use Rattle.rules.specs.Refusal.{gives, must, bufferShort}
-use Rattle.rules.specs.Table.{Table, edgesOf}
+use Rattle.rules.specs.Table.{Table, edges, edgesOf}
 use Rattle.rules.specs.Parity.{turns}
 use Rattle.rules.specs.CodeFile.{codeFile}
+use Rattle.rules.specs.Step.{minus}
+use Rattle.rules.specs.Bound.{gather}
+use Rattle.rules.specs.Round.{firstOf, sumsOf}
 use Rattle.rules.specs.Buffers.{Buffer, nought, Buffers, the, Lengths, lengthsOf, needs, partOf, over, overAll, write, zeroed, zeros, fitsStart, zeroing}
-use Rattle.rules.specs.Run.{stateIn, startBy, start, fresh, Safe}
+use Rattle.rules.specs.Run.{stateIn, sumsIn, startBy, start, fresh, Safe}
 use Rattle.rules.specs.Calls.{Call, startOn, startedRun}
 use Rattle.rules.specs.Demand3.{FreshStart, AllLent}
 use Rattle.rules.proofs.Basics.{none≢some, some-inj}
@@ -57,10 +60,11 @@ fits-start t m n h e = true-every (λ x. not (zeroed x) || leb (needs t x) (n x)
     go x true p = le-leb (needs t x) (n x) (le-trans (room t m e x p) (h x))
     go x false p = refl
 
--- room for the copies and the offsets is room enough
-pub zero-room : (t : Table) (b : Buffers) → edgesOf t ≤ length (b .copies) → edgesOf t ≤ length (b .offsets) → fitsStart t (lengthsOf b) ≡ true
+-- room for copies, offsets and sums is room enough
+pub zero-room : (t : Table) (b : Buffers) → edgesOf t ≤ length (b .copies) → edgesOf t ≤ length (b .offsets) → t .bits ≤ length (b .sums) → fitsStart t (lengthsOf b) ≡ true
 unfolding fitsStart
-zero-room t b h k = ap₂ (λ x y. x && (y && true)) (le-leb (edgesOf t) (length (b .copies)) h) (le-leb (edgesOf t) (length (b .offsets)) k)
+zero-room t b h k i = ap₂ (λ x y. x && y) (le-leb (edgesOf t) (length (b .copies)) h)
+    (ap₂ (λ x y. x && (y && true)) (le-leb (edgesOf t) (length (b .offsets)) k) (le-leb (t .bits) (length (b .sums)) i))
 
 -- a start with room enough
 pub started-on : (file : List ℕ) (t : Table) (b : Buffers) → codeFile file ≡ gives t → fitsStart t (lengthsOf b) ≡ true
@@ -114,6 +118,10 @@ module _ (file : List ℕ) (t : Table) (b : Buffers) (f : FreshStart file t b) w
       front : (l : List ℤ) → take (edgesOf t) (over (replicate (edgesOf t) (pos 0)) l) ≡ replicate (edgesOf t) (pos 0)
       front l = take-over (edgesOf t) (replicate (edgesOf t) (pos 0)) l (length-replicate (edgesOf t) (pos 0))
 
+  -- and so are its sums
+  pub started-sums : sumsIn t (startedRun file b .buffers) ≡ zeros (t .bits)
+  started-sums = ap (λ s. sumsIn t (s .buffers)) at-start ∙ take-over (t .bits) (replicate (t .bits) (pos 0)) (b .sums) (length-replicate (t .bits) (pos 0))
+
   -- its buffers are as long as they were
   pub started-lengths : lengthsOf (startedRun file b .buffers) ≡ lengthsOf b
   started-lengths = ap (λ s. lengthsOf (s .buffers)) at-start
@@ -124,10 +132,31 @@ pub zeros-within : (m e : ℕ) → AllWithin m (zeros e)
 zeros-within m zero = tt
 zeros-within m (suc e) = (within-zero m, zeros-within m e)
 
+-- copies and offsets of 0 add nothing to a total
+pub zero-sum : (i : ℕ) (ms : List ℕ) (e : ℕ) → gather i ms (minus (zeros e) (zeros e)) ≡ pos 0
+zero-sum i ms zero = refl
+zero-sum i [] (suc e) = refl
+zero-sum i (m ∷ ms) (suc e) = ap₂ _+ℤ_ (nothing (eqb m i)) (zero-sum i ms e)
+  where
+    nothing : (b : Bool) → pick b (pos 0) ≡ pos 0
+    nothing true = refl
+    nothing false = refl
+
+first-zeros : (n : ℕ) (f : ℕ → ℤ) → ((i : ℕ) → f i ≡ pos 0) → zeros n ≡ firstOf n f
+first-zeros zero f h = refl
+first-zeros (suc n) f h = ap₂ _∷_ (sym (h 0)) (first-zeros n (λ i. f (suc i)) (λ i. h (suc i)))
+
+-- so there zero is the true sum
+zeros-sums : (n : ℕ) (es : List ℕ) (e : ℕ) → zeros n ≡ sumsOf n es (record { copies = zeros e; offsets = zeros e })
+unfolding sumsOf
+zeros-sums n es e = first-zeros n _ (λ i. zero-sum i es e)
+
 pub started-safe : (file : List ℕ) (t : Table) (b : Buffers) → FreshStart file t b → Safe t (startedRun file b)
 started-safe file t b f = record {
   copies = subst (λ s. AllWithin unit (s .copies)) (sym (started-state file t b f)) (zeros-within unit (edgesOf t));
   offsets = subst (λ s. AllWithin (offsetPerRound * 0) (s .offsets)) (sym (started-state file t b f)) (zeros-within (offsetPerRound * 0) (edgesOf t));
+  sums = started-sums file t b f ∙ zeros-sums (t .bits) (edges (t .checks)) (edgesOf t)
+      ∙ ap (sumsOf (t .bits) (edges (t .checks))) (sym (started-state file t b f));
   early = λ e. omega arith;
 }
 
@@ -142,6 +171,7 @@ started-twin file t c a b f g = record {
   progress = refl;
   state = started-state file t b g ∙ ap₂ (λ z y. record { copies = z; offsets = y }) (zeros-turn (signs c (t .checks)) (edgesOf t)) (zeros-turn (signs c (t .checks)) (edgesOf t))
       ∙ ap (turnState c (t .checks)) (sym (started-state file t a f));
+  sums = started-sums file t b g ∙ zeros-turn c (t .bits) ∙ ap (turns c) (sym (started-sums file t a f));
   multipliers = λ h. absurd (omega arith);
   words = λ e. absurd (running≢certified e);
 }

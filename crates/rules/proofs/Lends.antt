@@ -8,7 +8,7 @@ use lib.ListN.{length}
 use lib.IntN.{ℤ}
 use Rattle.rules.specs.Limits.{frameLimit, roundLimit}
 use Rattle.rules.specs.Refusal.{Answer, refused, gives, must, frameLength, frameRange, askedTooMuch, bufferShort, runEnded, runDamaged}
-use Rattle.rules.specs.Table.{Table}
+use Rattle.rules.specs.Table.{Table, edges}
 use Rattle.rules.specs.CodeFile.{codeFile}
 use Rattle.rules.specs.Input.{eachWithin, onFrame}
 use Rattle.rules.specs.Round.{round}
@@ -18,7 +18,7 @@ use Rattle.rules.specs.Run.{isRunning, sound, admits, Called, refusedAt,
 use Rattle.rules.specs.Calls.{Call, lend, giveBack, lentCall, callList}
 use Rattle.rules.proofs.AnswerLaws.{must-false, must-gives}
 use Rattle.rules.proofs.BufferLaws.{part-trans, fits-part, lengths-part, over-same, past-lengths, over-parts}
-use Rattle.rules.proofs.RoundSizes.{round-sized, state-part, written-part}
+use Rattle.rules.proofs.RoundSizes.{round-sized, state-part, sums-part, written-part}
 use Rattle.rules.proofs.Runs.{coming, held-start, iterate-held}
 
 -- ---- lending, and a round
@@ -65,11 +65,12 @@ module _ (t : Table) (l : List ℤ) (n : Lengths) (h : Part (needs t) n) (k : �
       ∙ called-eq refl (run-eq refl (over-parts (needs t) n (iterate t l k r .buffers) (r .buffers) h p
       (iterate-held t l k (r .buffers) r (held-start t r (part-trans (needs t) n (lengthsOf (r .buffers)) h p)) .past)))
 
-  -- the same refusals, for the state read is the same
+  -- the same refusals, for the state and the sums read are the same
   admits-lend : admits t l k n (lend n r) ≡ admits t l k n r
   unfolding admits
-  admits-lend = ap (λ s. onFrame t l (must (leb k roundLimit) askedTooMuch (must (fits (needs t) n) bufferShort
-      (must (isRunning (r .progress .status)) runEnded (must (sound (r .progress .rounds) s) runDamaged (gives tt)))))) (state-part t n (r .buffers) h)
+  admits-lend = ap₂ (λ s x. onFrame t l (must (leb k roundLimit) askedTooMuch (must (fits (needs t) n) bufferShort
+      (must (isRunning (r .progress .status)) runEnded (must (sound (t .bits) (edges (t .checks)) (r .progress .rounds) s x) runDamaged (gives tt))))))
+      (state-part t n (r .buffers) h) (sums-part t n (r .buffers) h)
 
 -- parts that are too short: refused, whatever the run
 admits-short : (t : Table) (l : List ℤ) (k : ℕ) (n : Lengths) (r q : Run) → fits (needs t) n ≡ false → admits t l k n r ≡ admits t l k n q

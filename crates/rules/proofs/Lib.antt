@@ -27,6 +27,7 @@ pub mod BufferLaws
 pub mod StoreLaws
 pub mod FillLaws
 pub mod RoundSizes
+pub mod RangeLaws
 pub mod Runs
 pub mod Lends
 pub mod Twins
@@ -38,6 +39,7 @@ pub mod FirstSpins
 pub mod Counted
 pub mod Demand3
 pub mod ScatterLaws
+pub mod SumLaws
 pub mod BoundLaws
 pub mod ParityLaws
 pub mod AnnouncedLaws

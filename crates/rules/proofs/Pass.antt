@@ -4,7 +4,7 @@ use mathlib.Core.Bool.{true}
 use mathlib.Core.List.{List, [], _∷_, _++_}
 use Prim.Native.Nat.{ℕ, zero, suc, _+_, _^_, _≤_}
 use native.Mathlib.Nat.{le-add-right}
-use lib.ListN.{length, drop, length-append}
+use lib.ListN.{length, take, drop, length-append}
 use lib.IntN.{ℤ}
 use Rattle.integers.specs.Linear.{Within}
 use Rattle.integers.specs.Order.{within-wider, within-add}
@@ -18,6 +18,9 @@ use Rattle.rules.specs.Round.{State, spin, values, pass, copiesIn, offse
 use Rattle.rules.specs.Buffers.{multiplierOf}
 use Rattle.rules.proofs.Signs.{alike-sym, alike-trans, alike-length}
 use Rattle.rules.proofs.Steps.{Proper, Shape, step-shape}
+
+pub state-eq : {a b y z : List ℤ} → a ≡ b → y ≡ z → _≡_ {A = State} (record { copies = a; offsets = y }) (record { copies = b; offsets = z })
+state-eq p q = λ i. record { copies = p i; offsets = q i }
 
 pub values-alike : (f : ℕ → ℤ) (ms : List ℕ) (ys : List ℤ) → Alike ms (values f ms ys)
 values-alike f [] ys = tt
@@ -111,6 +114,16 @@ pub drop-within : (m k : ℕ) (ys : List ℤ) → AllWithin m ys → AllWithin m
 drop-within m zero ys h = h
 drop-within m (suc k) [] h = tt
 drop-within m (suc k) (y ∷ ys) h = drop-within m k ys (h .1)
+
+pub take-within : (m k : ℕ) (ys : List ℤ) → AllWithin m ys → AllWithin m (take k ys)
+take-within m zero ys h = tt
+take-within m (suc k) [] h = tt
+take-within m (suc k) (y ∷ ys) h = (h .0, take-within m k ys (h .1))
+
+-- a wider limit
+pub all-wider : (a b : ℕ) (xs : List ℤ) → a ≤ b → AllWithin a xs → AllWithin b xs
+all-wider a b [] h w = tt
+all-wider a b (x ∷ xs) h w = (within-wider a b x h (w .0), all-wider a b xs h (w .1))
 
 pub copies-within : (u : ℕ) (cs : List (List ℕ)) (ss : List Step) → AllLaid u cs ss → AllWithin u (copiesIn ss)
 copies-within u [] [] h = tt

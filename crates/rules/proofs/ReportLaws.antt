@@ -19,12 +19,12 @@ use Rattle.rules.specs.Parity.{agreement}
 use Rattle.rules.specs.Input.{eachWithin, onFrame, eachBit, onWord, bitsOf}
 use Rattle.rules.specs.Judge.{Verdict, judge}
 use Rattle.rules.specs.Buffers.{word, certificate, nought, Buffers, the, Lengths, lengthsOf, Part, needs, blank, partOf, over, write, zeroed, fitsStart, zeroing}
-use Rattle.rules.specs.Run.{Status, running, certified, spent, fresh, Run, stateIn, iterate, isRunning, sound, admits, Called, perform, callOn, callBy, call, start}
+use Rattle.rules.specs.Run.{Status, running, certified, spent, fresh, Run, iterate, isRunning, soundRun, admits, Called, perform, callOn, callBy, call, start}
 use Rattle.rules.specs.Calls.{lend, giveBack, lentCall, startedRun}
 use Rattle.rules.specs.Report.{refusedLine, certifiedLine, lineAt, lineAfter, lineBy, frameLine}
 use Rattle.rules.proofs.Basics.{and-both}
 use Rattle.rules.proofs.AnswerLaws.{must-gives, then-of}
-use Rattle.rules.proofs.BufferLaws.{take-over, the-each, buffers-eq, true-every, part-refl, part-fits, lengths-part, past-lengths, write-past, write-part}
+use Rattle.rules.proofs.BufferLaws.{take-replicate, take-over, the-each, buffers-eq, true-every, part-refl, part-fits, lengths-part, past-lengths, write-past, write-part}
 use Rattle.rules.proofs.Runs.{held-start, iterate-held}
 use Rattle.rules.proofs.Lends.{lent-call}
 use Rattle.rules.proofs.Fresh.{zeroing-small, started-on}
@@ -69,7 +69,7 @@ module _ (file : List ℕ) (t : Table) (isFile : codeFile file ≡ gives t) wher
   long-call l v r h =
       ap (callBy l v r) isFile
       ∙ ap (λ x. perform t l v r (onFrame t l (must (leb v roundLimit) askedTooMuch (must x bufferShort
-      (must (isRunning (r .progress .status)) runEnded (must (sound (r .progress .rounds) (stateIn t (r .buffers))) runDamaged (gives tt)))))))
+      (must (isRunning (r .progress .status)) runEnded (must (soundRun t r) runDamaged (gives tt)))))))
       (part-fits (needs t) (lengthsOf (r .buffers)) h ∙ sym (part-fits (needs t) (needs t) (part-refl (needs t))))
       ∙ sym (lent-call file t l (record { wanted = v; lent = needs t }) r isFile h)
 
@@ -90,11 +90,6 @@ line-back t l d r e = go (d .answer)
     go (gives spent) = refl
 
 -- the part of a blank buffer is blank
-take-replicate : {A : Type 0} (n k : ℕ) (a : A) → n ≤ k → take n (replicate k a) ≡ replicate n a
-take-replicate zero k a h = refl
-take-replicate (suc n) zero a h = absurd (omega arith)
-take-replicate (suc n) (suc k) a h = ap (λ l. a ∷ l) (take-replicate n k a (le-of-suc-le-suc h))
-
 blank-part : (n g : Lengths) → Part n g → partOf n (blank g) ≡ blank n
 blank-part n g h = buffers-eq (λ x. the-each (λ x. take (n x) (the x (blank g))) x ∙ ap (take (n x)) (the-each (λ x. replicate (g x) (nought x)) x)
     ∙ take-replicate (n x) (g x) (nought x) (h x) ∙ sym (the-each (λ x. replicate (n x) (nought x)) x))

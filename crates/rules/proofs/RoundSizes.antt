@@ -14,12 +14,12 @@ use Rattle.rules.specs.Table.{Table, edgesOf, checksOf, at}
 use Rattle.rules.specs.Parity.{meets}
 use Rattle.rules.specs.Step.{Entry}
 use Rattle.rules.specs.Bound.{Row, rowsOf, gap}
-use Rattle.rules.specs.Round.{State, entriesIn, bitOf, join, candidate, isZero, certify, firstOf, Round, round}
+use Rattle.rules.specs.Round.{State, entriesIn, bitOf, join, candidate, isZero, certify, firstOf, sumsOf, Round, round}
 use Rattle.rules.specs.Certificate.{cutsIn, certificateOf}
-use Rattle.rules.specs.Buffers.{by-name, copies, offsets, Buffers, Lengths, lengthsOf, Part, needs, partOf, multipliersOf, masksOf, bytesOf, wordLeft, certificateLeft, leaves}
-use Rattle.rules.specs.Run.{written, stateIn}
+use Rattle.rules.specs.Buffers.{by-name, copies, offsets, sums, Buffers, Lengths, lengthsOf, Part, needs, partOf, multipliersOf, masksOf, bytesOf, wordLeft, certificateLeft, leaves}
+use Rattle.rules.specs.Run.{written, stateIn, sumsIn}
 use Rattle.rules.proofs.Basics.{none≢some, some-inj}
-use Rattle.rules.proofs.Pass.{spinsIn, stepsIn, steps-laid, entries-length, copies-length, offsets-length}
+use Rattle.rules.proofs.Pass.{state-eq, spinsIn, stepsIn, steps-laid, entries-length, copies-length, offsets-length}
 use Rattle.rules.proofs.Optimal.{keep-is}
 use Rattle.rules.proofs.Written.{cuts-few, certificate-length}
 use Rattle.rules.proofs.WrittenPasses.{bytes-length}
@@ -61,17 +61,19 @@ pub record Sized (t : Table) (d : Round) : Type 0 where
   pub spins : length (d .spins) ≡ t .bits
   pub copies : length (d .state .copies) ≡ edgesOf t
   pub offsets : length (d .state .offsets) ≡ edgesOf t
+  pub sums : length (d .sums) ≡ t .bits
   pub multipliers : length (multipliersOf (d .entries)) ≡ checksOf t
   pub masks : length (masksOf (d .entries)) ≡ checksOf t
   pub word : (w : List Bool) → d .word ≡ some w → length (bytesOf w) ≡ t .bits
   pub certificate : length (certificateOf (d .entries)) ≤ certificateLength (checksOf t)
 
 pub round-sized : (t : Table) (l : List ℤ) (s : State) → Sized t (round t l s)
-unfolding round
+unfolding round sumsOf
 round-sized t l s = record {
   spins = first-length (t .bits) (spinsIn t l s);
   copies = copies-length unit (t .checks) (stepsIn t l s) (steps-laid t l s);
   offsets = offsets-length unit (t .checks) (stepsIn t l s) (steps-laid t l s);
+  sums = first-length (t .bits) _;
   multipliers = multipliers-length es ∙ many;
   masks = masks-length es ∙ many;
   word = λ w e. bytes-length w ∙ candidate-length (t .bits) (spinsIn t l s) w (certify-is t l (rowsOf (t .checks) es) (candidate (t .bits) (spinsIn t l s)) w e);
@@ -112,16 +114,19 @@ leaves-small t d s = by-name (search (all-small, word-small, certificate-small, 
 pub written-past : (t : Table) (d : Round) (b : Buffers) → Sized t d → Part (needs t) (lengthsOf b) → AllPast (needs t) (written d b) b
 written-past t d b s h = write-past (needs t) (leaves d) b (leaves-small t d s) h
 
-state-eq : {a b y z : List ℤ} → a ≡ b → y ≡ z → _≡_ {A = State} (record { copies = a; offsets = y }) (record { copies = b; offsets = z })
-state-eq p q = λ i. record { copies = p i; offsets = q i }
-
 -- the state that a round leaves is read back
 pub state-written : (t : Table) (d : Round) (b : Buffers) → Sized t d → stateIn t (written d b) ≡ d .state
 state-written t d b s = state-eq (take-over (edgesOf t) (d .state .copies) (b .copies) (s .copies)) (take-over (edgesOf t) (d .state .offsets) (b .offsets) (s .offsets))
 
+pub sums-written : (t : Table) (d : Round) (b : Buffers) → Sized t d → sumsIn t (written d b) ≡ d .sums
+sums-written t d b s = take-over (t .bits) (d .sums) (b .sums) (s .sums)
+
 -- ---- and a part that is long enough
 pub state-part : (t : Table) (n : Lengths) (b : Buffers) → Part (needs t) n → stateIn t (partOf n b) ≡ stateIn t b
 state-part t n b h = state-eq (take-take (edgesOf t) (n copies) (b .copies) (h copies)) (take-take (edgesOf t) (n offsets) (b .offsets) (h offsets))
+
+pub sums-part : (t : Table) (n : Lengths) (b : Buffers) → Part (needs t) n → sumsIn t (partOf n b) ≡ sumsIn t b
+sums-part t n b h = take-take (t .bits) (n sums) (b .sums) (h sums)
 
 pub written-part : (t : Table) (d : Round) (n : Lengths) (b : Buffers) → Sized t d → Part (needs t) n → written d (partOf n b) ≡ partOf n (written d b)
 written-part t d n b s h = write-part n (leaves d) b (λ x new e. le-trans (leaves-small t d s x new e) (h x))

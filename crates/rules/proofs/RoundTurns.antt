@@ -13,7 +13,7 @@ use Rattle.rules.specs.Table.{edges, degreeOf, at, bit, bitsAt}
 use Rattle.rules.specs.Parity.{turn, turns, odd, Alike, meets}
 use Rattle.rules.specs.Step.{Entry, Step, minus, step}
 use Rattle.rules.specs.Bound.{gather}
-use Rattle.rules.specs.Round.{State, total, divided, spin, values, pass, copiesIn, offsetsIn, entriesIn}
+use Rattle.rules.specs.Round.{State, sumAt, total, divided, spin, values, pass, copiesIn, offsetsIn, entriesIn}
 use Rattle.rules.proofs.Basics.{and-both}
 use Rattle.rules.proofs.DividedLaws.{divided-neg}
 use Rattle.rules.proofs.Signs.{turn-sum, turn-zero, at-turns, clip-turn, alike-trans}
@@ -76,13 +76,13 @@ gather-turn c i [] (w ∷ ws) = turn-zero (bit c i)
 gather-turn c i (m ∷ ms) (w ∷ ws) = ap₂ _+ℤ_ (pick-turn (eqb m i) (bit c m) (bit c i) w (λ e. ap (bit c) (eqb-true m i e))) (gather-turn c i ms ws)
     ∙ turn-sum (bit c i) (pick (eqb m i) w) (gather i ms ws)
 
+pub sum-turn : (c : List Bool) (cs : List (List ℕ)) (s : State) (i : ℕ) → sumAt (edges cs) (turnState c cs s) i ≡ turn (bit c i) (sumAt (edges cs) s i)
+sum-turn c cs s i = ap (gather i (edges cs)) (minus-turn (signs c cs) (s .copies) (s .offsets) ∙ ap (λ t. turns t (minus (s .copies) (s .offsets))) (signs-is c cs))
+    ∙ gather-turn c i (edges cs) (minus (s .copies) (s .offsets))
+
 total-turn : (c : List Bool) (cs : List (List ℕ)) (l : List ℤ) (s : State) (i : ℕ) → total (edges cs) (turns c l) (turnState c cs s) i ≡ turn (bit c i) (total (edges cs) l s i)
 unfolding total
-total-turn c cs l s i = ap₂ _+ℤ_ (at-turns c l i) sums ∙ turn-sum (bit c i) (at l i) (gather i (edges cs) (minus (s .copies) (s .offsets)))
-  where
-    sums : gather i (edges cs) (minus (turns (signs c cs) (s .copies)) (turns (signs c cs) (s .offsets))) ≡ turn (bit c i) (gather i (edges cs) (minus (s .copies) (s .offsets)))
-    sums = ap (gather i (edges cs)) (minus-turn (signs c cs) (s .copies) (s .offsets) ∙ ap (λ t. turns t (minus (s .copies) (s .offsets))) (signs-is c cs))
-        ∙ gather-turn c i (edges cs) (minus (s .copies) (s .offsets))
+total-turn c cs l s i = ap₂ _+ℤ_ (at-turns c l i) (sum-turn c cs s i) ∙ turn-sum (bit c i) (at l i) (sumAt (edges cs) s i)
 
 pub divided-turn : (c : Bool) (t : ℤ) (d : ℕ) → divided (turn c t) d ≡ turn c (divided t d)
 divided-turn true t d = divided-neg t d

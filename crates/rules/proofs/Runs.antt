@@ -8,22 +8,28 @@ use mathlib.Core.Option.{Option, some, none}
 use Prim.Native.Nat.{ℕ, zero, suc, _+_, _*_, _^_, _≤_, _<_}
 use native.Mathlib.Omega.{arith}
 use native.Mathlib.Nat.{zero-add, suc-add, le-trans}
-use lib.Dec.{leb}
-use borrow.Author.Tests.{leb-false, le-leb, le-ltb, lt-ltb}
-use lib.IntN.{ℤ, natAbs}
+use lib.Dec.{leb, ltb, eqb}
+use lib.ListN.{length}
+use borrow.Author.Tests.{leb-false, ltb-true, le-ltb, lt-ltb}
+use lib.IntN.{ℤ}
 use Rattle.integers.specs.Linear.{Within}
-use Rattle.integers.specs.Product.{natAbs-≤}
 use Rattle.integers.specs.Clip.{clip-within}
 use Rattle.integers.specs.Sum.{AllWithin}
-use Rattle.rules.specs.Limits.{unit, roundLimit, offsetPerRound, stepLimit, maxMultiplier}
+use Rattle.rules.specs.Limits.{unit, frameLimit, roundLimit, offsetPerRound, stepLimit, maxMultiplier}
+use Rattle.rules.specs.Refusal.{Answer, refused, gives, frameLength, frameRange, askedTooMuch, bufferShort, runEnded, runDamaged}
 use Rattle.rules.specs.Table.{Table, edges}
-use Rattle.rules.specs.Input.{eachWithin}
+use Rattle.rules.specs.CodeFile.{codeFile}
+use Rattle.rules.specs.Input.{eachWithin, onFrame}
 use Rattle.rules.specs.Step.{Entry}
-use Rattle.rules.specs.Round.{State, spin, offsetsIn, entriesIn, Round, round}
-use Rattle.rules.specs.Buffers.{Buffers, lengthsOf, needs, multiplierOf, Part, overBy, wordLeft, certificateLeft}
-use Rattle.rules.specs.Run.{Status, running, certified, spent, Run, statusAt, moved, tooLarge, nextBy, stateIn, next, iterate, sound, Safe, written}
+use Rattle.rules.specs.Round.{State, spin, offsetsIn, entriesIn, sumsOf, Round, round}
+use Rattle.rules.specs.Buffers.{Buffers, Lengths, lengthsOf, needs, fits, multiplierOf, Part, overBy, wordLeft, certificateLeft}
+use Rattle.rules.specs.Run.{Status, running, certified, spent, Run, statusAt, moved, tooLarge, nextBy, stateIn, sumsIn, trueSums, next, iterate, same, limited, sound, soundRun, Safe, written}
+use Rattle.rules.specs.Run.{isRunning, admits, Called, perform, callOn, callBy, call}
 use Rattle.rules.proofs.Pass.{spinsIn, stepsIn, steps-laid, copies-within, offsets-within, AtMost, multipliers-within}
-use Rattle.rules.proofs.RoundSizes.{round-sized, state-written, written-past}
+use Rattle.rules.proofs.RoundSizes.{round-sized, state-written, sums-written, written-past}
+use Rattle.rules.proofs.Basics.{and-both}
+use Rattle.rules.proofs.AnswerLaws.{refused≢gives, must-gives}
+use Rattle.rules.proofs.RangeLaws.{each-all, all-each, same-equal, same-is}
 use Rattle.rules.proofs.BufferLaws.{AllPast, all-past-refl, all-past-trans, past-lengths}
 
 -- the round that comes next
@@ -191,10 +197,17 @@ unfolding round
 round-offsets t l s k h = subst (λ m. AllWithin m (offsetsIn (stepsIn t l s))) (more-rounds k)
     (offsets-within unit (offsetPerRound * k) (spinsIn t l s) (spin-within unit (edges (t .checks)) l s) (t .checks) (s .offsets) h)
 
+-- a round leaves the sums of what it leaves
+pub round-sums : (t : Table) (l : List ℤ) (s : State) → round t l s .sums ≡ sumsOf (t .bits) (edges (t .checks)) (round t l s .state)
+unfolding round
+round-sums t l s = refl
+
 safe-moved : (t : Table) (l : List ℤ) (r : Run) → Safe t r → Safe t (moved r (coming t l r))
 safe-moved t l r h = record {
   copies = subst (λ s. AllWithin unit (s .copies)) (sym here) (round-copies t l (stateIn t (r .buffers)));
   offsets = subst (λ s. AllWithin (offsetPerRound * suc (r .progress .rounds)) (s .offsets)) (sym here) (round-offsets t l (stateIn t (r .buffers)) (r .progress .rounds) (h .offsets));
+  sums = sums-written t (coming t l r) (r .buffers) (round-sized t l (stateIn t (r .buffers))) ∙ round-sums t l (stateIn t (r .buffers))
+      ∙ ap (sumsOf (t .bits) (edges (t .checks))) (sym here);
   early = status-early (suc (r .progress .rounds)) (coming t l r .word);
 }
   where
@@ -234,11 +247,60 @@ unfolding next
 safe-moves t l r h e = ap (λ s. nextBy s r (coming t l r)) e ∙ ap (λ b. cond b r (moved r (coming t l r))) (never-44 t l r h e)
 
 -- and 43 does not either
-each-within : (m : ℕ) (zs : List ℤ) → AllWithin m zs → eachWithin m zs ≡ true
-each-within m [] h = refl
-each-within m (z ∷ zs) h = ap₂ _&&_ (le-leb (natAbs z) m (natAbs-≤ z m (h .0))) (each-within m zs (h .1))
+pub never-43 : (t : Table) (r : Run) → Safe t r → r .progress .status ≡ running → soundRun t r ≡ true
+unfolding limited sound
+never-43 t r h e = ap₂ _&&_
+    (ap₂ _&&_ (ap₂ _&&_ (lt-ltb (r .progress .rounds) roundLimit (h .early e)) (all-each unit (stateIn t (r .buffers) .copies) (h .copies)))
+    (all-each (offsetPerRound * r .progress .rounds) (stateIn t (r .buffers) .offsets) (h .offsets)))
+    (same-equal (h .sums))
 
-pub never-43 : (t : Table) (r : Run) → Safe t r → r .progress .status ≡ running → sound (r .progress .rounds) (stateIn t (r .buffers)) ≡ true
-unfolding sound
-never-43 t r h e = ap₂ _&&_ (ap₂ _&&_ (lt-ltb (r .progress .rounds) roundLimit (h .early e)) (each-within unit (stateIn t (r .buffers) .copies) (h .copies)))
-    (each-within (offsetPerRound * r .progress .rounds) (stateIn t (r .buffers) .offsets) (h .offsets))
+-- ---- what 43 lets pass is safe
+pub sound-early : (t : Table) (r : Run) → soundRun t r ≡ true → r .progress .rounds < roundLimit
+unfolding sound limited
+sound-early t r h =
+    let k = r .progress .rounds in
+    let s = stateIn t (r .buffers) in
+    let p = and-both (limited k s) (same (sumsIn t (r .buffers)) (trueSums t (r .buffers))) h in
+    let q = and-both (ltb k roundLimit && eachWithin unit (s .copies)) (eachWithin (offsetPerRound * k) (s .offsets)) (p .0) in
+    ltb-true k roundLimit (and-both (ltb k roundLimit) (eachWithin unit (s .copies)) (q .0) .0)
+
+pub sound-safe : (t : Table) (r : Run) → soundRun t r ≡ true → Safe t r
+unfolding sound limited
+sound-safe t r h =
+    let k = r .progress .rounds in
+    let s = stateIn t (r .buffers) in
+    let p = and-both (limited k s) (same (sumsIn t (r .buffers)) (trueSums t (r .buffers))) h in
+    let q = and-both (ltb k roundLimit && eachWithin unit (s .copies)) (eachWithin (offsetPerRound * k) (s .offsets)) (p .0) in
+    record {
+      copies = each-all unit (s .copies) (and-both (ltb k roundLimit) (eachWithin unit (s .copies)) (q .0) .1);
+      offsets = each-all (offsetPerRound * k) (s .offsets) (q .1);
+      sums = same-is (sumsIn t (r .buffers)) (trueSums t (r .buffers)) (p .1);
+      early = λ e. sound-early t r h;
+    }
+
+-- ---- so the sums that a run carries are the true ones, after every round
+pub sums-carried : (t : Table) (l : List ℤ) (k : ℕ) (r : Run) → soundRun t r ≡ true → sumsIn t (iterate t l k r .buffers) ≡ trueSums t (iterate t l k r .buffers)
+sums-carried t l k r h = iterate-safe t l k r (sound-safe t r h) .sums
+
+admitted-sound : (t : Table) (l : List ℤ) (v : ℕ) (n : Lengths) (r : Run) → admits t l v n r ≡ gives tt → soundRun t r ≡ true
+unfolding admits onFrame
+admitted-sound t l v n r h =
+    let size = must-gives (eqb (length l) (t .bits)) frameLength _ tt h in
+    let range = must-gives (eachWithin frameLimit l) frameRange _ tt (size .1) in
+    let asked = must-gives (leb v roundLimit) askedTooMuch _ tt (range .1) in
+    let room = must-gives (fits (needs t) n) bufferShort _ tt (asked .1) in
+    let runs = must-gives (isRunning (r .progress .status)) runEnded _ tt (room .1) in
+    must-gives (soundRun t r) runDamaged _ tt (runs .1) .0
+
+-- and after every call that is not refused, on any code file, frame, record and lent buffers
+pub call-sums : (file : List ℕ) (t : Table) (l : List ℤ) (v : ℕ) (r : Run) (s : Status) → codeFile file ≡ gives t → call file l v r .answer ≡ gives s
+    → sumsIn t (call file l v r .run .buffers) ≡ trueSums t (call file l v r .run .buffers)
+unfolding call callOn
+call-sums file t l v r s isFile e = subst (λ a. Holds (callBy l v r a)) (sym isFile) (go (admits t l v (lengthsOf (r .buffers)) r) refl (ap (λ a. callBy l v r a .answer) (sym isFile) ∙ e))
+  where
+    Holds : Called → Type 0
+    Holds d = sumsIn t (d .run .buffers) ≡ trueSums t (d .run .buffers)
+
+    go : (a : Answer (Unit {0})) → admits t l v (lengthsOf (r .buffers)) r ≡ a → perform t l v r a .answer ≡ gives s → Holds (perform t l v r a)
+    go (refused k) p q = absurd (refused≢gives q)
+    go (gives tt) p q = sums-carried t l v r (admitted-sound t l v (lengthsOf (r .buffers)) r p)

@@ -1,13 +1,13 @@
 -- One check's step: its lengths and limits, and how a codeword turns it. Assumes nothing.
-use mathlib.Core.Path.{_≡_, refl, _∙_, ap, ap₂, fun-ext}
+use mathlib.Core.Path.{_≡_, refl, sym, _∙_, ap, ap₂, fun-ext}
 use mathlib.Core.Bool.{Bool, true, false}
 use mathlib.Core.List.{List, [], _∷_}
 use mathlib.Core.Option.{Option, some, none}
 use Prim.Native.Nat.{ℕ, zero, suc, _+_, _*_, _^_, _<_, _≤_}
 use native.Mathlib.Omega.{arith}
-use native.Mathlib.Nat.{le-of-suc-le-suc}
-use lib.ListN.{length}
-use lib.IntN.{ℤ, pos, _+ℤ_}
+use native.Mathlib.Nat.{le-of-suc-le-suc, suc-inj}
+use lib.ListN.{length, take, drop}
+use lib.IntN.{ℤ, pos, _+ℤ_, _-ℤ_}
 use lib.Signed.{ltZ}
 use Rattle.integers.specs.Order.{within-sub}
 use Rattle.integers.specs.Clip.{clipZ, clip-within}
@@ -80,6 +80,33 @@ pub minus-within : (a b : ℕ) (vs zs : List ℤ) → AllWithin a vs → AllWith
 minus-within a b [] zs h k = tt
 minus-within a b (v ∷ vs) [] h k = tt
 minus-within a b (v ∷ vs) (z ∷ zs) h k = (within-sub a b v z (h .0) (k .0), minus-within a b vs zs (h .1) (k .1))
+
+pub minus-length : (vs zs : List ℤ) → length vs ≡ length zs → length (minus vs zs) ≡ length vs
+minus-length [] zs h = refl
+minus-length (v ∷ vs) [] h = absurd (omega arith)
+minus-length (v ∷ vs) (z ∷ zs) h = ap suc (minus-length vs zs (suc-inj h))
+
+pub minus-at : (vs zs : List ℤ) (k : ℕ) → k < length vs → k < length zs → at (minus vs zs) k ≡ at vs k -ℤ at zs k
+minus-at [] zs k h l = absurd (omega arith)
+minus-at (v ∷ vs) [] k h l = absurd (omega arith)
+minus-at (v ∷ vs) (z ∷ zs) zero h l = refl
+minus-at (v ∷ vs) (z ∷ zs) (suc k) h l = minus-at vs zs k (le-of-suc-le-suc h) (le-of-suc-le-suc l)
+
+minus-nil : (vs : List ℤ) → minus vs [] ≡ []
+minus-nil [] = refl
+minus-nil (v ∷ vs) = refl
+
+pub minus-drop : (k : ℕ) (vs zs : List ℤ) → drop k (minus vs zs) ≡ minus (drop k vs) (drop k zs)
+minus-drop zero vs zs = refl
+minus-drop (suc k) [] zs = refl
+minus-drop (suc k) (v ∷ vs) [] = sym (minus-nil (drop k vs))
+minus-drop (suc k) (v ∷ vs) (z ∷ zs) = minus-drop k vs zs
+
+pub minus-take : (k : ℕ) (vs zs : List ℤ) → take k (minus vs zs) ≡ minus (take k vs) (take k zs)
+minus-take zero vs zs = refl
+minus-take (suc k) [] zs = refl
+minus-take (suc k) (v ∷ vs) [] = refl
+minus-take (suc k) (v ∷ vs) (z ∷ zs) = ap (λ l. (v -ℤ z) ∷ l) (minus-take k vs zs)
 
 -- the cut that a check has is as long as the check
 cut-long : (u : ℕ) (vs : List ℤ) (ts : List Bool) → cut u (clips u vs) ≡ some ts → Alike ts vs

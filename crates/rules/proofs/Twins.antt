@@ -6,24 +6,25 @@ use mathlib.Core.Option.{Option, some, none}
 use Prim.Native.Nat.{ℕ, zero, suc, _+_, _*_, _≤_}
 use lib.Dec.{leb, ltb, eqb}
 use lib.ListN.{length, take}
-use lib.IntN.{ℤ, natAbs}
+use lib.IntN.{ℤ, pos, negsuc, negℤ, _-ℤ_, natAbs}
+use Rattle.integers.specs.Linear.{lin, arithZ}
 use Rattle.integers.specs.Product.{abs-neg}
 use Rattle.rules.specs.Limits.{unit, frameLimit, roundLimit, offsetPerRound, maxMultiplier}
 use Rattle.rules.specs.Refusal.{Answer, refused, gives, must, askedTooMuch, bufferShort, runEnded, runDamaged, frameLength, frameRange}
-use Rattle.rules.specs.Table.{Table, checksOf, bitsAt}
+use Rattle.rules.specs.Table.{Table, edges, checksOf, bitsAt}
 use Rattle.rules.specs.Parity.{turn, plus, turns, Codeword}
 use Rattle.rules.specs.Input.{eachWithin, onFrame}
 use Rattle.rules.specs.Step.{Entry, inactive, active}
-use Rattle.rules.specs.Round.{State, Round, round}
+use Rattle.rules.specs.Round.{State, isZero, sumsOf, Round, round}
 use Rattle.rules.specs.Buffers.{Lengths, needs, fits, overBy, wordLeft, multiplierOf, multipliersOf, bytesOf}
-use Rattle.rules.specs.Run.{Status, running, certified, spent, Progress, Run, statusAt, moved, tooLarge, nextBy, stateIn, next, iterate}
-use Rattle.rules.specs.Run.{isRunning, sound, admits, answerAt, Called, perform, callOn}
+use Rattle.rules.specs.Run.{Status, running, certified, spent, Progress, Run, statusAt, moved, tooLarge, nextBy, stateIn, sumsIn, next, iterate}
+use Rattle.rules.specs.Run.{isRunning, same, limited, sound, soundRun, admits, answerAt, Called, perform, callOn}
 use Rattle.rules.proofs.CutRule.{plusO}
 use Rattle.rules.proofs.Steps.{turnEntry}
 use Rattle.rules.proofs.RoundTurns.{signs, turnState, turnEntries}
-use Rattle.rules.proofs.WordTurns.{turnRound, round-turns}
+use Rattle.rules.proofs.WordTurns.{turnRound, sums-turn, round-turns}
 use Rattle.rules.proofs.BufferLaws.{take-over}
-use Rattle.rules.proofs.RoundSizes.{Sized, round-sized, state-written}
+use Rattle.rules.proofs.RoundSizes.{Sized, round-sized, state-written, sums-written}
 use Rattle.rules.proofs.Runs.{coming, uncertified}
 
 -- a word in the one buffer, and that word plus c in the other
@@ -35,6 +36,7 @@ pub record Worded (n : ℕ) (c : List Bool) (x y : List ℕ) : Type 0 where
 pub record Twin (t : Table) (c : List Bool) (r q : Run) : Type 0 where
   pub progress : q .progress ≡ r .progress
   pub state : stateIn t (q .buffers) ≡ turnState c (t .checks) (stateIn t (r .buffers))
+  pub sums : sumsIn t (q .buffers) ≡ turns c (sumsIn t (r .buffers))
   pub multipliers : 1 ≤ r .progress .rounds → take (checksOf t) (q .buffers .multipliers) ≡ take (checksOf t) (r .buffers .multipliers)
   pub words : r .progress .status ≡ certified → Worded (t .bits) c (r .buffers .word) (q .buffers .word)
 
@@ -77,6 +79,7 @@ moved-twin : (t : Table) (c : List Bool) (r q : Run) (d : Round) → Sized t d �
 moved-twin t c r q d s z h = record {
   progress = progress-eq (ap (λ p. suc (p .rounds)) (h .progress)) (status-turn c (suc (q .progress .rounds)) (d .word) ∙ ap (λ p. statusAt (suc (p .rounds)) (d .word)) (h .progress));
   state = state-written t (turnRound c (t .checks) d) (q .buffers) z ∙ ap (turnState c (t .checks)) (sym (state-written t d (r .buffers) s));
+  sums = sums-written t (turnRound c (t .checks) d) (q .buffers) z ∙ ap (turns c) (sym (sums-written t d (r .buffers) s));
   multipliers = λ k. take-over (checksOf t) (multipliersOf (turnEntries c (t .checks) (d .entries))) (q .buffers .multipliers) (z .multipliers) ∙ multipliers-turn c (t .checks) (d .entries)
       ∙ sym (take-over (checksOf t) (multipliersOf (d .entries)) (r .buffers .multipliers) (s .multipliers));
   words = λ e. words-turn (t .bits) (suc (r .progress .rounds)) c (d .word) (r .buffers .word) (q .buffers .word) (s .word) (z .word) e;
@@ -124,20 +127,48 @@ turns-length [] zs = refl
 turns-length (x ∷ xs) [] = refl
 turns-length (x ∷ xs) (z ∷ zs) = ap suc (turns-length xs zs)
 
-sound-turn : (k : ℕ) (c : List Bool) (cs : List (List ℕ)) (s : State) → sound k (turnState c cs s) ≡ sound k s
+limited-turn : (k : ℕ) (c : List Bool) (cs : List (List ℕ)) (s : State) → limited k (turnState c cs s) ≡ limited k s
+unfolding limited
+limited-turn k c cs s = ap₂ (λ a b. (ltb k roundLimit && a) && b) (within-turn unit (signs c cs) (s .copies)) (within-turn (offsetPerRound * k) (signs c cs) (s .offsets))
+
+neg-less : (x y : ℤ) → negℤ x -ℤ negℤ y ≡ negℤ (x -ℤ y)
+neg-less x y = simp lin (omega arithZ)
+
+zero-turn : (c : Bool) (x y : ℤ) → isZero (turn c x -ℤ turn c y) ≡ isZero (x -ℤ y)
+zero-turn true x y = ap isZero (neg-less x y) ∙ zero-neg (x -ℤ y)
+  where
+    zero-neg : (z : ℤ) → isZero (negℤ z) ≡ isZero z
+    zero-neg (pos zero) = refl
+    zero-neg (pos (suc n)) = refl
+    zero-neg (negsuc n) = refl
+zero-turn false x y = refl
+
+same-turn : (c : List Bool) (xs ys : List ℤ) → same (turns c xs) (turns c ys) ≡ same xs ys
+same-turn [] xs ys = refl
+same-turn (c ∷ cs) [] [] = refl
+same-turn (c ∷ cs) [] (y ∷ ys) = refl
+same-turn (c ∷ cs) (x ∷ xs) [] = refl
+same-turn (c ∷ cs) (x ∷ xs) (y ∷ ys) = ap₂ _&&_ (zero-turn c x y) (same-turn cs xs ys)
+
+-- sums that are true of a state are true when both are turned
+sound-turn : (t : Table) (k : ℕ) (c : List Bool) (s : State) (xs : List ℤ) → Codeword t c
+    → sound (t .bits) (edges (t .checks)) k (turnState c (t .checks) s) (turns c xs) ≡ sound (t .bits) (edges (t .checks)) k s xs
 unfolding sound
-sound-turn k c cs s = ap₂ (λ a b. (ltb k roundLimit && a) && b) (within-turn unit (signs c cs) (s .copies)) (within-turn (offsetPerRound * k) (signs c cs) (s .offsets))
+sound-turn t k c s xs h = ap₂ _&&_ (limited-turn k c (t .checks) s) (ap (same (turns c xs)) (sums-turn t c s h) ∙ same-turn c xs (sumsOf (t .bits) (edges (t .checks)) s))
 
 frame-turn : {A : Type 0} (t : Table) (c : List Bool) (l : List ℤ) (a : Answer A) → onFrame t (turns c l) a ≡ onFrame t l a
 unfolding onFrame
 frame-turn t c l a = ap₂ (λ n b. must (eqb n (t .bits)) frameLength (must b frameRange a)) (turns-length c l) (within-turn frameLimit c l)
 
-pub admits-twin : (t : Table) (c : List Bool) (l : List ℤ) (v : ℕ) (n : Lengths) (r q : Run) → Twin t c r q → admits t (turns c l) v n q ≡ admits t l v n r
+pub admits-twin : (t : Table) (c : List Bool) (l : List ℤ) (v : ℕ) (n : Lengths) (r q : Run) → Codeword t c → Twin t c r q → admits t (turns c l) v n q ≡ admits t l v n r
 unfolding admits
-admits-twin t c l v n r q h = frame-turn t c l _ ∙ ap₂ (λ p s. onFrame t l (must (leb v roundLimit) askedTooMuch (must (fits (needs t) n) bufferShort
-    (must (isRunning (p .status)) runEnded (must (sound (p .rounds) s) runDamaged (gives tt)))))) (h .progress) (h .state)
-    ∙ ap (λ b. onFrame t l (must (leb v roundLimit) askedTooMuch (must (fits (needs t) n) bufferShort (must (isRunning (r .progress .status)) runEnded (must b runDamaged (gives tt))))))
-    (sound-turn (r .progress .rounds) c (t .checks) (stateIn t (r .buffers)))
+admits-twin t c l v n r q k h = frame-turn t c l _ ∙ ap₂ (λ p b. onFrame t l (must (leb v roundLimit) askedTooMuch (must (fits (needs t) n) bufferShort
+    (must (isRunning (p .status)) runEnded (must b runDamaged (gives tt)))))) (h .progress) sounds
+  where
+    sounds : soundRun t q ≡ soundRun t r
+    sounds = ap (λ p. sound (t .bits) (edges (t .checks)) (p .rounds) (stateIn t (q .buffers)) (sumsIn t (q .buffers))) (h .progress)
+        ∙ ap₂ (sound (t .bits) (edges (t .checks)) (r .progress .rounds)) (h .state) (h .sums)
+        ∙ sound-turn t (r .progress .rounds) c (stateIn t (r .buffers)) (sumsIn t (r .buffers)) k
 
 pub record Alike (t : Table) (c : List Bool) (x y : Called) : Type 0 where
   pub answer : y .answer ≡ x .answer
@@ -145,7 +176,7 @@ pub record Alike (t : Table) (c : List Bool) (x y : Called) : Type 0 where
 
 pub call-twin : (t : Table) (c : List Bool) (l : List ℤ) (v : ℕ) (n : Lengths) (r q : Run) → Codeword t c → Twin t c r q → Alike t c (callOn t l v n r) (callOn t (turns c l) v n q)
 unfolding callOn
-call-twin t c l v n r q k h = subst (λ a. Alike t c (perform t l v r (admits t l v n r)) (perform t (turns c l) v q a)) (sym (admits-twin t c l v n r q h)) (go (admits t l v n r))
+call-twin t c l v n r q k h = subst (λ a. Alike t c (perform t l v r (admits t l v n r)) (perform t (turns c l) v q a)) (sym (admits-twin t c l v n r q k h)) (go (admits t l v n r))
   where
     i : Twin t c (iterate t l v r) (iterate t (turns c l) v q)
     i = iterate-twin t c l k v r q h

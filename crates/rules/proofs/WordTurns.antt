@@ -9,16 +9,16 @@ use lib.IntN.{ℤ, pos, negsuc, _+ℤ_, _-ℤ_, _*ℤ_}
 use Rattle.integers.specs.Product.{abs, abs-neg, *ℤ-negℤ}
 use Rattle.integers.specs.Sum.{sumTo}
 use Rattle.rules.specs.Limits.{unit}
-use Rattle.rules.specs.Table.{Table, at, bit, bitsAt}
+use Rattle.rules.specs.Table.{Table, edges, at, bit, bitsAt}
 use Rattle.rules.specs.Parity.{_⊕_, turn, plus, turns, odd, Alike, meets, Codeword, agreement}
 use Rattle.rules.specs.Cut.{keep}
 use Rattle.rules.specs.Step.{Entry, inactive, active}
 use Rattle.rules.specs.Bound.{Row, gather, rowsOf, weights, pull, price, reduced, bound, gap}
-use Rattle.rules.specs.Round.{State, pass, entriesIn, bitOf, join, candidate, isZero, certify, firstOf, Round, roundBy, round}
+use Rattle.rules.specs.Round.{State, sumAt, pass, copiesIn, offsetsIn, entriesIn, bitOf, join, candidate, isZero, certify, firstOf, sumsOf, Round, roundBy, round}
 use Rattle.rules.proofs.Signs.{turn-sum, turn-zero, turn-turn, turn-side, at-turns, bit-plus, odd-plus, alike-sym, alike-trans}
 use Rattle.rules.proofs.CutRule.{plusO}
-use Rattle.rules.proofs.Pass.{spinsIn, stepsIn, steps-laid, Good, rows-good}
-use Rattle.rules.proofs.RoundTurns.{Even, meets-even, signs, turnState, bitsAt-alike, gather-turn, spin-turn, turnSteps, pass-turn, copies-turn, offsets-turn, turnEntries, entries-turn}
+use Rattle.rules.proofs.Pass.{state-eq, spinsIn, stepsIn, steps-laid, Good, rows-good}
+use Rattle.rules.proofs.RoundTurns.{Even, meets-even, signs, turnState, bitsAt-alike, gather-turn, sum-turn, spin-turn, turnSteps, pass-turn, copies-turn, offsets-turn, turnEntries, entries-turn}
 
 -- ---- the candidate
 abbrev plusB : Bool → Option Bool → Option Bool
@@ -126,7 +126,7 @@ rows-turn c (ms ∷ cs) (active b ts ∷ es) = ap (λ t. record { members = ms; 
 
 -- ---- the whole round
 abbrev pub turnRound : List Bool → List (List ℕ) → Round → Round
-turnRound c cs d = record { spins = turns c (d .spins); state = turnState c cs (d .state); entries = turnEntries c cs (d .entries); word = plusO c (d .word) }
+turnRound c cs d = record { spins = turns c (d .spins); state = turnState c cs (d .state); sums = turns c (d .sums); entries = turnEntries c cs (d .entries); word = plusO c (d .word) }
 
 keep-plus : (c w : List Bool) (b : Bool) → keep b (plus c w) ≡ plusO c (keep b w)
 keep-plus c w true = refl
@@ -138,19 +138,25 @@ module _ (t : Table) (c : List Bool) (l : List ℤ) (rs : List Row) (even : Even
   certify-turns (some w) = ap₂ (λ a b. keep (a && isZero b) (plus c w)) (meets-turns c w (t .checks) even) (gap-turns (t .bits) 1 c l rs w good)
       ∙ keep-plus c w (meets w (t .checks) && isZero (gap (t .bits) 1 l rs w))
 
-abbrev roundOf : List ℤ → List ℤ → List ℤ → List Entry → Option (List Bool) → Round
-roundOf p a y e v = record { spins = p; state = record { copies = a; offsets = y }; entries = e; word = v }
+abbrev roundOf : List ℤ → State → List ℤ → List Entry → Option (List Bool) → Round
+roundOf p s x e v = record { spins = p; state = s; sums = x; entries = e; word = v }
 
-round-eq : {p q a b y z : List ℤ} {e f : List Entry} {v w : Option (List Bool)} → p ≡ q → a ≡ b → y ≡ z → e ≡ f → v ≡ w
-    → roundOf p a y e v ≡ roundOf q b z f w
+round-eq : {p q x y : List ℤ} {r s : State} {e f : List Entry} {v w : Option (List Bool)} → p ≡ q → r ≡ s → x ≡ y → e ≡ f → v ≡ w
+    → roundOf p r x e v ≡ roundOf q s y f w
 round-eq p q r s t = λ i. roundOf (p i) (q i) (r i) (s i) (t i)
+
+-- a turned state has turned sums
+pub sums-turn : (t : Table) (c : List Bool) (s : State) → Codeword t c
+    → sumsOf (t .bits) (edges (t .checks)) (turnState c (t .checks) s) ≡ turns c (sumsOf (t .bits) (edges (t .checks)) s)
+unfolding sumsOf
+sums-turn t c s k = first-turns (t .bits) c (sumAt (edges (t .checks)) s) (sumAt (edges (t .checks)) (turnState c (t .checks) s)) (k .size) (sum-turn c (t .checks) s)
 
 pub round-turns : (t : Table) (c : List Bool) (l : List ℤ) (s : State) → Codeword t c → round t (turns c l) (turnState c (t .checks) s) ≡ turnRound c (t .checks) (round t l s)
 unfolding round
 round-turns t c l s k = ap (roundBy t (turns c l) g) steps ∙ round-eq
     (first-turns (t .bits) c f g (k .size) fg)
-    (copies-turn unit c (t .checks) (stepsIn t l s) (steps-laid t l s))
-    (offsets-turn unit c (t .checks) (stepsIn t l s) (steps-laid t l s))
+    state-turn
+    (ap (sumsOf (t .bits) (edges (t .checks))) state-turn ∙ sums-turn t c (record { copies = copiesIn (stepsIn t l s); offsets = offsetsIn (stepsIn t l s) }) k)
     (entries-turn c (t .checks) (stepsIn t l s))
     (ap₂ (certify t (turns c l)) (ap (rowsOf (t .checks)) (entries-turn c (t .checks) (stepsIn t l s)) ∙ rows-turn c (t .checks) es) (candidate-turns (t .bits) c f g (k .size) fg)
     ∙ certify-turns t c l (rowsOf (t .checks) es) even (rows-good unit (t .checks) (stepsIn t l s) (steps-laid t l s)) (candidate (t .bits) f))
@@ -163,6 +169,10 @@ round-turns t c l s k = ap (roundBy t (turns c l) g) steps ∙ round-eq
 
     es : List Entry
     es = entriesIn (stepsIn t l s)
+
+    state-turn : record { copies = copiesIn (turnSteps c (t .checks) (stepsIn t l s)); offsets = offsetsIn (turnSteps c (t .checks) (stepsIn t l s)) }
+        ≡ turnState c (t .checks) (record { copies = copiesIn (stepsIn t l s); offsets = offsetsIn (stepsIn t l s) })
+    state-turn = state-eq (copies-turn unit c (t .checks) (stepsIn t l s) (steps-laid t l s)) (offsets-turn unit c (t .checks) (stepsIn t l s) (steps-laid t l s))
 
     fg : (i : ℕ) → g i ≡ turn (bit c i) (f i)
     fg = spin-turn unit c (t .checks) l s

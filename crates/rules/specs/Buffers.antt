@@ -20,6 +20,7 @@ pub data Buffer : Type 0 where
   spins : Buffer
   copies : Buffer
   offsets : Buffer
+  sums : Buffer
   multipliers : Buffer
   masks : Buffer
   word : Buffer
@@ -34,6 +35,7 @@ abbrev pub signOf : Buffer → Sign
 signOf spins = signed
 signOf copies = signed
 signOf offsets = signed
+signOf sums = signed
 signOf multipliers = unsigned
 signOf masks = unsigned
 signOf word = unsigned
@@ -58,6 +60,7 @@ pub record Each (P : Buffer → Type 0) : Type 0 where
   pub spins : P spins
   pub copies : P copies
   pub offsets : P offsets
+  pub sums : P sums
   pub multipliers : P multipliers
   pub masks : P masks
   pub word : P word
@@ -67,6 +70,7 @@ abbrev pub by-name : {P : Buffer → Type 0} → Each P → (x : Buffer) → P x
 by-name e spins = e .spins
 by-name e copies = e .copies
 by-name e offsets = e .offsets
+by-name e sums = e .sums
 by-name e multipliers = e .multipliers
 by-name e masks = e .masks
 by-name e word = e .word
@@ -77,6 +81,7 @@ each f = record {
   spins = f spins;
   copies = f copies;
   offsets = f offsets;
+  sums = f sums;
   multipliers = f multipliers;
   masks = f masks;
   word = f word;
@@ -84,7 +89,7 @@ each f = record {
 }
 
 abbrev pub every : (Buffer → Bool) → Bool
-every p = p spins && (p copies && (p offsets && (p multipliers && (p masks && (p word && p certificate)))))
+every p = p spins && (p copies && (p offsets && (p sums && (p multipliers && (p masks && (p word && p certificate))))))
 
 -- the buffers, and one by its name
 abbrev pub Buffers : Type 0
@@ -94,8 +99,8 @@ abbrev pub the : (x : Buffer) → Buffers → List (Elem x)
 the x b = by-name b x
 
 -- as a call is lent them, in the order of its parameters
-abbrev pub lent : List ℤ → List ℤ → List ℤ → List ℕ → List ℕ → List ℕ → List ℕ → Buffers
-lent p z y b k w c = record { spins = p; copies = z; offsets = y; multipliers = b; masks = k; word = w; certificate = c }
+abbrev pub lent : List ℤ → List ℤ → List ℤ → List ℤ → List ℕ → List ℕ → List ℕ → List ℕ → Buffers
+lent p z y x b k w c = record { spins = p; copies = z; offsets = y; sums = x; multipliers = b; masks = k; word = w; certificate = c }
 
 -- ---- lengths
 abbrev pub Lengths : Type 0
@@ -104,11 +109,12 @@ Lengths = Buffer → ℕ
 abbrev pub lengthsOf : Buffers → Lengths
 lengthsOf b x = length (the x b)
 
--- "spins n; copies, offsets E; multipliers, masks m; word n; certificate 4 + 10m"
+-- "spins n; copies, offsets E; multipliers, masks m; word n; certificate 4 + 10m", and sums n
 abbrev pub needsBy : ℕ → ℕ → ℕ → Lengths
 needsBy n m e spins = n
 needsBy n m e copies = e
 needsBy n m e offsets = e
+needsBy n m e sums = n
 needsBy n m e multipliers = m
 needsBy n m e masks = m
 needsBy n m e word = n
@@ -150,7 +156,7 @@ overBy (some new) old = over new old
 abbrev pub write : Writes → Buffers → Buffers
 write w b = each (λ x. overBy (w x) (the x b))
 
--- ---- a start: "Starting a run zeroes the first E copies and offsets"
+-- ---- a start: "Starting a run zeroes the first E copies and offsets", and the first n sums
 -- the first that a run lends it to: a start; a round; its end, "Certified writes word and certificate"
 pub data Stage : Type 0 where
   start : Stage
@@ -161,6 +167,7 @@ abbrev pub lentFrom : Buffer → Stage
 lentFrom spins = round
 lentFrom copies = start
 lentFrom offsets = start
+lentFrom sums = start
 lentFrom multipliers = round
 lentFrom masks = round
 lentFrom word = end
@@ -178,8 +185,8 @@ abbrev pub zeros : ℕ → List ℤ
 zeros e = replicate e (pos 0)
 
 -- the buffers that a start is lent, in the order of its parameters
-abbrev pub startLent : List ℤ → List ℤ → Buffers
-startLent z y = lent [] z y [] [] [] []
+abbrev pub startLent : List ℤ → List ℤ → List ℤ → Buffers
+startLent z y x = lent [] z y x [] [] [] []
 
 -- 41 looks at those that it zeroes
 unfoldable pub fitsStart : Table → Lengths → Bool
@@ -228,17 +235,18 @@ abbrev pub atEnd : Buffer → Bool
 atEnd x = past (lentFrom x)
 
 -- the buffers that every round writes, in the order of a call's parameters
-abbrev pub roundLent : List ℤ → List ℤ → List ℤ → List ℕ → List ℕ → Buffers
-roundLent s z y b k = lent s z y b k [] []
+abbrev pub roundLent : List ℤ → List ℤ → List ℤ → List ℤ → List ℕ → List ℕ → Buffers
+roundLent s z y x b k = lent s z y x b k [] []
 
 -- these, with others for those at the end
 abbrev pub endLent : List ℕ → List ℕ → Buffers → Buffers
-endLent w c b = lent (b .spins) (b .copies) (b .offsets) (b .multipliers) (b .masks) w c
+endLent w c b = lent (b .spins) (b .copies) (b .offsets) (b .sums) (b .multipliers) (b .masks) w c
 
 abbrev pub leaves : Round → Writes
 leaves d spins = some (d .spins)
 leaves d copies = some (d .state .copies)
 leaves d offsets = some (d .state .offsets)
+leaves d sums = some (d .sums)
 leaves d multipliers = some (multipliersOf (d .entries))
 leaves d masks = some (masksOf (d .entries))
 leaves d word = wordLeft (d .word)

@@ -33,6 +33,7 @@ atFilled ((m ∷ ms) ∷ cs) (x ∷ xs) = x ∷ atFilled cs xs
 pub record SameRound (t : Table) (x y : Round) : Type 0 where
   pub spins : y .spins ≡ x .spins
   pub state : y .state ≡ x .state
+  pub sums : y .sums ≡ x .sums
   pub entries : y .entries ≡ atFilled (t .checks) (x .entries)
   pub word : y .word ≡ x .word
 

@@ -16,16 +16,16 @@ use Rattle.rules.specs.Input.{onFrame, onWord, onPoint, onCheck}
 use Rattle.rules.specs.Cut.{cut, cutSearch, cutReply}
 use Rattle.rules.specs.Step.{lastWhere, multiplier, step}
 use Rattle.rules.specs.Bound.{reduced, bound, gap}
-use Rattle.rules.specs.Round.{total, divided, spin, round}
+use Rattle.rules.specs.Round.{total, divided, spin, sumsOf, round}
 use Rattle.rules.specs.Certificate.{certificateOf, itemsAt, follows, onItem, onItems, onCertificate}
 use Rattle.rules.specs.Judge.{verdict, judge, judgeReply}
 use Rattle.rules.specs.Scaled.{times, atScale}
 use Rattle.rules.specs.Buffers.{Buffers, Lengths, needsBy, fits, fitsStart, blank}
-use Rattle.rules.specs.Run.{running, certified, spent, Run, next, iterate, sound, admits, callOn, call, start}
+use Rattle.rules.specs.Run.{running, certified, spent, Run, next, iterate, limited, sound, admits, callOn, call, start}
 use Rattle.rules.specs.Calls.{Call, lentCall, countedBy}
 use Rattle.rules.specs.Report.{certifiedLine, spentLine, frameLine}
 use Rattle.rules.specs.Question.{Question, fileIs, cutIs, judged, startIs, callIs, shows, lineIs, listIs, countIs, Case, asked, said, answerTo}
-use Rattle.rules.specs.Question.{Place, Said, reply, shown, buffers, dirty, leaving, line, places, counts}
+use Rattle.rules.specs.Question.{Place, Said, reply, shown, buffers, extreme, dirty, leaving, line, places, counts}
 use Rattle.rules.specs.Frames.{threeBits, oneBit, frameA, withMultiplier, word000}
 
 abbrev no : ℕ → Reply
@@ -153,7 +153,7 @@ empties =
     ∷ row (judged emptied frameA word000 (two 1 4 0 1)) (reply (no 13))
     -- rounds, word and multiplier as without the empty checks; the certificate names check 1
     ∷ row (shows emptied frameA 1024) (leaving (yes (pos 1 ∷ [])) 3
-    (pos 3364 ∷ pos 3364 ∷ pos 2636 ∷ []) (pos 3365 ∷ pos 3365 ∷ pos 2635 ∷ []) (pos 3333 ∷ pos 3333 ∷ negsuc 3332 ∷ [])
+    (pos 3364 ∷ pos 3364 ∷ pos 2636 ∷ []) (pos 3365 ∷ pos 3365 ∷ pos 2635 ∷ []) (pos 3333 ∷ pos 3333 ∷ negsuc 3332 ∷ []) (pos 32 ∷ pos 32 ∷ pos 5968 ∷ [])
     (0 ∷ 3333 ∷ 0 ∷ 0 ∷ []) (0 ∷ 4 ∷ 0 ∷ 0 ∷ []) word000 (1 ∷ 0 ∷ 1 ∷ 0 ∷ 1 ∷ 0 ∷ 0x05 ∷ 0x0D ∷ 0 ∷ 0 ∷ 4 ∷ 0 ∷ 0 ∷ 0 ∷ replicate 30 0))
     ∷ row (lineIs emptied frameA) (line (certifiedLine 3 (pos 6000) 1))
     ∷ []
@@ -186,24 +186,37 @@ stays k r = shown (no k) (r .progress .rounds) (r .buffers)
 abbrev refusal : List ℤ → ℕ → Run → ℕ → Case
 refusal l v r k = row (callIs oneBit l v r) (stays k r)
 
+-- done without a change, still running
+abbrev unchanged : List ℕ → ℕ → Run → Case
+unchanged file v r = row (callIs file (pos 5 ∷ []) v r) (shown (yes (pos 0 ∷ [])) (r .progress .rounds) (r .buffers))
+
 calls : List Case
 calls =
-    row (startIs oneBit [] (pos 3 ∷ [])) (reply (no 41))
-    ∷ row (startIs oneBit (pos 3 ∷ []) (pos 3 ∷ pos 3 ∷ [])) (reply (yes (pos 0 ∷ pos 0 ∷ [])))
+    row (startIs oneBit [] (pos 3 ∷ []) (pos 3 ∷ [])) (reply (no 41))
+    ∷ row (startIs oneBit (pos 3 ∷ []) (pos 3 ∷ []) []) (reply (no 41))
+    ∷ row (startIs oneBit (pos 3 ∷ []) (pos 3 ∷ pos 3 ∷ []) (pos 3 ∷ [])) (reply (yes (pos 0 ∷ pos 0 ∷ [])))
     -- 17 before 41, 41 before 42, 42 before 43
-    ∷ refusal (pos 5 ∷ []) 1025 (stands 0 certified (buffers [] [])) 17
-    ∷ refusal (pos 5 ∷ []) 1024 (stands 0 certified (buffers [] [])) 41
-    ∷ refusal (pos 5 ∷ []) 0 (stands 9999 spent (buffers (pos 4097 ∷ []) (pos 1 ∷ []))) 42
+    ∷ refusal (pos 5 ∷ []) 1025 (stands 0 certified (buffers [] [] [])) 17
+    ∷ refusal (pos 5 ∷ []) 1024 (stands 0 certified (buffers [] [] [])) 41
+    ∷ refusal (pos 5 ∷ []) 0 (stands 9999 spent (buffers (pos 4097 ∷ []) (pos 1 ∷ []) (pos 0 ∷ []))) 42
     -- a copy outside; 1,024 rounds in a running run; an offset beyond 8,192 × rounds; and just within
-    ∷ refusal (pos 5 ∷ []) 0 (stands 3 running (buffers (pos 4097 ∷ []) (pos 0 ∷ []))) 43
-    ∷ refusal (pos 5 ∷ []) 0 (stands 1024 running (buffers (pos 0 ∷ []) (pos 0 ∷ []))) 43
-    ∷ refusal (pos 5 ∷ []) 0 (stands 1 running (buffers (pos 0 ∷ []) (negsuc 8192 ∷ []))) 43
-    ∷ row (callIs oneBit (pos 5 ∷ []) 0 (stands 1 running (buffers (pos 4096 ∷ []) (negsuc 8191 ∷ []))))
-    (shown (yes (pos 0 ∷ [])) 1 (buffers (pos 4096 ∷ []) (negsuc 8191 ∷ [])))
+    ∷ refusal (pos 5 ∷ []) 0 (stands 3 running (buffers (pos 4097 ∷ []) (pos 0 ∷ []) (pos 4097 ∷ []))) 43
+    ∷ refusal (pos 5 ∷ []) 0 (stands 1024 running (buffers (pos 0 ∷ []) (pos 0 ∷ []) (pos 0 ∷ []))) 43
+    ∷ refusal (pos 5 ∷ []) 0 (stands 1 running (buffers (pos 0 ∷ []) (negsuc 8192 ∷ []) (pos 8193 ∷ []))) 43
+    ∷ unchanged oneBit 0 (stands 1 running (buffers (pos 4096 ∷ []) (negsuc 8191 ∷ []) (pos 12288 ∷ [])))
+    -- a sum that isn't true, on either side; no room for it, before 42; and of a run that has ended, 42. What is past n may be anything
+    ∷ refusal (pos 5 ∷ []) 0 (stands 1 running (buffers (pos 4096 ∷ []) (negsuc 8191 ∷ []) (pos 12287 ∷ []))) 43
+    ∷ refusal (pos 5 ∷ []) 7 (stands 1 running (buffers (pos 4096 ∷ []) (negsuc 8191 ∷ []) (pos 12289 ∷ []))) 43
+    ∷ refusal (pos 5 ∷ []) 0 (stands 1 certified (buffers (pos 4096 ∷ []) (negsuc 8191 ∷ []) [])) 41
+    ∷ refusal (pos 5 ∷ []) 0 (stands 1 certified (buffers (pos 4096 ∷ []) (negsuc 8191 ∷ []) (pos 12289 ∷ []))) 42
+    ∷ unchanged oneBit 0 (stands 1 running (buffers (pos 4096 ∷ []) (negsuc 8191 ∷ []) (pos 12288 ∷ pos 7 ∷ [])))
+    -- the largest sum that 43 lets pass: 32 times U and 8,192 × 1,023
+    ∷ unchanged (onBit0 32) 0 (stands 1023 running (extreme (pos 268304384)))
+    ∷ row (callIs (onBit0 32) (pos 5 ∷ []) 0 (stands 1023 running (extreme (pos 268304385)))) (stays 43 (stands 1023 running (extreme (pos 268304385))))
     -- round 1,024 without a certificate: spent
-    ∷ row (callIs oneBit (pos 0 ∷ []) 1024 (stands 1023 running (buffers (pos 0 ∷ []) (pos 0 ∷ []))))
+    ∷ row (callIs oneBit (pos 0 ∷ []) 1024 (stands 1023 running (buffers (pos 0 ∷ []) (pos 0 ∷ []) (pos 0 ∷ []))))
     (leaving (yes (pos 2 ∷ [])) 1024
-    (pos 0 ∷ []) (pos 4096 ∷ []) (negsuc 4095 ∷ [])
+    (pos 0 ∷ []) (pos 4096 ∷ []) (negsuc 4095 ∷ []) (pos 8192 ∷ [])
     (4096 ∷ []) (1 ∷ []) (6 ∷ []) (replicate 15 5))
     ∷ []
 
@@ -213,7 +226,7 @@ rounds : List Case
 rounds =
     row (callIs (onBit0 2) (negsuc 4 ∷ []) 1 (stands 0 running (blank (needsBy 1 2 2))))
     (leaving (yes (pos 0 ∷ [])) 1
-    (negsuc 2 ∷ []) (pos 4096 ∷ pos 4096 ∷ []) (negsuc 4098 ∷ negsuc 4098 ∷ [])
+    (negsuc 2 ∷ []) (pos 4096 ∷ pos 4096 ∷ []) (negsuc 4098 ∷ negsuc 4098 ∷ []) (pos 16390 ∷ [])
     (4099 ∷ 4099 ∷ []) (1 ∷ 1 ∷ []) (0 ∷ []) (replicate 24 0))
     -- checks 0 3, 0 1 and 0 1 2: round 5's candidate 1101 meets all checks with gap 2598, and 0000 is certified in round 15
     ∷ row (callIs fourBits frameD 5 (stands 0 running (blank (needsBy 4 3 7))))
@@ -221,6 +234,7 @@ rounds =
     (negsuc 478 ∷ negsuc 584 ∷ pos 4096 ∷ negsuc 600 ∷ [])
     (negsuc 539 ∷ negsuc 539 ∷ negsuc 531 ∷ negsuc 531 ∷ negsuc 514 ∷ negsuc 548 ∷ pos 4060 ∷ [])
     (negsuc 8498 ∷ pos 8499 ∷ pos 1737 ∷ negsuc 1736 ∷ pos 1359 ∷ negsuc 1358 ∷ pos 1359 ∷ [])
+    (pos 3816 ∷ pos 2015 ∷ pos 2701 ∷ negsuc 9038 ∷ [])
     (8499 ∷ 1737 ∷ 1359 ∷ []) (1 ∷ 2 ∷ 2 ∷ []) (replicate 4 0) (replicate 34 0))
     ∷ row (lineIs fourBits frameD) (line (certifiedLine 15 (pos 6400) 3))
     -- a weak frame that leans as 1101 does: the numbers of bits 0 and 1 are below their degrees 3 and 2
@@ -307,5 +321,5 @@ pub examples : asked cases ≡ said cases
 unfolding cases fourBits emptied frameD frameE files cuts certificates empties scales calls rounds lists report regular onBit0 callsOf threeBits oneBit frameA answerTo must then replyOf u16At u32At agreement
     maskRight ones lib.Count.onesIn inRange contents countsRight startsRight totalCount numbersAt bodies ascends membersRight bitsRight fileOf codeFile codeFileReply onFrame onWord
     onPoint onCheck cut cutSearch cutReply lastWhere multiplier step reduced bound gap total divided spin round certificateOf itemsAt follows onItem onItems onCertificate verdict
-    judge judgeReply fits fitsStart next iterate sound admits callOn call start lentCall frameLine clipZ
+    judge judgeReply fits fitsStart next iterate sumsOf limited sound admits callOn call start lentCall frameLine clipZ
 examples = refl

@@ -14,11 +14,11 @@ use Rattle.rules.specs.Input.{onFrame, onWord}
 use Rattle.rules.specs.Cut.{cut}
 use Rattle.rules.specs.Step.{lastWhere, multiplier, step}
 use Rattle.rules.specs.Bound.{reduced, bound, gap}
-use Rattle.rules.specs.Round.{total, divided, spin, round}
+use Rattle.rules.specs.Round.{total, divided, spin, sumsOf, round}
 use Rattle.rules.specs.Certificate.{certificateOf, itemsAt, follows, onItem, onItems, onCertificate}
 use Rattle.rules.specs.Judge.{verdict, judge, judgeReply}
 use Rattle.rules.specs.Buffers.{fits, fitsStart}
-use Rattle.rules.specs.Run.{next, iterate, sound, admits, callOn, call, start}
+use Rattle.rules.specs.Run.{next, iterate, limited, sound, admits, callOn, call, start}
 use Rattle.rules.specs.Question.{shows, boundIs, judged, reply, leaving, number, Case, asked, said, answerTo}
 
 -- "One check on bits 0, 1, 2", as the code file of document 01's frame report; and "one check on one bit"
@@ -63,25 +63,25 @@ cases =
     record {
       ask = shows threeBits frameA 1;
       say = leaving running 1
-          (pos 4000 ∷ pos 4000 ∷ negsuc 1999 ∷ []) (pos 2032 ∷ pos 2032 ∷ negsuc 31 ∷ []) (pos 1968 ∷ pos 1968 ∷ negsuc 1967 ∷ [])
+          (pos 4000 ∷ pos 4000 ∷ negsuc 1999 ∷ []) (pos 2032 ∷ pos 2032 ∷ negsuc 31 ∷ []) (pos 1968 ∷ pos 1968 ∷ negsuc 1967 ∷ []) (pos 64 ∷ pos 64 ∷ pos 1936 ∷ [])
           (1968 ∷ []) (4 ∷ []) word000 blank14;
     }
     ∷ record {
       ask = shows threeBits frameA 2;
       say = leaving running 2
-          (pos 4064 ∷ pos 4064 ∷ negsuc 63 ∷ []) (pos 2698 ∷ pos 2698 ∷ pos 1302 ∷ []) (pos 3334 ∷ pos 3334 ∷ negsuc 3333 ∷ [])
+          (pos 4064 ∷ pos 4064 ∷ negsuc 63 ∷ []) (pos 2698 ∷ pos 2698 ∷ pos 1302 ∷ []) (pos 3334 ∷ pos 3334 ∷ negsuc 3333 ∷ []) (negsuc 635 ∷ negsuc 635 ∷ pos 4636 ∷ [])
           (3334 ∷ []) (4 ∷ []) word000 blank14;
     }
     ∷ record {
       ask = shows threeBits frameA 1024;
       say = leaving certified 3
-          (pos 3364 ∷ pos 3364 ∷ pos 2636 ∷ []) (pos 3365 ∷ pos 3365 ∷ pos 2635 ∷ []) (pos 3333 ∷ pos 3333 ∷ negsuc 3332 ∷ [])
+          (pos 3364 ∷ pos 3364 ∷ pos 2636 ∷ []) (pos 3365 ∷ pos 3365 ∷ pos 2635 ∷ []) (pos 3333 ∷ pos 3333 ∷ negsuc 3332 ∷ []) (pos 32 ∷ pos 32 ∷ pos 5968 ∷ [])
           (3333 ∷ []) (4 ∷ []) word000 (0x01 ∷ 0x00 ∷ 0x01 ∷ 0x00 ∷ 0x00 ∷ 0x00 ∷ 0x05 ∷ 0x0D ∷ 0x00 ∷ 0x00 ∷ 0x04 ∷ 0x00 ∷ 0x00 ∷ 0x00 ∷ []);
     }
     ∷ record {
       ask = shows threeBits frameB 1024;
       say = leaving certified 3
-          (negsuc 3363 ∷ negsuc 3363 ∷ pos 2636 ∷ []) (negsuc 3364 ∷ negsuc 3364 ∷ pos 2635 ∷ []) (negsuc 3332 ∷ negsuc 3332 ∷ negsuc 3332 ∷ [])
+          (negsuc 3363 ∷ negsuc 3363 ∷ pos 2636 ∷ []) (negsuc 3364 ∷ negsuc 3364 ∷ pos 2635 ∷ []) (negsuc 3332 ∷ negsuc 3332 ∷ negsuc 3332 ∷ []) (negsuc 31 ∷ negsuc 31 ∷ pos 5968 ∷ [])
           (3333 ∷ []) (7 ∷ []) (1 ∷ 1 ∷ 0 ∷ []) (0x01 ∷ 0x00 ∷ 0x01 ∷ 0x00 ∷ 0x00 ∷ 0x00 ∷ 0x05 ∷ 0x0D ∷ 0x00 ∷ 0x00 ∷ 0x07 ∷ 0x00 ∷ 0x00 ∷ 0x00 ∷ []);
     }
     ∷ record { ask = judged threeBits frameA word000 (withMultiplier 0xCF 0x07); say = reply (gapOf 2) }
@@ -91,7 +91,7 @@ cases =
     ∷ record {
       ask = shows oneBit frameC 1024;
       say = leaving certified 2
-          (pos 4096 ∷ []) (pos 4096 ∷ []) (negsuc 4100 ∷ [])
+          (pos 4096 ∷ []) (pos 4096 ∷ []) (negsuc 4100 ∷ []) (pos 8197 ∷ [])
           (4101 ∷ []) (1 ∷ []) (0 ∷ []) (0x01 ∷ 0x00 ∷ 0x01 ∷ 0x00 ∷ 0x00 ∷ 0x00 ∷ 0x05 ∷ 0x10 ∷ 0x00 ∷ 0x00 ∷ 0x01 ∷ 0x00 ∷ 0x00 ∷ 0x00 ∷ []);
     }
     ∷ record { ask = boundIs oneBit frameC 1024; say = number (negsuc 4) }
@@ -100,5 +100,5 @@ cases =
 pub frames : asked cases ≡ said cases
 unfolding cases threeBits oneBit frameA frameB frameC answerTo must then replyOf u16At u32At agreement maskRight ones lib.Count.onesIn inRange contents countsRight startsRight
     totalCount numbersAt bodies ascends membersRight bitsRight fileOf codeFile codeFileReply onFrame onWord cut lastWhere multiplier step reduced bound gap total divided spin round
-    certificateOf itemsAt follows onItem onItems onCertificate verdict judge judgeReply fits fitsStart next iterate sound admits callOn call start clipZ
+    certificateOf itemsAt follows onItem onItems onCertificate verdict judge judgeReply fits fitsStart next iterate sumsOf limited sound admits callOn call start clipZ
 frames = refl

@@ -56,7 +56,14 @@ valueLimit = unit + offsetLimit
 abbrev pub stepLimit : ℕ
 stepLimit = unit + valueLimit
 
--- that times a check's degree
+-- the size of z − y after it, and of a bit's sum of them
+abbrev pub weightLimit : ℕ
+weightLimit = unit + offsetPerRound * roundLimit
+
+abbrev pub sumLimit : ℕ
+sumLimit = maxBitDegree * weightLimit
+
+-- the greatest multiplier times a check's degree
 abbrev pub priceLimit : ℕ
 priceLimit = maxDegree * stepLimit
 

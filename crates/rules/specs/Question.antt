@@ -3,8 +3,8 @@
 use mathlib.Core.List.{List, [], _∷_}
 use Prim.Native.Nat.{ℕ}
 use lib.ListN.{replicate}
-use lib.IntN.{ℤ, pos}
-use Rattle.rules.specs.Limits.{roundLimit}
+use lib.IntN.{ℤ, pos, negℤ}
+use Rattle.rules.specs.Limits.{unit, roundLimit, offsetLimit}
 use Rattle.rules.specs.Refusal.{Answer, refused, gives, Reply, replyOf}
 use Rattle.rules.specs.Table.{Table}
 use Rattle.rules.specs.CodeFile.{codeFile, codeFileReply}
@@ -25,7 +25,7 @@ pub data Question : Type 0 where
   -- what the judge says
   judged : List ℕ → List ℤ → List ℕ → List ℕ → Question
   -- a start on copies and offsets
-  startIs : List ℕ → List ℤ → List ℤ → Question
+  startIs : List ℕ → List ℤ → List ℤ → List ℤ → Question
   -- one call for rounds on a run as it stands
   callIs : List ℕ → List ℤ → ℕ → Run → Question
   -- what a fresh run on blank buffers shows after a call for so many rounds
@@ -55,16 +55,21 @@ pub data Said : Type 0 where
   nothing : Said
 
 -- ---- the buffers of examples, listed here alone
--- of one bit and one check, with these copies and offsets; and of three bits and one check, with one number in those of either sign
-abbrev pub buffers : List ℤ → List ℤ → Buffers
-buffers z y = lent (pos 9 ∷ []) z y (8 ∷ []) (7 ∷ []) (6 ∷ []) (replicate 15 5)
+-- of one bit and one check, with these copies, offsets and sums; and of three bits and one check, with one number in those of either sign
+abbrev pub buffers : List ℤ → List ℤ → List ℤ → Buffers
+buffers z y x = lent (pos 9 ∷ []) z y x (8 ∷ []) (7 ∷ []) (6 ∷ []) (replicate 15 5)
+
+-- of one bit in 32 checks at the ends of 43's limits before round 1,024, with this sum
+abbrev pub extreme : ℤ → Buffers
+extreme x =
+    lent (pos 9 ∷ []) (replicate 32 (pos unit)) (replicate 32 (negℤ (pos offsetLimit))) (x ∷ []) (replicate 32 8) (replicate 32 7) (6 ∷ []) (replicate 324 5)
 
 abbrev pub dirty : ℤ → ℕ → Buffers
-dirty z n = lent (replicate 3 z) (replicate 4 z) (replicate 5 z) (replicate 1 n) (replicate 1 n) (replicate 3 n) (replicate 15 n)
+dirty z n = lent (replicate 3 z) (replicate 4 z) (replicate 5 z) (replicate 6 z) (replicate 1 n) (replicate 1 n) (replicate 3 n) (replicate 15 n)
 
--- what a call leaves: spins, copies and offsets, multipliers and masks, word and certificate
-abbrev pub leaving : Reply → ℕ → List ℤ → List ℤ → List ℤ → List ℕ → List ℕ → List ℕ → List ℕ → Said
-leaving a k s z y b m w c = shown a k (lent s z y b m w c)
+-- what a call leaves: spins, copies, offsets and sums, multipliers and masks, word and certificate
+abbrev pub leaving : Reply → ℕ → List ℤ → List ℤ → List ℤ → List ℤ → List ℕ → List ℕ → List ℕ → List ℕ → Said
+leaving a k s z y x b m w c = shown a k (lent s z y x b m w c)
 
 -- ---- answers
 abbrev shownIn : Called → Said
@@ -94,7 +99,7 @@ unfoldable pub answerTo : Question → Said
 answerTo (fileIs file) = reply (codeFileReply file)
 answerTo (cutIs file s j) = reply (cutReply file s j)
 answerTo (judged file l w bs) = reply (judgeReply file l w bs)
-answerTo (startIs file z y) = reply (replyOf progressValues (start file (startLent z y) .answer))
+answerTo (startIs file z y x) = reply (replyOf progressValues (start file (startLent z y x) .answer))
 answerTo (callIs file l k r) = shownIn (call file l k r)
 answerTo (shows file l k) = onTable (codeFile file) (λ t. shownIn (ranFresh file l k t))
 answerTo (boundIs file l k) = onTable (codeFile file) (λ t. boundOf t l (ranFresh file l k t .run .buffers .certificate))

@@ -20,9 +20,13 @@ pub record State : Type 0 where
   pub offsets : List ℤ
 
 -- ---- step 1
--- "its frame number plus the sum of z − y over its edges"
+-- "the sum of z − y over its edges"
+abbrev pub sumAt : List ℕ → State → ℕ → ℤ
+sumAt es s i = gather i es (minus (s .copies) (s .offsets))
+
+-- "Each bit's total is its frame number plus" that sum
 unfoldable pub total : List ℕ → List ℤ → State → ℕ → ℤ
-total es l s i = at l i +ℤ gather i es (minus (s .copies) (s .offsets))
+total es l s i = at l i +ℤ sumAt es s i
 
 -- "divided by its number of edges", nearest, halves away from zero: of the sizes, with the total's sign
 unfoldable pub divided : ℤ → ℕ → ℤ
@@ -87,9 +91,15 @@ abbrev pub firstOf : ℕ → (ℕ → ℤ) → List ℤ
 firstOf zero f = []
 firstOf (suc n) f = f 0 ∷ firstOf n (λ i. f (suc i))
 
+-- the sums of all n bits, with the edges es
+unfoldable pub sumsOf : ℕ → List ℕ → State → List ℤ
+sumsOf n es s = firstOf n (sumAt es s)
+
+-- the sums are those of the new copies and offsets
 pub record Round : Type 0 where
   pub spins : List ℤ
   pub state : State
+  pub sums : List ℤ
   pub entries : List Entry
   pub word : Option (List Bool)
 
@@ -97,6 +107,7 @@ abbrev pub roundBy : Table → List ℤ → (ℕ → ℤ) → List Step → Roun
 roundBy t l f ss = record {
   spins = firstOf (t .bits) f;
   state = record { copies = copiesIn ss; offsets = offsetsIn ss };
+  sums = sumsOf (t .bits) (edges (t .checks)) (record { copies = copiesIn ss; offsets = offsetsIn ss });
   entries = entriesIn ss;
   word = certify t l (rowsOf (t .checks) (entriesIn ss)) (candidate (t .bits) f);
 }

@@ -7,15 +7,15 @@ use mathlib.Core.Option.{Option, some, none}
 use Prim.Native.Nat.{ℕ, zero, suc, _+_, _*_, _<_}
 use lib.Dec.{leb, ltb, eqb}
 use lib.ListN.{take}
-use lib.IntN.{ℤ, pos}
+use lib.IntN.{ℤ, pos, _-ℤ_}
 use Rattle.integers.specs.Sum.{AllWithin}
 use Rattle.rules.specs.Limits.{unit, roundLimit, offsetPerRound, maxMultiplier}
 use Rattle.rules.specs.Refusal.{Answer, refused, gives, must, then, askedTooMuch, bufferShort, runEnded, runDamaged, multiplierLarge}
-use Rattle.rules.specs.Table.{Table, edgesOf}
+use Rattle.rules.specs.Table.{Table, edges, edgesOf}
 use Rattle.rules.specs.CodeFile.{codeFile}
 use Rattle.rules.specs.Input.{eachWithin, onFrame}
 use Rattle.rules.specs.Step.{Entry}
-use Rattle.rules.specs.Round.{State, Round, round}
+use Rattle.rules.specs.Round.{State, isZero, sumsOf, Round, round}
 use Rattle.rules.specs.Buffers.{Buffers, Lengths, lengthsOf, needs, fits, write, fitsStart, zeroing, multiplierOf, leaves}
 
 -- "whether the run is running, certified or spent"
@@ -67,6 +67,13 @@ nextBy spent r d = r
 abbrev pub stateIn : Table → Buffers → State
 stateIn t b = record { copies = take (edgesOf t) (b .copies); offsets = take (edgesOf t) (b .offsets) }
 
+-- the n sums that a run carries, and those that its copies and offsets have
+abbrev pub sumsIn : Table → Buffers → List ℤ
+sumsIn t b = take (t .bits) (b .sums)
+
+abbrev pub trueSums : Table → Buffers → List ℤ
+trueSums t b = sumsOf (t .bits) (edges (t .checks)) (stateIn t b)
+
 unfoldable pub next : Table → List ℤ → Run → Run
 next t l r = nextBy (r .progress .status) r (round t l (stateIn t (r .buffers)))
 
@@ -82,13 +89,28 @@ isRunning certified = false
 isRunning spent = false
 
 -- "43 rounds done above 1,024, or 1,024 in a running run, a copy outside −U..U, or an offset beyond 8,192 × rounds done"
-unfoldable pub sound : ℕ → State → Bool
-sound k s = (ltb k roundLimit && eachWithin unit (s .copies)) && eachWithin (offsetPerRound * k) (s .offsets)
+unfoldable pub limited : ℕ → State → Bool
+limited k s = (ltb k roundLimit && eachWithin unit (s .copies)) && eachWithin (offsetPerRound * k) (s .offsets)
 
--- 43's limits as facts of a run that may have ended
+-- number by number the same
+abbrev pub same : List ℤ → List ℤ → Bool
+same [] [] = true
+same [] (y ∷ ys) = false
+same (x ∷ xs) [] = false
+same (x ∷ xs) (y ∷ ys) = isZero (x -ℤ y) && same xs ys
+
+-- "and 43 a sum that isn't true": of n bits with the edges es
+unfoldable pub sound : ℕ → List ℕ → ℕ → State → List ℤ → Bool
+sound n es k s xs = limited k s && same xs (sumsOf n es s)
+
+abbrev pub soundRun : Table → Run → Bool
+soundRun t r = sound (t .bits) (edges (t .checks)) (r .progress .rounds) (stateIn t (r .buffers)) (sumsIn t (r .buffers))
+
+-- 43's limits, and that the sums are true, as facts of a run that may have ended
 pub record Safe (t : Table) (r : Run) : Type 0 where
   pub copies : AllWithin unit (stateIn t (r .buffers) .copies)
   pub offsets : AllWithin (offsetPerRound * r .progress .rounds) (stateIn t (r .buffers) .offsets)
+  pub sums : sumsIn t (r .buffers) ≡ trueSums t (r .buffers)
   pub early : r .progress .status ≡ running → r .progress .rounds < roundLimit
 
 -- what a call with these parts lent must meet
@@ -98,7 +120,7 @@ admits t l wanted lent r =
     (must (leb wanted roundLimit) askedTooMuch
     (must (fits (needs t) lent) bufferShort
     (must (isRunning (r .progress .status)) runEnded
-    (must (sound (r .progress .rounds) (stateIn t (r .buffers))) runDamaged
+    (must (soundRun t r) runDamaged
     (gives tt)))))
 
 -- ---- a call for rounds

@@ -1,13 +1,14 @@
--- Reduced numbers as code works them out: each row's weights are added at its members, row after row. proofs/ScatterLaws says that this makes document
--- 01's reduced numbers, proofs/BoundLaws that they stay within their limits. Definitions only. Assumes nothing.
+-- Reduced numbers, and sums of z − y, as code works them out: each row's weights, or each edge's, are added at the members, one after the other.
+-- proofs/ScatterLaws says that this makes document 01's numbers, proofs/BoundLaws and proofs/SumLaws that they stay within their limits. Definitions
+-- only. Assumes nothing.
 use mathlib.Core.Path.{_≡_}
 use mathlib.Core.List.{List, [], _∷_}
-use Prim.Native.Nat.{ℕ, _+_, _*_}
+use Prim.Native.Nat.{ℕ, _+_, _-_, _*_, _≤_, _<_}
 use lib.ListN.{length, drop, set}
 use lib.IntN.{ℤ, pos, _+ℤ_, _-ℤ_, _*ℤ_}
 use Rattle.integers.specs.Linear.{Within}
-use Rattle.rules.specs.Limits.{maxMultiplier, scaledLimit, rowLimit, sizeLimit}
-use Rattle.rules.specs.Table.{at}
+use Rattle.rules.specs.Limits.{maxMultiplier, maxBitDegree, weightLimit, scaledLimit, rowLimit, sizeLimit}
+use Rattle.rules.specs.Table.{degreeOf, at}
 use Rattle.rules.specs.Mask.{setOf}
 use Rattle.rules.specs.Bound.{Row, weights, price}
 
@@ -16,6 +17,19 @@ scatter ms [] ls = ls
 scatter [] (w ∷ ws) ls = ls
 scatter (m ∷ ms) (w ∷ ws) ls = scatter ms ws (set ls m (at ls m +ℤ w))
 
+-- ---- sums of z − y
+-- each sum has room left for its bit's edges among the members ms
+pub record Room (ms : List ℕ) (ls : List ℤ) : Type 0 where
+  pub few : (i : ℕ) → i < length ls → degreeOf i ms ≤ maxBitDegree
+  pub sizes : (i : ℕ) → i < length ls → Within (weightLimit * (maxBitDegree - degreeOf i ms)) (at ls i)
+
+-- the first k edges are added: those that are left make of the sums ls what all make of ls₀
+pub record Added (ms : List ℕ) (ws ls₀ : List ℤ) (k : ℕ) (ls : List ℤ) : Type 0 where
+  pub long : length ls ≡ length ls₀
+  pub numbers : scatter (drop k ms) (drop k ws) ls ≡ scatter ms ws ls₀
+  pub room : Room (drop k ms) ls
+
+-- ---- rows of a bound
 abbrev pub scatterRow : Row → List ℤ → List ℤ
 scatterRow r ls = scatter (r .members) (weights (r .multiplier) (r .set)) ls
 

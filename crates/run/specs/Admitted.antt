@@ -45,17 +45,17 @@ admittedOf (Sized n m e) = gives (sizesAs n m e)
 abbrev pub endedRefusal : Status → ℕ
 endedRefusal x = cond (isRunning x) 0 runEnded
 
-abbrev pub damagedRefusal : ℕ → State → ℕ
-damagedRefusal k s = cond (sound k s) 0 runDamaged
+abbrev pub damagedRefusal : ℕ → List ℕ → ℕ → State → List ℤ → ℕ
+damagedRefusal n es k s xs = cond (sound n es k s xs) 0 runDamaged
 
--- 8, 9, 17, 41, 42, 43
-unfoldable pub admitsBy : Sizes → List ℤ → ℕ → Lengths → Progress → State → Answer Sizes
-admitsBy z l wanted lent p s =
+-- 8, 9, 17, 41, 42, 43, of a table with the edges es
+unfoldable pub admitsBy : Sizes → List ℕ → List ℤ → ℕ → Lengths → Progress → State → List ℤ → Answer Sizes
+admitsBy z es l wanted lent p s xs =
     turnedDown (frameRefusal (z .bits) l)
     (must (leb wanted roundLimit) askedTooMuch
     (must (fits (needsOf z) lent) bufferShort
     (must (isRunning (p .status)) runEnded
-    (must (sound (p .rounds) s) runDamaged
+    (must (sound (z .bits) es (p .rounds) s xs) runDamaged
     (gives z)))))
 
 -- the first e copies and offsets
@@ -63,8 +63,8 @@ abbrev pub firstState : ℕ → List ℤ → List ℤ → State
 firstState e z y = record { copies = take e z; offsets = take e y }
 
 -- the same of a call that tells what it lends
-abbrev pub admitsLent : Sizes → List ℤ → ℕ → Lent → Progress → List ℤ → List ℤ → Answer Sizes
-admitsLent s l wanted lent p z y = admitsBy s l wanted (lentOf lent z y) p (firstState (s .edges) z y)
+abbrev pub admitsLent : Sizes → List ℕ → List ℤ → ℕ → Lent → Progress → List ℤ → List ℤ → List ℤ → Answer Sizes
+admitsLent s es l wanted lent p z y x = admitsBy s es l wanted (lentOf lent z y x) p (firstState (s .edges) z y) (take (s .bits) x)
 
 -- the answer, and what is left in starts and members
 pub record Admission : Type 0 where
@@ -76,21 +76,21 @@ abbrev pub admissionAs : Answer Sizes → List ℕ → List ℕ → Admission
 admissionAs a ss ms = record { answer = a; starts = ss; members = ms }
 
 -- of a table that was accepted, starts and members are written whatever is refused after it
-abbrev pub admissionBy : Answer Table → List ℤ → ℕ → Lengths → Progress → List ℤ → List ℤ → List ℕ → List ℕ → Admission
-admissionBy (refused k) l wanted lent p z y ss ms = admissionAs (refused k) ss ms
-admissionBy (gives t) l wanted lent p z y ss ms = record {
-  answer = admitsBy (sizesOf t) l wanted lent p (firstState (edgesOf t) z y);
+abbrev pub admissionBy : Answer Table → List ℤ → ℕ → Lengths → Progress → List ℤ → List ℤ → List ℤ → List ℕ → List ℕ → Admission
+admissionBy (refused k) l wanted lent p z y x ss ms = admissionAs (refused k) ss ms
+admissionBy (gives t) l wanted lent p z y x ss ms = record {
+  answer = admitsBy (sizesOf t) (edges (t .checks)) l wanted lent p (firstState (edgesOf t) z y) (take (t .bits) x);
   starts = over (startsOf 0 (t .checks)) ss;
   members = over (edges (t .checks)) ms;
 }
 
 -- any code file, frame, wanted number, record and lent buffers: 1 to 7, then 41 for starts and members, then the rest
-unfoldable pub admission : List ℕ → List ℤ → ℕ → Lengths → Progress → List ℤ → List ℤ → List ℕ → List ℕ → Admission
-admission file l wanted lent p z y ss ms = admissionBy (then (codeFile file) (withRoom ss ms)) l wanted lent p z y ss ms
+unfoldable pub admission : List ℕ → List ℤ → ℕ → Lengths → Progress → List ℤ → List ℤ → List ℤ → List ℕ → List ℕ → Admission
+admission file l wanted lent p z y x ss ms = admissionBy (then (codeFile file) (withRoom ss ms)) l wanted lent p z y x ss ms
 
 -- the same of a call that tells what it lends
-abbrev pub admissionLent : List ℕ → List ℤ → ℕ → Lent → Progress → List ℤ → List ℤ → List ℕ → List ℕ → Admission
-admissionLent file l wanted lent p z y ss ms = admission file l wanted (lentOf lent z y) p z y ss ms
+abbrev pub admissionLent : List ℕ → List ℤ → ℕ → Lent → Progress → List ℤ → List ℤ → List ℤ → List ℕ → List ℕ → Admission
+admissionLent file l wanted lent p z y x ss ms = admission file l wanted (lentOf lent z y x) p z y x ss ms
 
 -- f makes the answer, and what is left in the two slices, of what came in them
 abbrev pub AdmitBecomes : (List ℕ → List ℕ → Admission) → Admitted → Slice ℕ → Slice ℕ → Type 0

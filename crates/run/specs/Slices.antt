@@ -19,18 +19,19 @@ abbrev pub left : {A : Type 0} → Slice A → List A
 left x = now (x .exit)
 
 -- ---- all buffers, in the order of a call's parameters
-abbrev pub slices : Slice ℤ → Slice ℤ → Slice ℤ → Slice ℕ → Slice ℕ → Slice ℕ → Slice ℕ → Both Buffers Buffers
-slices s z y b k w c = record {
-  entry = lent (s .entry .now) (z .entry .now) (y .entry .now) (b .entry .now) (k .entry .now) (w .entry .now) (c .entry .now);
-  exit = lent (s .exit .now) (z .exit .now) (y .exit .now) (b .exit .now) (k .exit .now) (w .exit .now) (c .exit .now);
+abbrev pub slices : Slice ℤ → Slice ℤ → Slice ℤ → Slice ℤ → Slice ℕ → Slice ℕ → Slice ℕ → Slice ℕ → Both Buffers Buffers
+slices s z y x b k w c = record {
+  entry = lent (s .entry .now) (z .entry .now) (y .entry .now) (x .entry .now) (b .entry .now) (k .entry .now) (w .entry .now) (c .entry .now);
+  exit = lent (s .exit .now) (z .exit .now) (y .exit .now) (x .exit .now) (b .exit .now) (k .exit .now) (w .exit .now) (c .exit .now);
 }
 
--- their lengths: of copies z and offsets y they are read, of the others told
-abbrev pub lentOf : Lent → List ℤ → List ℤ → Lengths
-lentOf b z y = by-name (record {
+-- their lengths: of copies z, offsets y and sums x they are read, of the others told
+abbrev pub lentOf : Lent → List ℤ → List ℤ → List ℤ → Lengths
+lentOf b z y x = by-name (record {
   spins = b .spins;
   copies = length z;
   offsets = length y;
+  sums = length x;
   multipliers = b .multipliers;
   masks = b .masks;
   word = b .word;

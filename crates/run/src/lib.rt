@@ -1,20 +1,22 @@
 // How a run stands: its record, its start, and the refusals of a call for rounds (document 01,
 // "Turned down because of how the run stands").
 mod bounds;
-mod clear;
+pub mod clear;
 pub mod ending;
 mod refusals;
+mod sums;
 
-use clear::clear_first;
+use clear::clear;
 use limits::refusals::BUFFER_SHORT;
 use refusals::admit_sized;
 use table::Checked;
 ghost use mathlib.Core.Path.{_≡_};
 ghost use Prim.Native.Nat.{_≤_};
 ghost use Rattle.rules.specs.Limits.{maxChecks};
-ghost use Rattle.rules.specs.Buffers.{startLent, needsBy, fits};
+ghost use Rattle.rules.specs.Buffers.{needsBy, fits};
 ghost use Rattle.rules.specs.Run as rule;
-ghost use Rattle.run.specs.Reply.{progressOf, startedOf};
+ghost use Rattle.run.specs.Reply.{progressOf};
+ghost use Rattle.run.specs.Started.{StartBecomes};
 ghost use Rattle.run.specs.Slices.{lentOf};
 ghost use Rattle.run.specs.Admitted.{admissionLent, AdmitBecomes};
 
@@ -56,16 +58,15 @@ pub enum Started {
 }
 
 // Starts a run on any code file and lent buffers: "Starting a run zeroes the first E copies and
-// offsets".
-pub fn start(code: &[u8], copies: &mut [i32], offsets: &mut [i32]) -> Started
-    ensures { λ r. ⌜ (record { answer = startedOf r; buffers = startLent (now (copies .exit)) (now (offsets .exit)) })
-        ≡ rule.start (now (code .entry)) (startLent (now (copies .entry)) (now (offsets .entry))) ⌝ }
+// offsets", and the first n sums.
+pub fn start(code: &[u8], copies: &mut [i32], offsets: &mut [i32], sums: &mut [i32]) -> Started
+    ensures { λ r. ⌜ StartBecomes (rule.start (now (code .entry))) r copies offsets sums ⌝ }
 {
     let answer = table::check(code);
     match answer {
         Checked::Refused(k) => Started::Refused(k),
         Checked::Accepted {
-            bits: _,
+            bits,
             checks: _,
             edges,
         } => {
@@ -75,8 +76,12 @@ pub fn start(code: &[u8], copies: &mut [i32], offsets: &mut [i32]) -> Started
             if offsets.len() < edges {
                 return Started::Refused(BUFFER_SHORT);
             }
-            clear_first(copies, edges);
-            clear_first(offsets, edges);
+            if sums.len() < bits {
+                return Started::Refused(BUFFER_SHORT);
+            }
+            clear(&mut copies[..edges]);
+            clear(&mut offsets[..edges]);
+            clear(&mut sums[..bits]);
             Started::Fresh(Record::fresh())
         }
     }
@@ -99,9 +104,10 @@ pub(crate) fn long_enough(
     lent: Lent,
     copies: &[i32],
     offsets: &[i32],
+    sums: &[i32],
 ) -> bool
     requires { ⌜ checks ≤ maxChecks ⌝ }
-    ensures { λ r. ⌜ r ≡ fits (needsBy bits checks edges) (lentOf lent (now (copies .entry)) (now (offsets .entry))) ⌝ }
+    ensures { λ r. ⌜ r ≡ fits (needsBy bits checks edges) (lentOf lent (now (copies .entry)) (now (offsets .entry)) (now (sums .entry))) ⌝ }
 {
     if lent.spins < bits {
         return false;
@@ -110,6 +116,9 @@ pub(crate) fn long_enough(
         return false;
     }
     if offsets.len() < edges {
+        return false;
+    }
+    if sums.len() < bits {
         return false;
     }
     if lent.multipliers < checks {
@@ -148,10 +157,11 @@ pub fn admit(
     lent: Lent,
     copies: &[i32],
     offsets: &[i32],
+    sums: &[i32],
     starts: &mut [u16],
     members: &mut [u16],
 ) -> Admitted
-    ensures { λ r. ⌜ AdmitBecomes (admissionLent (now (code .entry)) (now (frame .entry)) wanted lent (progressOf run) (now (copies .entry)) (now (offsets .entry))) r starts members ⌝ }
+    ensures { λ r. ⌜ AdmitBecomes (admissionLent (now (code .entry)) (now (frame .entry)) wanted lent (progressOf run) (now (copies .entry)) (now (offsets .entry)) (now (sums .entry))) r starts members ⌝ }
 {
     let answer = table::load(code, starts, members);
     match answer {
@@ -167,9 +177,11 @@ pub fn admit(
             lent,
             copies,
             offsets,
+            sums,
             bits,
             checks,
             edges,
+            members,
         ),
     }
 }

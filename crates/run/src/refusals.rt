@@ -11,9 +11,11 @@ use limits::refusals::RUN_DAMAGED;
 use limits::refusals::RUN_ENDED;
 ghost use mathlib.Core.Path.{_≡_};
 ghost use Prim.Native.Nat.{_≤_};
+ghost use lib.ListN.{length, take};
 ghost use Rattle.rules.specs.Limits.{maxChecks};
 ghost use Rattle.inputs.specs.Refusals.{orElse};
 ghost use Rattle.run.specs.Reply.{statusOf, progressOf};
+ghost use Rattle.run.specs.Sums.{EdgesOf, Carried};
 ghost use Rattle.run.specs.Admitted.{sizesAs, admittedOf, endedRefusal, damagedRefusal, admitsLent};
 
 // 42 of a run that is certified or spent, or 0.
@@ -28,10 +30,17 @@ pub(crate) fn ended_refusal(status: Status) -> u8
 }
 
 // 43 of the run as if it were running, or 0.
-pub(crate) fn damaged_refusal(rounds: u32, copies: &[i32], offsets: &[i32]) -> u8
-    ensures { λ r. ⌜ r ≡ damagedRefusal rounds (record { copies = now (copies .entry); offsets = now (offsets .entry) }) ⌝ }
+pub(crate) fn damaged_refusal(
+    rounds: u32,
+    members: &[u16],
+    copies: &[i32],
+    offsets: &[i32],
+    sums: &[i32],
+) -> u8
+    requires { ⌜ Carried (now members) (now copies) (now offsets) (now sums) ⌝ }
+    ensures { λ r. ⌜ r ≡ damagedRefusal (length (now (sums .entry))) (now (members .entry)) rounds (record { copies = now (copies .entry); offsets = now (offsets .entry) }) (now (sums .entry)) ⌝ }
 {
-    if is_sound(rounds, copies, offsets) {
+    if is_sound(rounds, members, copies, offsets, sums) {
         return 0;
     }
     RUN_DAMAGED
@@ -55,12 +64,15 @@ pub(crate) fn admit_sized(
     lent: Lent,
     copies: &[i32],
     offsets: &[i32],
+    sums: &[i32],
     bits: usize,
     checks: usize,
     edges: usize,
+    members: &[u16],
 ) -> Admitted
-    requires { ⌜ checks ≤ maxChecks ⌝ }
-    ensures { λ r. ⌜ admittedOf r ≡ admitsLent (sizesAs bits checks edges) (now (frame .entry)) wanted lent (progressOf run) (now (copies .entry)) (now (offsets .entry)) ⌝ }
+    requires { ⌜ (checks ≤ maxChecks) × (edges ≤ length (now members)) × EdgesOf bits (take edges (now members)) ⌝ }
+    ensures { λ r. ⌜ admittedOf r
+        ≡ admitsLent (sizesAs bits checks edges) (take edges (now (members .entry))) (now (frame .entry)) wanted lent (progressOf run) (now (copies .entry)) (now (offsets .entry)) (now (sums .entry)) ⌝ }
 {
     let k = inputs::frame(frame, bits);
     if k != 0 {
@@ -69,12 +81,18 @@ pub(crate) fn admit_sized(
     if Record::ROUND_LIMIT < wanted {
         return Admitted::Refused(ASKED_TOO_MUCH);
     }
-    if !long_enough(bits, checks, edges, lent, copies, offsets) {
+    if !long_enough(bits, checks, edges, lent, copies, offsets, sums) {
         return Admitted::Refused(BUFFER_SHORT);
     }
     let status = run.status;
     let ended = ended_refusal(status);
-    let damaged = damaged_refusal(run.rounds, &copies[..edges], &offsets[..edges]);
+    let damaged = damaged_refusal(
+        run.rounds,
+        &members[..edges],
+        &copies[..edges],
+        &offsets[..edges],
+        &sums[..bits],
+    );
     let standing = first_of(ended, damaged);
     if standing != 0 {
         return Admitted::Refused(standing);

@@ -57,7 +57,7 @@ below-++ : (n : ℕ) (ms es : List ℕ) → Below n ms → Below n es → Below 
 below-++ n [] es h k = k
 below-++ n (m ∷ ms) es h k = (h .0, below-++ n ms es (h .1) k)
 
-below-edges : (n : ℕ) (cs : List (List ℕ)) → AllBelow n cs → Below n (edges cs)
+pub below-edges : (n : ℕ) (cs : List (List ℕ)) → AllBelow n cs → Below n (edges cs)
 below-edges n [] h = tt
 below-edges n (ms ∷ cs) h = below-++ n ms (edges cs) (h .0) (below-edges n cs (h .1))
 

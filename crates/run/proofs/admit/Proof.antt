@@ -2,24 +2,21 @@
 use mathlib.Core.Path.{ap}
 use borrow.Author.Needs.{needs}
 use Rattle.table.specs.Reply.{numbered}
-use Rattle.run.proofs.AdmitLaws.{checks-few, admission-refused, admission-sized}
+use Rattle.run.proofs.AdmitLaws.{checks-few, edges-loaded, admission-refused, admission-sized}
 use Rattle.run.proofs.admit.Statement.{statement}
 use Rattle.run.proofs.admit.Tie as tie
 
 admit-sized-requires : tie.Need-admit-sized-requires
 admit-sized-requires c κs =
-    let load = c .before .before .before .before .before .before .before in
-    checks-few _ _ _ _ _ _ (load .load .ensures) _ _ _ (ap numbered (c .before .answer2 .given .1))
+    let accepted = ap numbered (c .before .before .answer2 .given .1) in
+    let loaded = edges-loaded _ _ _ _ _ _ (c .before .before .before .before .before .before .before .before .load .ensures) _ _ _ accepted in
+    (checks-few _ _ _ _ _ _ (c .before .before .before .before .before .before .before .before .load .ensures) _ _ _ accepted, loaded .0, loaded .1)
 
 returns : tie.Need-returns
-returns c =
-    let load = c .before .before .before .before .before .before .before in
-    admission-refused _ _ _ _ _ _ (load .load .ensures) _ _ _ _ _ _ (c .before .answer .given .0 .0) (ap numbered (c .before .answer .given .1))
+returns c = admission-refused _ _ _ _ _ _ (c .before .before .before .before .before .before .before .load .ensures) _ _ _ _ _ _ _ (c .before .answer .given .0 .0) (ap numbered (c .before .answer .given .1))
 
 returns-2 : tie.Need-returns-2
-returns-2 c =
-    let load = c .before .before .before .before .before .before .before .before in
-    admission-sized _ _ _ _ _ _ (load .load .ensures) _ _ _ _ _ _ _ _ _ (ap numbered (c .before .before .answer2 .given .1)) _ (c .admit-sized .ensures)
+returns-2 c = admission-sized _ _ _ _ _ _ (c .before .before .before .before .before .before .before .before .before .load .ensures) _ _ _ _ _ _ _ _ _ _ (ap numbered (c .before .before .before .answer2 .given .1)) _ (c .admit-sized .ensures)
 
 pub admit-spec : {M : Type 1} → statement M
 admit-spec =

@@ -1,12 +1,16 @@
 -- `run::start` meets its contract: each return has the answer and the tests that led there. Assumes nothing.
-use mathlib.Core.Path.{sym, _∙_, ap}
-use Prim.Native.Nat.{_≤_, _<_}
+use mathlib.Core.Path.{_≡_, sym, _∙_, ap}
+use mathlib.Core.List.{List}
+use Prim.Native.Nat.{ℕ, _≤_, _<_}
 use native.Mathlib.Omega.{arith}
-use lib.ListN.{length}
+use lib.ListN.{length, take}
+use lib.Seq.{length-take-le}
+use lib.IntN.{ℤ}
 use borrow.Author.Needs.{needs}
 use Rattle.table.specs.Reply.{numbered}
 use Rattle.table.proofs.AcceptedLaws.{Readable, readable, refused-is}
-use Rattle.run.proofs.StartLaws.{start-refused, start-few-copies, start-few-offsets, start-fresh}
+use Rattle.run.proofs.ClearLaws.{cleared}
+use Rattle.run.proofs.StartLaws.{start-refused, start-few-copies, start-few-offsets, start-few-sums, start-fresh}
 use Rattle.run.proofs.start.Statement.{statement}
 use Rattle.run.proofs.start.Tie as tie
 
@@ -16,9 +20,8 @@ accepted c = readable _ _ _ _ (ap numbered (sym (c .answer2 .given .1)) ∙ c .b
 
 returns : tie.Need-returns
 returns c =
-    let read = c .before .before in
-    let short : length (read .before .before .before .before .args .copies .now) < read .answer2 .given .0 .1 .1 .0 = omega arith in
-    start-few-copies _ _ _ _ _ _ (accepted read) short
+    let short : length (c .before .before .before .before .before .before .args .copies .now) < c .before .before .answer2 .given .0 .1 .1 .0 = omega arith in
+    start-few-copies _ _ _ _ _ _ _ (accepted (c .before .before)) short
 
 -- there is room for the copies
 copies-fit : (c : tie.Else1) → c .before .before .answer2 .given .0 .1 .1 .0 ≤ length (c .before .before .before .before .before .before .args .copies .now)
@@ -26,22 +29,43 @@ copies-fit c = omega arith
 
 returns-2 : tie.Need-returns-2
 returns-2 c =
-    let read = c .before .before .before in
-    let short : length (read .before .before .before .before .args .offsets .now) < read .answer2 .given .0 .1 .1 .0 = omega arith in
-    start-few-offsets _ _ _ _ _ _ (accepted read) (copies-fit (c .before)) short
+    let short : length (c .before .before .before .before .before .before .before .args .offsets .now) < c .before .before .before .answer2 .given .0 .1 .1 .0 = omega arith in
+    start-few-offsets _ _ _ _ _ _ _ (accepted (c .before .before .before)) (copies-fit (c .before)) short
 
--- and for the offsets
+-- for the offsets
 offsets-fit : (c : tie.Else2) → c .before .before .before .answer2 .given .0 .1 .1 .0 ≤ length (c .before .before .before .before .before .before .before .args .offsets .now)
 offsets-fit c = omega arith
 
 returns-3 : tie.Need-returns-3
-returns-3 c = start-refused _ _ _ _ (refused-is _ _ (ap numbered (sym (c .before .answer .given .1)) ∙ c .before .before .before .check .ensures))
+returns-3 c =
+    let short : length (c .before .before .before .before .before .before .before .before .args .sums .now) < c .before .before .before .before .answer2 .given .0 .0 = omega arith in
+    start-few-sums _ _ _ _ _ _ _ (accepted (c .before .before .before .before)) (copies-fit (c .before .before)) (offsets-fit (c .before)) short
+
+-- and for the sums
+sums-fit : (c : tie.Else3) → c .before .before .before .before .answer2 .given .0 .0 ≤ length (c .before .before .before .before .before .before .before .before .args .sums .now)
+sums-fit c = omega arith
 
 returns-4 : tie.Need-returns-4
-returns-4 c =
-    let room = c .before .before .before .before .before .before .before in
-    start-fresh _ _ _ _ _ _ (accepted (room .before .before .before)) _ _ _ (copies-fit (room .before)) (offsets-fit room) (c .fresh .ensures)
-    (c .before .before .before .before .before .clear-first .ensures) (c .before .before .clear-first2 .ensures)
+returns-4 c = start-refused _ _ _ _ _ (refused-is _ _ (ap numbered (sym (c .before .answer .given .1)) ∙ c .before .before .before .check .ensures))
+
+returns-5 : tie.Need-returns-5
+returns-5 c =
+    let room = c .before .before .before .before .before .before .before .before .before .before in
+    start-fresh _ _ _ _ _ _ _ (accepted (c .before .before .before .before .before .before .before .before .before .before .before .before .before .before)) (copies-fit (room .before .before)) (offsets-fit (room .before)) _ _ _ _ (sums-fit room) (c .fresh .ensures)
+    (cleared _ _ (copies-fit (room .before .before)) (c .before .before .before .before .before .before .before .before .clear .ensures)) (cleared _ _ (offsets-fit (room .before)) (c .before .before .before .before .before .clear2 .ensures)) (cleared _ _ (sums-fit room) (c .before .before .clear3 .ensures))
+
+-- as much as there is room for is lent
+part : {e : ℕ} (xs : List ℤ) → e ≤ length xs → e ≡ length (take e xs)
+part {e} xs h = sym (length-take-le e xs h)
+
+slice-aggregate-clear : tie.Need-slice-aggregate-clear
+slice-aggregate-clear c = part (c .before .before .before .before .before .before .before .before .before .args .copies .now) (copies-fit (c .before .before .before))
+
+slice-aggregate-clear-2 : tie.Need-slice-aggregate-clear-2
+slice-aggregate-clear-2 c = part (c .before .before .before .before .before .before .before .before .before .before .before .before .args .offsets .now) (offsets-fit (c .before .before .before .before .before))
+
+slice-aggregate-clear-3 : tie.Need-slice-aggregate-clear-3
+slice-aggregate-clear-3 c = part (c .before .before .before .before .before .before .before .before .before .before .before .before .before .before .before .args .sums .now) (sums-fit (c .before .before .before .before .before .before .before))
 
 pub start-spec : {M : Type 1} → statement M
 start-spec =
@@ -52,10 +76,19 @@ start-spec =
     (λ c. search needs)
     returns
     returns-2
-    (λ c κs. search needs)
-    (λ c κs. search needs)
-    (λ c κs. search needs)
     returns-3
+    (λ c. copies-fit (c .before .before))
+    slice-aggregate-clear
+    (λ c κs. search needs)
+    (λ c. search needs)
+    slice-aggregate-clear-2
+    (λ c κs. search needs)
+    (λ c. search needs)
+    slice-aggregate-clear-3
+    (λ c κs. search needs)
+    (λ c κs. search needs)
+    returns-4
     (λ c. search needs)
     (λ c. search needs)
-    returns-4)
+    (λ c. search needs)
+    returns-5)

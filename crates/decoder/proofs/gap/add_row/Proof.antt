@@ -5,7 +5,7 @@ use lib.ListN.{length-take}
 use borrow.Author.Needs.{needs}
 use Rattle.rules.specs.Scatter.{scatterRow, rowOf}
 use Rattle.decoder.specs.Closing.{RowFits}
-use Rattle.decoder.proofs.ExactLaws.{take-exact}
+use Rattle.rules.proofs.BufferLaws.{take-exact}
 use Rattle.decoder.proofs.gap.add_row.Statement.{statement}
 use Rattle.decoder.proofs.gap.add_row.Tie as tie
 

@@ -2,7 +2,7 @@
 use mathlib.Core.Path.{sym, _∙_, ap}
 use native.Mathlib.Omega.{arith}
 use lib.ListN.{length}
-use Rattle.rules.specs.Buffers.{spins, copies, offsets, multipliers, masks}
+use Rattle.rules.specs.Buffers.{spins, copies, offsets, sums, multipliers, masks}
 use Rattle.run.specs.Reply.{statusOf}
 use Rattle.table.specs.Layout.{tableOf}
 use Rattle.decoder.specs.Lent.{loopIn}
@@ -11,33 +11,29 @@ use Rattle.decoder.proofs.iterate.run_rounds.Statement.{statement}
 use Rattle.decoder.proofs.iterate.run_rounds.Tie as tie
 
 abbrev Inv-loop : tie.InvT-loop
-Inv-loop frame starts members degrees wanted s₀ z₀ y₀ b₀ m₀ at₀ k₀ s z y b m at k =
-    Going (tableOf (length frame) starts members) frame wanted (loopIn at₀ s₀ z₀ y₀ b₀ m₀) k (loopIn at s z y b m)
+Inv-loop frame starts members degrees wanted s₀ z₀ y₀ x₀ b₀ m₀ at₀ k₀ s z y x b m at k =
+    Going (tableOf (length frame) starts members) frame wanted (loopIn at₀ s₀ z₀ y₀ x₀ b₀ m₀) k (loopIn at s z y x b m)
 
 abbrev μ-loop : tie.MeasureT-loop
-μ-loop frame starts members degrees wanted s₀ z₀ y₀ b₀ m₀ at₀ k₀ s z y b m at k = k
+μ-loop frame starts members degrees wanted s₀ z₀ y₀ x₀ b₀ m₀ at₀ k₀ s z y x b m at k = k
 
 loop-holds : tie.Need-loop-holds Inv-loop μ-loop
 loop-holds c = going-first _ (c .before .before .before .before .before .pre .1)
 
 do-round-requires : tie.Need-do-round-requires Inv-loop μ-loop
 do-round-requires c κs =
-    let turn = c .before .before .before .before .before in
-    (turn .before .before .before .before .before .before .before .pre .0, going-ready (turn .before .loop .inv) (turn .loop-test .taken))
+    (c .before .before .before .before .before .before .before .before .before .before .before .before .before .pre .0, going-ready (c .before .before .before .before .before .before .before .loop .inv) (c .before .before .before .before .before .before .loop-test .taken))
 
 left-requires : tie.Need-left-requires Inv-loop μ-loop
-left-requires c κs = c .before .before .before .before .before .before .before .before .before .before .before .before .before .loop-test .taken
+left-requires c κs = c .before .before .before .before .before .before .before .before .before .before .before .before .before .before .before .loop-test .taken
 
 loop-less : tie.Need-loop-less Inv-loop μ-loop
 loop-less c =
-    let done = c .before .before .before .before .before .before .before .before in
-    left-less (statusOf (done .do-round .result .status)) _ _ (done .before .before .before .before .before .before .loop-test .taken) (c .left .ensures)
+    left-less (statusOf (c .before .before .before .before .before .before .before .before .before .do-round .result .status)) _ _ (c .before .before .before .before .before .before .before .before .before .before .before .before .before .before .before .before .loop-test .taken) (c .left .ensures)
 
 loop-again : tie.Need-loop-again Inv-loop μ-loop
 loop-again c =
-    let done = c .before .before .before .before .before .before .before .before in
-    let turn = done .before .before .before .before .before .before in
-    going-next _ _ _ _ _ _ _ _ (turn .before .loop .inv) (turn .loop-test .taken) (done .do-round .ensures) _ (c .left .ensures)
+    going-next _ _ _ _ _ _ _ _ (c .before .before .before .before .before .before .before .before .before .before .before .before .before .before .before .before .before .loop .inv) (c .before .before .before .before .before .before .before .before .before .before .before .before .before .before .before .before .loop-test .taken) (c .before .before .before .before .before .before .before .before .before .do-round .ensures) _ (c .left .ensures)
 
 same-length : tie.Need-same-length Inv-loop μ-loop
 same-length c = ap (λ n. n spins) (c .before .loop .inv .sizes ∙ sym (c .before .before .before .before .before .before .before .pre .1 .sizes))
@@ -49,10 +45,13 @@ same-length-3 : tie.Need-same-length-3 Inv-loop μ-loop
 same-length-3 c = ap (λ n. n offsets) (c .before .loop .inv .sizes ∙ sym (c .before .before .before .before .before .before .before .pre .1 .sizes))
 
 same-length-4 : tie.Need-same-length-4 Inv-loop μ-loop
-same-length-4 c = ap (λ n. n multipliers) (c .before .loop .inv .sizes ∙ sym (c .before .before .before .before .before .before .before .pre .1 .sizes))
+same-length-4 c = ap (λ n. n sums) (c .before .loop .inv .sizes ∙ sym (c .before .before .before .before .before .before .before .pre .1 .sizes))
 
 same-length-5 : tie.Need-same-length-5 Inv-loop μ-loop
-same-length-5 c = ap (λ n. n masks) (c .before .loop .inv .sizes ∙ sym (c .before .before .before .before .before .before .before .pre .1 .sizes))
+same-length-5 c = ap (λ n. n multipliers) (c .before .loop .inv .sizes ∙ sym (c .before .before .before .before .before .before .before .pre .1 .sizes))
+
+same-length-6 : tie.Need-same-length-6 Inv-loop μ-loop
+same-length-6 c = ap (λ n. n masks) (c .before .loop .inv .sizes ∙ sym (c .before .before .before .before .before .before .before .pre .1 .sizes))
 
 returns : tie.Need-returns Inv-loop μ-loop
 returns c = going-last _ _ _ _ _ _ _ (omega arith) (c .before .loop .inv)
@@ -73,4 +72,5 @@ run-rounds-spec =
     same-length-3
     same-length-4
     same-length-5
+    same-length-6
     returns)

@@ -1,46 +1,38 @@
 -- `do_round` meets its contract. Assumes nothing.
+use mathlib.Core.Path.{_∙_}
 use Rattle.decoder.proofs.DoRoundLaws.{spins-fit, pass-fits, gap-fits, done-law}
 use Rattle.decoder.proofs.round.do_round.Statement.{statement}
 use Rattle.decoder.proofs.round.do_round.Tie as tie
 
--- the call's beginning, seen from after step 1
-abbrev begun : tie.After-find-spins → tie.Start
-begun c = c .before .before .before .before .before .before .before .before .before
-
 find-spins-requires : tie.Need-find-spins-requires
-find-spins-requires c κs = spins-fit (c .before .before .before .before .before .before .before .before .pre .0) (c .before .before .before .before .before .before .before .before .pre .1)
+find-spins-requires c κs = spins-fit (c .before .before .before .before .before .before .before .pre .0) (c .before .before .before .before .before .before .before .pre .1)
 
 pass-requires : tie.Need-pass-requires
-pass-requires c κs =
-    let one = c .before .before .before .before .before .before in
-    pass-fits (begun one .pre .0) (begun one .pre .1) (one .find-spins .ensures)
+pass-requires c κs = pass-fits (c .before .before .before .before .before .before .before .before .before .before .before .before .before .before .before .before .pre .0) (c .before .before .before .before .before .before .before .before .before .before .before .before .before .before .before .before .pre .1) (c .before .before .before .before .before .before .before .before .find-spins .ensures)
 
 find-word-requires : tie.Need-find-word-requires
-find-word-requires c κs =
-    let two = c .before .before .before .before .before .before .before .before .before in
-    let one = c .before .before .before .before .before .before .before .before .before .before .before .before .before .before .before .before in
-    gap-fits (begun one .pre .0) (begun one .pre .1) (one .find-spins .ensures) (two .pass .ensures)
+find-word-requires c κs = gap-fits (c .before .before .before .before .before .before .before .before .before .before .before .before .before .before .before .before .before .before .before .before .before .before .before .before .before .before .before .pre .0) (c .before .before .before .before .before .before .before .before .before .before .before .before .before .before .before .before .before .before .before .before .before .before .before .before .before .before .before .pre .1) (c .before .before .before .before .before .before .before .before .before .before .before .before .before .before .before .before .before .before .before .find-spins .ensures) (c .before .before .before .before .before .before .before .before .before .before .pass .ensures)
 
 same-length : tie.Need-same-length
-same-length c = c .before .before .before .before .before .before .before .before .before .before .before .before .before .before .before .before .before .before .find-spins .kept .1 .1 .1 .1 .1 .0
+same-length c = c .before .before .before .before .before .before .before .before .before .before .before .before .before .before .before .before .before .before .before .before .before .find-spins .kept .1 .1 .1 .0
 
 same-length-2 : tie.Need-same-length-2
-same-length-2 c = c .before .before .before .before .before .before .before .before .before .before .before .pass .kept .1 .1 .1 .0
+same-length-2 c = c .before .before .before .before .before .before .before .before .before .before .before .before .pass .kept .1 .1 .1 .0
 
 same-length-3 : tie.Need-same-length-3
-same-length-3 c = c .before .before .before .before .before .before .before .before .before .before .before .pass .kept .1 .1 .1 .1 .0
+same-length-3 c = c .before .before .before .before .before .before .before .before .before .before .before .before .pass .kept .1 .1 .1 .1 .0
 
 same-length-4 : tie.Need-same-length-4
-same-length-4 c = c .before .before .before .before .before .before .before .before .before .before .before .pass .kept .1 .1 .1 .1 .1 .0
+same-length-4 c = c .before .before .before .before .before .before .before .before .before .before .before .before .pass .kept .1 .1 .1 .1 .1 .0 ∙ c .before .before .before .before .before .before .before .before .before .before .before .before .before .before .before .before .before .before .before .before .before .find-spins .kept .1 .1 .0
 
 same-length-5 : tie.Need-same-length-5
-same-length-5 c = c .before .before .before .before .before .before .before .before .before .before .before .pass .kept .1 .1 .1 .1 .1 .1 .0
+same-length-5 c = c .before .before .before .before .before .before .before .before .before .before .before .before .pass .kept .1 .1 .1 .1 .1 .1 .0
+
+same-length-6 : tie.Need-same-length-6
+same-length-6 c = c .before .before .before .before .before .before .before .before .before .before .before .before .pass .kept .1 .1 .1 .1 .1 .1 .1 .0
 
 returns : tie.Need-returns
-returns c =
-    let two = c .before .before .before .before .before .before .before .before .before .before .before in
-    let one = c .before .before .before .before .before .before .before .before .before .before .before .before .before .before .before .before .before .before in
-    done-law (begun one .pre .0) (begun one .pre .1) (one .find-spins .ensures) (two .pass .ensures) (c .before .find-word .ensures) (c .record-after .ensures)
+returns c = done-law (c .before .before .before .before .before .before .before .before .before .before .before .before .before .before .before .before .before .before .before .before .before .before .before .before .before .before .before .before .before .pre .0) (c .before .before .before .before .before .before .before .before .before .before .before .before .before .before .before .before .before .before .before .before .before .before .before .before .before .before .before .before .before .pre .1) (c .before .before .before .before .before .before .before .before .before .before .before .before .before .before .before .before .before .before .before .before .before .find-spins .ensures) (c .before .before .before .before .before .before .before .before .before .before .before .before .pass .ensures) (c .before .find-word .ensures) (c .record-after .ensures)
 
 pub do-round-spec : {M : Type 1} → statement M
 do-round-spec =
@@ -55,4 +47,5 @@ do-round-spec =
     same-length-3
     same-length-4
     same-length-5
+    same-length-6
     returns)

@@ -11,7 +11,7 @@ use Rattle.rules.specs.Table.{at}
 use Rattle.rules.specs.Round.{divided, firstOf}
 use Rattle.rules.proofs.RoundSizes.{first-length, first-at}
 use Rattle.rules.proofs.FillLaws.{fill, fill-none, fill-length, fill-more, fill-all}
-use Rattle.decoder.specs.Totals.{quotientAt}
+use Rattle.decoder.specs.Spins.{quotientAt}
 use Rattle.decoder.proofs.spins.divide_totals.Statement.{statement}
 use Rattle.decoder.proofs.spins.divide_totals.Tie as tie
 

@@ -1,9 +1,10 @@
 -- `move_all` meets its contract: the first i places are done, and the others still hold the values. Assumes nothing.
 use mathlib.Core.Path.{_≡_, sym, _∙_, ap, ap₂, subst}
-use Prim.Native.Nat.{_-_, _<_}
+use Prim.Native.Nat.{_-_, _/_, _%_, _^_, _<_}
 use native.Mathlib.Omega.{arith}
-use lib.ListN.{length}
-use lib.IntN.{ℤ, _-ℤ_}
+use lib.Dec.{eqb}
+use lib.ListN.{length, getD, set}
+use lib.IntN.{ℤ, _+ℤ_, _-ℤ_}
 use mir.Syntax.{w32}
 use mir.Val.{SFits, toZ, ofZ}
 use mir.Facts.{toZ-ofZ}
@@ -14,93 +15,90 @@ use Rattle.integers.specs.Machine.{fit}
 use Rattle.rules.specs.Table.{at}
 use Rattle.rules.specs.Step.{move}
 use Rattle.rules.proofs.Optimal.{within-at}
-use Rattle.decoder.proofs.MoveAllLaws.{offset-fits, Moving, moving-first, moving-long, moving-at, moving-next, moving-stored, moving-last}
+use Rattle.decoder.proofs.MoveAllLaws.{offset-fits, Moving, moving-first, moving-long, moving-at, weight-fits, inside, sum-fits, moving-next, moving-last}
 use Rattle.decoder.proofs.step.move_all.Statement.{statement}
 use Rattle.decoder.proofs.step.move_all.Tie as tie
 
 abbrev Inv-loop : tie.InvT-loop
-Inv-loop mask b copies₀ offsets₀ i₀ copies offsets i = Moving b mask copies₀ offsets₀ i copies offsets
+Inv-loop members mask b copies₀ offsets₀ sums₀ i₀ copies offsets sums i = Moving b mask members copies₀ offsets₀ sums₀ i copies offsets sums
 
 abbrev μ-loop : tie.MeasureT-loop
-μ-loop mask b copies₀ offsets₀ i₀ copies offsets i = length offsets₀ - i
+μ-loop members mask b copies₀ offsets₀ sums₀ i₀ copies offsets sums i = length offsets₀ - i
 
-long : (c : tie.At-loop Inv-loop μ-loop) → (length (c .loop .copies) ≡ length (c .before .args .offsets .now)) × (length (c .loop .offsets) ≡ length (c .before .args .offsets .now))
-long c =
-    let a = c .before .args in
-    moving-long (a .b) (a .mask) (a .copies .now) (a .offsets .now) (c .before .pre) (c .loop .i) (c .loop .copies) (c .loop .offsets) (c .loop .inv)
+long : (c : tie.At-loop Inv-loop μ-loop) → length (c .loop .offsets) ≡ length (c .before .before .args .offsets .now)
+long c = moving-long (c .before .before .pre) (c .loop .inv) .1
+
+-- there is a member i
+here : (c : tie.In-loop Inv-loop μ-loop) → c .before .loop .i < length (c .before .before .before .args .offsets .now)
+here c = omega (arith, long (c .before), c .loop-test)
 
 mul-v : tie.Need-mul-v Inv-loop μ-loop
-mul-v c = omega (arith, long (c .before))
+mul-v c = omega (arith, here c)
 
 holds-requires : tie.Need-holds-requires Inv-loop μ-loop
-holds-requires c κs = omega (arith, long (c .before .before), c .before .before .before .pre .few)
+holds-requires c κs = omega (arith, here (c .before), c .before .before .before .before .pre .few)
 
 -- the value that is moved, and as it was read
 abbrev valueAt : tie.At-loop Inv-loop μ-loop → ℤ
-valueAt l = at (l .before .args .offsets .now) (l .loop .i)
+valueAt l = at (l .before .before .args .offsets .now) (l .loop .i)
 
-value : (c : tie.After-v Inv-loop μ-loop) → let l = c .before .before in toZ w32 (ofZ w32 (at (l .loop .offsets) (l .loop .i))) ≡ valueAt l
-value c =
-    let start = c .before .before .before in
-    let l = c .before .before .loop in
-    toZ-ofZ (fit w32 (at (l .offsets) (l .i)) (c .v .given))
-    ∙ moving-at (start .args .b) (start .args .mask) (start .args .copies .now) (start .args .offsets .now) (start .pre) (l .i) (l .copies) (l .offsets) (l .inv)
+value : (c : tie.After-v Inv-loop μ-loop) → toZ w32 (ofZ w32 (at (c .before .before .loop .offsets) (c .before .before .loop .i))) ≡ valueAt (c .before .before)
+value c = toZ-ofZ (fit w32 (at (c .before .before .loop .offsets) (c .before .before .loop .i)) (c .v .given)) ∙ moving-at (c .before .before .before .before .pre) (c .before .before .loop .inv)
 
 small : (c : tie.At-loop Inv-loop μ-loop) → Within valueLimit (valueAt c)
-small c = within-at valueLimit (c .before .args .offsets .now) (c .before .pre .small) (c .loop .i)
+small c = within-at valueLimit (c .before .before .args .offsets .now) (c .before .before .pre .small) (c .loop .i)
 
 moved-requires : tie.Need-moved-requires Inv-loop μ-loop
-moved-requires c κs = (subst (Within valueLimit) (sym (value (c .before))) (small (c .before .before .before)), c .before .before .before .before .pre .bounded)
+moved-requires c κs = (subst (Within valueLimit) (sym (value (c .before))) (small (c .before .before .before)), c .before .before .before .before .before .pre .bounded)
 
-copy : (c : tie.After-moved Inv-loop μ-loop)
-    → let l = c .before .before .before .before in
-    toZ w32 (ofZ w32 (c .moved .result)) ≡ move unit (l .before .args .b) (c .before .holds .result) (valueAt l)
-copy c =
-    let b = c .before .before .before .before .before .args .b in
-    toZ-ofZ (fit w32 (c .moved .result) (c .moved .ok)) ∙ c .moved .ensures ∙ ap (move unit b (c .before .holds .result)) (value (c .before .before))
+-- where it goes to, and its offset, as they were read
+copy : (c : tie.After-moved Inv-loop μ-loop) → toZ w32 (ofZ w32 (c .moved .result)) ≡ move unit (c .before .before .before .before .before .before .args .b) (c .before .holds .result) (valueAt (c .before .before .before .before))
+copy c = toZ-ofZ (fit w32 (c .moved .result) (c .moved .ok)) ∙ c .moved .ensures ∙ ap (move unit (c .before .before .before .before .before .before .args .b) (c .before .holds .result)) (value (c .before .before))
 
 sub-y : tie.Need-sub-y Inv-loop μ-loop
 sub-y c = subst (SFits w32) (sym (ap₂ _-ℤ_ (value (c .before .before)) (copy c))) (offset-fits _ _ (small (c .before .before .before .before)) (clip-within unit _))
 
+offset : (c : tie.After-moved Inv-loop μ-loop) → toZ w32 (ofZ w32 (toZ w32 (ofZ w32 (at (c .before .before .before .before .loop .offsets) (c .before .before .before .before .loop .i))) -ℤ toZ w32 (ofZ w32 (c .moved .result)))) ≡ valueAt (c .before .before .before .before) -ℤ toZ w32 (ofZ w32 (c .moved .result))
+offset c = toZ-ofZ (sub-y c) ∙ ap (λ v. v -ℤ toZ w32 (ofZ w32 (c .moved .result))) (value (c .before .before))
+
 store-signed-requires : tie.Need-store-signed-requires Inv-loop μ-loop
-store-signed-requires c κs = omega (arith, long (c .before .before .before .before .before), c .before .before .before .before .loop-test)
+store-signed-requires c κs = omega (arith, moving-long (c .before .before .before .before .before .before .before .pre) (c .before .before .before .before .before .loop .inv) .0, here (c .before .before .before .before))
 
 store-signed-requires-2 : tie.Need-store-signed-requires-2 Inv-loop μ-loop
-store-signed-requires-2 c κs = omega (arith, long (c .before .before .before .before .before .before .before .before), c .before .before .before .before .before .before .before .loop-test)
+store-signed-requires-2 c κs = omega (arith, long (c .before .before .before .before .before .before .before .before), here (c .before .before .before .before .before .before .before))
 
-add-i : tie.Need-add-i Inv-loop μ-loop
-add-i c =
-    let turn = c .before .before .before .before .before .before .before .before .before in
-    omega (arith, long (turn .before), turn .loop-test)
+shared-slice-read-add-at : tie.Need-shared-slice-read-add-at Inv-loop μ-loop
+shared-slice-read-add-at c = omega (arith, here (c .before .before .before .before .before .before .before .before .before .before .before), c .before .before .before .before .before .before .before .before .before .before .before .before .before .before .pre .membersLong)
+
+sub-add-at : tie.Need-sub-add-at Inv-loop μ-loop
+sub-add-at c = weight-fits (c .before .before .before .before .before .before .before .before .before .before .before .before .before .before .pre) (c .before .before .before .before .before .before .before .before .before .before .before .before .loop .inv) (here (c .before .before .before .before .before .before .before .before .before .before .before)) (c .before .before .before .before .before .before .before .before .before .holds .ensures) (copy (c .before .before .before .before .before .before .before .before)) (offset (c .before .before .before .before .before .before .before .before))
+
+add-at-requires : tie.Need-add-at-requires Inv-loop μ-loop
+add-at-requires c κs = (
+  inside (c .before .before .before .before .before .before .before .before .before .before .before .before .before .before .pre) (c .before .before .before .before .before .before .before .before .before .before .before .before .loop .inv) (here (c .before .before .before .before .before .before .before .before .before .before .before)) (c .before .before .before .before .before .before .before .before .before .holds .ensures) (copy (c .before .before .before .before .before .before .before .before)) (offset (c .before .before .before .before .before .before .before .before)),
+  subst (λ w. SFits w32 (at (c .before .before .before .before .before .before .before .before .before .before .before .before .loop .sums) (getD (c .before .before .before .before .before .before .before .before .before .before .before .before .before .before .args .members .now) (c .before .before .before .before .before .before .before .before .before .before .before .before .loop .i) 0) +ℤ w)) (sym (toZ-ofZ (sub-add-at c)))
+      (sum-fits (c .before .before .before .before .before .before .before .before .before .before .before .before .before .before .pre) (c .before .before .before .before .before .before .before .before .before .before .before .before .loop .inv) (here (c .before .before .before .before .before .before .before .before .before .before .before)) (c .before .before .before .before .before .before .before .before .before .holds .ensures) (copy (c .before .before .before .before .before .before .before .before)) (offset (c .before .before .before .before .before .before .before .before))),
+)
 
 loop-less : tie.Need-loop-less Inv-loop μ-loop
-loop-less c =
-    let turn = c .before .before .before .before .before .before .before .before .before in
-    omega (arith, long (turn .before), turn .loop-test)
+loop-less c = omega (arith, here (c .before .before .before .before .before .before .before .before .before .before .before .before .before))
 
 loop-again : tie.Need-loop-again Inv-loop μ-loop
-loop-again c =
-    let turn = c .before .before .before .before .before .before .before .before .before in
-    let start = turn .before .before in
-    let l = turn .before .loop in
-    let moved = c .before .before .before .before .before .before in
-    let inside : l .i < length (start .args .offsets .now) = omega (arith, long (turn .before), turn .loop-test) in
-    let offset = toZ-ofZ (sub-y moved) ∙ ap (λ v. v -ℤ toZ w32 (ofZ w32 (moved .moved .result))) (value (moved .before .before)) in
-    moving-stored _ _ _ _ _ (c .before .before .before .before .store-signed .ensures) (c .before .store-signed2 .ensures)
-    (moving-next (start .args .b) (start .args .mask) (start .args .copies .now) (start .args .offsets .now) (start .pre) (l .i) (l .copies) (l .offsets) (l .inv)
-    (moved .before .holds .result) _ _ inside (moved .before .holds .ensures) (copy moved) offset)
+loop-again c = moving-next (c .before .before .before .before .before .before .before .before .before .before .before .before .before .before .before .before .pre) (c .before .before .before .before .before .before .before .before .before .before .before .before .before .before .loop .inv) (here (c .before .before .before .before .before .before .before .before .before .before .before .before .before)) (c .before .before .before .before .before .before .before .before .before .before .before .holds .ensures) (copy (c .before .before .before .before .before .before .before .before .before .before)) (offset (c .before .before .before .before .before .before .before .before .before .before))
+    (c .before .before .before .before .before .before .before .before .store-signed .ensures) (c .before .before .before .before .before .store-signed2 .ensures)
+    (c .before .add-at .ensures ∙ ap (λ w. set (c .before .before .before .before .before .before .before .before .before .before .before .before .before .before .loop .sums) (getD (c .before .before .before .before .before .before .before .before .before .before .before .before .before .before .before .before .args .members .now) (c .before .before .before .before .before .before .before .before .before .before .before .before .before .before .loop .i) 0) (at (c .before .before .before .before .before .before .before .before .before .before .before .before .before .before .loop .sums) (getD (c .before .before .before .before .before .before .before .before .before .before .before .before .before .before .before .before .args .members .now) (c .before .before .before .before .before .before .before .before .before .before .before .before .before .before .loop .i) 0) +ℤ w)) (toZ-ofZ (sub-add-at (c .before .before))))
 
 same-length : tie.Need-same-length Inv-loop μ-loop
-same-length c = omega (arith, long (c .before), c .before .before .pre .copiesLong)
+same-length c = omega (arith, moving-long (c .before .before .before .pre) (c .before .loop .inv) .0, c .before .before .before .pre .copiesLong)
 
 same-length-2 : tie.Need-same-length-2 Inv-loop μ-loop
-same-length-2 c = long (c .before) .1
+same-length-2 c = long (c .before)
+
+same-length-3 : tie.Need-same-length-3 Inv-loop μ-loop
+same-length-3 c = moving-long (c .before .before .before .pre) (c .before .loop .inv) .2
 
 returns : tie.Need-returns Inv-loop μ-loop
-returns c =
-    let start = c .before .before in
-    let l = c .before .loop in
-    moving-last (start .args .b) (start .args .mask) (start .args .copies .now) (start .args .offsets .now) (start .pre) (l .i) (l .copies) (l .offsets) (l .inv) (omega (arith, long (c .before)))
+returns c = moving-last (c .before .before .before .pre) (c .before .loop .inv) (omega (arith, long (c .before), c .loop-test))
 
 pub move-all-spec : {M : Type 1} → statement M
 move-all-spec =
@@ -108,7 +106,7 @@ move-all-spec =
     (tie.spec
     Inv-loop
     μ-loop
-    (λ c. moving-first _ _ _ _)
+    (λ c. moving-first (c .before .pre))
     mul-v
     (λ c. omega arith)
     holds-requires
@@ -116,9 +114,14 @@ move-all-spec =
     sub-y
     store-signed-requires
     store-signed-requires-2
-    add-i
+    (λ c. omega arith)
+    shared-slice-read-add-at
+    sub-add-at
+    add-at-requires
+    (λ c. omega arith)
     loop-less
     loop-again
     same-length
     same-length-2
+    same-length-3
     returns)

@@ -11,34 +11,22 @@ use Rattle.decoder.proofs.step.step_of.Tie as tie
 
 multiplier-for-requires : tie.Need-multiplier-for-requires
 multiplier-for-requires c κs f =
-    let saw = c .before .before .before in
-    let added = saw .before .before .before .before in
-    let start = added .before .before .before in
-    let a = start .args in
-    subst (Rising _) (sym (toZ-ofZ (fit w32 (saw .see .result .top) search)))
-    (multiplier-asks (a .spins .now) (a .members .now) (a .copies .now) (a .offsets .now) _ (start .pre) (added .add-spins .ensures) _ _
-    (saw .see .result .mask) (saw .see .result .top) (saw .see .ensures) f)
+    let a = c .before .before .before .before .before .before .before .before .before .before .args in
+    subst (Rising _) (sym (toZ-ofZ (fit w32 (c .before .before .before .see .result .top) search)))
+    (multiplier-asks (a .spins .now) (a .members .now) (a .copies .now) (a .offsets .now) (a .sums .now) _ (c .before .before .before .before .before .before .before .before .before .before .pre) (c .before .before .before .before .before .before .before .add-spins .ensures) _ _
+    (c .before .before .before .see .result .mask) (c .before .before .before .see .result .top) (c .before .before .before .see .ensures) f)
 
 move-all-requires : tie.Need-move-all-requires
 move-all-requires c κs =
-    let found = c .before .before in
-    let saw = found .before .before .before .before in
-    let added = saw .before .before .before .before in
-    let start = added .before .before .before in
-    let a = start .args in
-    move-asks (a .spins .now) (a .members .now) (a .copies .now) (a .offsets .now) _ (start .pre) (added .add-spins .ensures) _ _ (saw .see .result .mask) (saw .see .result .top) (saw .see .ensures)
-    (found .multiplier-for .result) (found .multiplier-for .ensures)
+    let a = c .before .before .before .before .before .before .before .before .before .before .before .before .before .before .args in
+    move-asks (a .spins .now) (a .members .now) (a .copies .now) (a .offsets .now) (a .sums .now) _ (c .before .before .before .before .before .before .before .before .before .before .before .before .before .before .pre) (c .before .before .before .before .before .before .before .before .before .before .before .add-spins .ensures) _ _ (c .before .before .before .before .before .before .before .see .result .mask) (c .before .before .before .before .before .before .before .see .result .top) (c .before .before .before .before .before .before .before .see .ensures)
+    (c .before .before .before .multiplier-for .result) (c .before .before .before .multiplier-for .ensures)
 
 returns : tie.Need-returns
 returns c =
-    let moved = c .before .before in
-    let found = moved .before .before .before in
-    let saw = found .before .before .before .before in
-    let added = saw .before .before .before .before in
-    let start = added .before .before .before in
-    let a = start .args in
-    step-left (a .spins .now) (a .members .now) (a .copies .now) (a .offsets .now) _ (start .pre) (added .add-spins .ensures) _ _ (saw .see .result .mask) (saw .see .result .top) (saw .see .ensures)
-    (found .multiplier-for .result) (found .multiplier-for .ensures) _ _ (moved .move-all .ensures)
+    let a = c .before .before .before .before .before .before .before .before .before .before .before .before .before .before .before .before .before .before .args in
+    step-left (a .spins .now) (a .members .now) (a .copies .now) (a .offsets .now) (a .sums .now) _ (c .before .before .before .before .before .before .before .before .before .before .before .before .before .before .before .before .before .before .pre) (c .before .before .before .before .before .before .before .before .before .before .before .before .before .before .before .add-spins .ensures) _ _ (c .before .before .before .before .before .before .before .before .before .before .before .see .result .mask) (c .before .before .before .before .before .before .before .before .before .before .before .see .result .top) (c .before .before .before .before .before .before .before .before .before .before .before .see .ensures)
+    (c .before .before .before .before .before .before .before .multiplier-for .result) (c .before .before .before .before .before .before .before .multiplier-for .ensures) _ _ _ (c .before .before .before .move-all .ensures)
 
 pub step-of-spec : {M : Type 1} → statement M
 step-of-spec =
@@ -48,6 +36,7 @@ step-of-spec =
     (λ c κs. search needs)
     multiplier-for-requires
     move-all-requires
+    (λ c. search needs)
     (λ c. search needs)
     (λ c. search needs)
     returns)

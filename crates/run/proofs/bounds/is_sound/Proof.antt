@@ -10,38 +10,53 @@ use mir.Facts.{toZ-pos}
 use borrow.Author.Needs.{needs}
 use borrow.Author.Tests.{not-true, not-false}
 use Rattle.integers.specs.Linear.{lin, arithZ}
-use Rattle.rules.specs.Limits.{roundLimit, offsetPerRound}
+use Rattle.rules.specs.Limits.{unit, roundLimit, offsetPerRound}
 use Rattle.rules.specs.Input.{eachWithin}
-use Rattle.run.proofs.BoundsLaws.{sound-late, sound-copies}
+use Rattle.rules.proofs.RangeLaws.{each-all}
+use Rattle.run.proofs.BoundsLaws.{sound-late, sound-copies, sound-offsets, sound-sums, offsets-small}
 use Rattle.run.proofs.bounds.is_sound.Statement.{statement}
 use Rattle.run.proofs.bounds.is_sound.Tie as tie
 
 returns : tie.Need-returns
 returns c =
-    let late : roundLimit ≤ c .before .args .rounds = omega arith in
-    sound-late _ _ _ late
+    let late : roundLimit ≤ c .before .before .args .rounds = omega arith in
+    sound-late _ _ _ _ _ _ late
 
 -- a round is left
-early : (c : tie.Else1) → c .before .args .rounds < roundLimit
+early : (c : tie.Else1) → c .before .before .args .rounds < roundLimit
 early c = omega arith
 
 returns-2 : tie.Need-returns-2
-returns-2 c = sound-copies _ _ _ (early (c .before .before)) _ (sym (c .before .all-within .ensures) ∙ not-true _ (c .if2 .taken))
+returns-2 c = sound-copies _ _ _ _ _ _ (early (c .before .before)) (sym (c .before .all-within .ensures) ∙ not-true _ (c .if2 .taken))
 
 cast-all-within : tie.Need-cast-all-within
 cast-all-within c = search needs
 
 -- the limit is the product itself
-limit-is : (c : tie.Else2) → toZ w32 (offsetPerRound * c .before .before .before .args .rounds) ≡ pos (offsetPerRound * c .before .before .before .args .rounds)
+limit-is : (c : tie.Else2) → toZ w32 (offsetPerRound * c .before .before .before .before .args .rounds) ≡ pos (offsetPerRound * c .before .before .before .before .args .rounds)
 limit-is c = toZ-pos w32 (cast-all-within c .sfits)
 
 all-within-requires-2 : tie.Need-all-within-requires-2
 all-within-requires-2 c κs = rw (limit-is c) (simp lin (omega arithZ))
 
+-- what both tests have said
+copies-within : (c : tie.Else2) → eachWithin unit (c .before .before .before .before .args .copies .now) ≡ true
+copies-within c = sym (c .before .all-within .ensures) ∙ not-false _ (c .if2 .left)
+
+offsets-are : (c : tie.After-all-within2) → c .all-within2 .result ≡ eachWithin (offsetPerRound * c .before .before .before .before .before .args .rounds) (c .before .before .before .before .before .args .offsets .now)
+offsets-are c = c .all-within2 .ensures ∙ ap (λ z. eachWithin (natAbs z) (c .before .before .before .before .before .args .offsets .now)) (limit-is (c .before))
+
 returns-3 : tie.Need-returns-3
-returns-3 c =
-    c .all-within2 .ensures ∙ ap (λ z. eachWithin (natAbs z) (c .before .before .before .before .args .offsets .now)) (limit-is (c .before))
-    ∙ sound-copies _ _ _ (early (c .before .before .before)) true (sym (c .before .before .all-within .ensures) ∙ not-false _ (c .before .if2 .left))
+returns-3 c = sound-offsets _ _ _ _ _ _ (early (c .before .before .before .before)) (copies-within (c .before .before)) (sym (offsets-are (c .before)) ∙ not-true _ (c .if3 .taken))
+
+offsets-within : (c : tie.Else3) → eachWithin (offsetPerRound * c .before .before .before .before .before .before .args .rounds) (c .before .before .before .before .before .before .args .offsets .now) ≡ true
+offsets-within c = sym (offsets-are (c .before)) ∙ not-false _ (c .if3 .left)
+
+are-true-requires : tie.Need-are-true-requires
+are-true-requires c κs = (c .before .before .before .before .before .before .pre, (each-all unit (c .before .before .before .before .before .before .args .copies .now) (copies-within (c .before .before)), offsets-small (c .before .before .before .before .before .before .args .rounds) (c .before .before .before .before .before .before .args .offsets .now) (early (c .before .before .before .before)) (offsets-within c)))
+
+returns-4 : tie.Need-returns-4
+returns-4 c = c .are-true .ensures ∙ sound-sums _ _ _ _ _ _ (early (c .before .before .before .before .before)) (copies-within (c .before .before .before)) (offsets-within (c .before))
 
 pub is-sound-spec : {M : Type 1} → statement M
 is-sound-spec =
@@ -53,4 +68,6 @@ is-sound-spec =
     (λ c. search needs)
     cast-all-within
     all-within-requires-2
-    returns-3)
+    returns-3
+    are-true-requires
+    returns-4)

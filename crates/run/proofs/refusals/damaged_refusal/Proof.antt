@@ -11,4 +11,4 @@ returns-2 : tie.Need-returns-2
 returns-2 c = test-fails _ _ _ (sym (c .before .is-sound .ensures) ∙ c .if1 .left)
 
 pub damaged-refusal-spec : {M : Type 1} → statement M
-damaged-refusal-spec = tie.close (tie.spec (λ c κs. tt) returns returns-2)
+damaged-refusal-spec = tie.close (tie.spec (λ c κs. c .before .pre) returns returns-2)

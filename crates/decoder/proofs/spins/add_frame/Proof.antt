@@ -1,0 +1,89 @@
+-- `add_frame` meets its contract: the first i places hold the totals. Assumes nothing.
+use mathlib.Core.Path.{_≡_, sym, _∙_, ap, ap₂, subst}
+use Prim.Native.Nat.{_-_, _≤_, _<_}
+use native.Mathlib.Omega.{arith}
+use lib.ListN.{length}
+use lib.IntN.{pos, _+ℤ_}
+use mir.Syntax.{w16, w32}
+use mir.Val.{toZ, ofZ}
+use mir.Facts.{toZ-ofZ}
+use Rattle.integers.specs.Linear.{Within}
+use Rattle.integers.specs.Machine.{fit}
+use Rattle.rules.specs.Limits.{frameLimit, sumLimit}
+use Rattle.rules.specs.Table.{at}
+use Rattle.rules.proofs.Optimal.{within-at}
+use Rattle.rules.proofs.RoundSizes.{first-length, first-at}
+use Rattle.rules.proofs.FillLaws.{fill, fill-none, fill-length, fill-at, fill-more, fill-all}
+use Rattle.decoder.specs.Spins.{totalsOf}
+use Rattle.decoder.proofs.spins.add_frame.Statement.{statement}
+use Rattle.decoder.proofs.spins.add_frame.Tie as tie
+
+abbrev Inv-loop : tie.InvT-loop
+Inv-loop frame sums₀ i₀ sums i = (i ≤ length sums₀) × (sums ≡ fill i (totalsOf frame sums₀) sums₀)
+
+abbrev μ-loop : tie.MeasureT-loop
+μ-loop frame sums₀ i₀ sums i = length sums₀ - i
+
+long : (c : tie.At-loop Inv-loop μ-loop) → length (c .loop .sums) ≡ length (c .before .args .sums .now)
+long c = ap length (c .loop .inv .1) ∙ fill-length (c .loop .i) (totalsOf (c .before .args .frame .now) (c .before .args .sums .now)) (c .before .args .sums .now)
+
+inside : (c : tie.In-loop Inv-loop μ-loop) → c .before .loop .i < length (c .before .before .args .sums .now)
+inside c = omega (arith, c .loop-test .taken, c .before .before .pre .0)
+
+-- the number and the sum at i, as they were read
+number : (c : tie.After-total-arg Inv-loop μ-loop) → toZ w16 (ofZ w16 (at (c .before .before .before .args .frame .now) (c .before .before .loop .i))) ≡ at (c .before .before .before .args .frame .now) (c .before .before .loop .i)
+number c = toZ-ofZ (fit w16 (at (c .before .before .before .args .frame .now) (c .before .before .loop .i)) (c .total-arg .given))
+
+sum : (c : tie.After-total-arg2 Inv-loop μ-loop) → toZ w32 (ofZ w32 (at (c .before .before .before .loop .sums) (c .before .before .before .loop .i))) ≡ at (c .before .before .before .before .args .sums .now) (c .before .before .before .loop .i)
+sum c = toZ-ofZ (fit w32 (at (c .before .before .before .loop .sums) (c .before .before .before .loop .i)) (c .total-arg2 .given)) ∙ ap (λ l. at l (c .before .before .before .loop .i)) (c .before .before .before .loop .inv .1)
+    ∙ fill-at (c .before .before .before .loop .i) (totalsOf (c .before .before .before .before .args .frame .now) (c .before .before .before .before .args .sums .now)) (c .before .before .before .before .args .sums .now) (pos 0)
+
+total-requires : tie.Need-total-requires Inv-loop μ-loop
+total-requires c κs = (
+  subst (Within frameLimit) (sym (number (c .before))) (within-at frameLimit (c .before .before .before .before .args .frame .now) (c .before .before .before .before .pre .1) (c .before .before .before .loop .i)),
+  subst (Within sumLimit) (sym (sum (c))) (within-at sumLimit (c .before .before .before .before .args .sums .now) (c .before .before .before .before .pre .2) (c .before .before .before .loop .i)),
+)
+
+loop-less : tie.Need-loop-less Inv-loop μ-loop
+loop-less c = omega (arith, inside (c .before .before .before))
+
+loop-again : tie.Need-loop-again Inv-loop μ-loop
+loop-again c =
+    let l = c .before .before .before .before .before .args .frame .now in
+    let x = c .before .before .before .before .before .args .sums .now in
+    let i = c .before .before .before .before .loop .i in
+    let here = inside (c .before .before .before) in (
+      omega (arith, here),
+      fill-more i (totalsOf l x) x (c .before .before .before .before .loop .sums) _ (pos 0) (omega (arith, here, first-length (length x) (λ i. at l i +ℤ at x i)))
+          (toZ-ofZ (fit w32 (c .total .result) (c .total .ok)) ∙ c .total .ensures ∙ ap₂ _+ℤ_ (number (c .before .before)) (sum (c .before)) ∙ sym (first-at (length x) (λ i. at l i +ℤ at x i) i here))
+          (c .before .before .before .before .loop .inv .1),
+    )
+
+same-length : tie.Need-same-length Inv-loop μ-loop
+same-length c = long (c .before)
+
+returns : tie.Need-returns Inv-loop μ-loop
+returns c =
+    let l = c .before .before .args .frame .now in
+    let x = c .before .before .args .sums .now in
+    c .before .loop .inv .1 ∙ fill-all (c .before .loop .i) (totalsOf l x) x (first-length (length x) (λ i. at l i +ℤ at x i)) (omega (arith, c .loop-test .left, c .before .before .pre .0))
+
+pub add-frame-spec : {M : Type 1} → statement M
+add-frame-spec =
+    tie.close
+    (tie.spec
+    Inv-loop
+    μ-loop
+    (λ c. (omega arith, sym (fill-none _ _)))
+    (λ c. omega arith)
+    (λ c. omega arith)
+    (λ c. omega arith)
+    (λ c. omega (arith, inside (c .before), long (c .before .before)))
+    total-requires
+    (λ c. omega arith)
+    (λ c. omega (arith, inside (c .before .before .before), long (c .before .before .before .before)))
+    (λ c. omega arith)
+    loop-less
+    loop-again
+    same-length
+    returns)

@@ -1,0 +1,36 @@
+-- `are_true` meets its contract: from zeros the edges make the true sums. Assumes nothing.
+use mathlib.Core.Path.{sym, _∙_, ap}
+use native.Mathlib.Omega.{arith}
+use lib.ListN.{length-take}
+use borrow.Author.Needs.{needs}
+use Rattle.rules.specs.Run.{same}
+use Rattle.run.proofs.SumsLaws.{edges-fit, part-there, part-long, part-true}
+use Rattle.run.proofs.sums.are_true.Statement.{statement}
+use Rattle.run.proofs.sums.are_true.Tie as tie
+
+add-edges-requires : tie.Need-add-edges-requires
+add-edges-requires c κs = edges-fit (c .before .before .pre .0) (c .before .before .pre .1 .0) (c .before .before .pre .1 .1)
+
+array-share-prefix-found : tie.Need-array-share-prefix-found
+array-share-prefix-found c = part-there (c .before .before .before .before .pre .0) (c .before .add-edges .ensures) _
+
+slice-aggregate-all-same : tie.Need-slice-aggregate-all-same
+slice-aggregate-all-same c = part-long (c .before .before .before .before .before .pre .0) (c .before .before .add-edges .ensures) _
+
+all-same-requires : tie.Need-all-same-requires
+all-same-requires c κs = part-long (c .before .before .before .before .before .pre .0) (c .before .before .add-edges .ensures) _
+
+returns : tie.Need-returns
+returns c = c .all-same .ensures ∙ ap (same (c .before .before .before .before .before .before .args .sums .now)) (part-true (c .before .before .before .before .before .before .pre .0) (c .before .before .before .add-edges .ensures) _)
+
+pub are-true-spec : {M : Type 1} → statement M
+are-true-spec =
+    tie.close
+    (tie.spec
+    (λ c. search needs)
+    (λ c. simp length-take (omega (arith, c .before .before .pre .0 .edges .bits)))
+    add-edges-requires
+    array-share-prefix-found
+    slice-aggregate-all-same
+    all-same-requires
+    returns)
