@@ -11,7 +11,7 @@ from itertools import accumulate
 from operator import mul
 
 from decoder import answer, rounds, start
-from make_tables import code_file
+from make_tables import code_file, true_sums
 from packing import block, counted, i32, u8, u32
 from rounds import CERTIFIED, RUNNING, SPENT, Buffers, Record, buffer_lengths
 from table import parse_code_file
@@ -23,6 +23,7 @@ Kept = namedtuple("Kept", "element capacity pack junk extreme")
 KEPT = Buffers(spins=Kept("spin", 2100, i32, -7, -2**31),
                copies=Kept("copy", 8300, i32, 9999, 2**31 - 1),
                offsets=Kept("offset", 8300, i32, 123456, -2**31),
+               sums=Kept("sum", 2100, i32, -4321, 2**31 - 1),
                multipliers=Kept("multiplier", 2100, u32, 77, 2**32 - 1),
                masks=Kept("mask", 2100, u32, 88, 2**32 - 1),
                word=Kept("word", 2100, u8, 3, 255),
@@ -114,18 +115,18 @@ class UseFrame(namedtuple("UseFrame", "numbers")):
         program.frame = self.numbers
 
 
-class StartRun(namedtuple("StartRun", "copies offsets")):
-    """A start that is lent so many copies and offsets."""
+class StartRun(namedtuple("StartRun", "copies offsets sums")):
+    """A start that is lent so many copies, offsets and sums."""
 
     def pack(self):
-        return u8(3) + u32(self.copies) + u32(self.offsets)
+        return u8(3) + b"".join(map(u32, self))
 
     def play(self, program):
-        whole = program.whole
-        copies, offsets = whole.copies[:self.copies], whole.offsets[:self.offsets]
-        got = answer(start, program.code_file, copies, offsets)
-        take_back(whole.copies, copies)
-        take_back(whole.offsets, offsets)
+        wholes = [vars(program.whole)[name] for name in self._fields]
+        parts = [whole[:length] for whole, length in zip(wholes, self)]
+        got = answer(start, program.code_file, *parts)
+        for whole, part in zip(wholes, parts):
+            take_back(whole, part)
         if isinstance(got, Record):
             program.record, got = got, "started"
         return program.line("start", got)
@@ -146,20 +147,20 @@ class CallRounds(namedtuple("CallRounds", "wanted lengths")):
         return program.line("rounds", got)
 
 
-class PutEdge(namedtuple("PutEdge", "name index value")):
-    """Sets one element of the copies or the offsets."""
+class Put(namedtuple("Put", "name index value")):
+    """Sets one element of the copies, the offsets or the sums."""
 
     def pack(self):
-        which = {"copies": 1, "offsets": 2}[self.name]
+        which = {"copies": 1, "offsets": 2, "sums": 3}[self.name]
         return u8(5) + u8(which) + u32(self.index) + i32(self.value)
 
     def play(self, program):
         vars(program.whole)[self.name][self.index] = self.value
 
 
-def play(script):
+def play(script, program=None):
     """The lines of a whole script."""
-    program = Program()
+    program = program or Program()
     told = [call.play(program) for call in script]
     return [line for line in told if line is not None]
 
@@ -183,11 +184,59 @@ def calls(wants, lengths):
     return [CallRounds(wanted, lengths) for wanted in wants]
 
 
+def start_of(table):
+    """A start that is lent exactly what it needs."""
+    lengths = exact(table)
+    return StartRun(lengths.copies, lengths.offsets, lengths.sums)
+
+
 def opening(table, frame, fill=Fill()):
     return [fill, UseCode(code_file(table)), UseFrame(frame)]
 
 
 def fresh(table, frame, fill=Fill()):
     """A fresh run, lent exactly what it needs."""
+    return opening(table, frame, fill) + [start_of(table)]
+
+
+# --- half-done runs: the sums are put true of the copies and offsets -------------------------
+
+def signed32(number):
+    """The number itself, or what 32 bits keep of it.  A true sum beyond them is that of copies
+    and offsets beyond their own limits, which 43 names first."""
+    return (number + 2**31) % 2**32 - 2**31
+
+
+def put_all(name, values):
+    return [Put(name, index, value) for index, value in enumerate(values)]
+
+
+def put_sums(table, copies, offsets):
+    return put_all("sums", map(signed32, true_sums(table, copies, offsets)))
+
+
+def put_state(table, state):
+    """A half-done run, edge by edge."""
+    return (put_all("copies", state.copies) + put_all("offsets", state.offsets)
+            + put_sums(table, state.copies, state.offsets))
+
+
+def filled(table, fill):
+    """All copies alike, and all offsets."""
     edges = exact(table).copies
-    return opening(table, frame, fill) + [StartRun(edges, edges)]
+    return [fill, *put_sums(table, [fill.copy] * edges, [fill.offset] * edges)]
+
+
+def put_edge(table, fill, put):
+    """All copies alike, and all offsets, but for one, which may stand past the last edge."""
+    edges = exact(table).copies
+    lists = {"copies": [fill.copy] * edges, "offsets": [fill.offset] * edges}
+    lists[put.name][put.index:put.index + 1] = [put.value]
+    return [fill, put, *put_sums(table, lists["copies"][:edges], lists["offsets"][:edges])]
+
+
+def put_right(table, script):
+    """The script, and then the sums that its copies and offsets have on this table."""
+    program, edges = Program(), exact(table).copies
+    play(script, program)
+    return script + put_sums(table, program.whole.copies[:edges], program.whole.offsets[:edges])

@@ -138,7 +138,7 @@ def run_certificate(table, frame):
     """Word and certificate bytes that a run writes for the frame, or None."""
     data = code_file(table)
     lent = report.fresh_buffers(parse_code_file(data))
-    record = rounds.start(data, lent.copies, lent.offsets)
+    record = rounds.start(data, lent.copies, lent.offsets, lent.sums)
     if rounds.rounds(data, frame, record, rounds.ROUNDS_LIMIT, lent) != rounds.CERTIFIED:
         return None
     return lent.word, bytes(lent.certificate[:4 + 10 * entry_count(lent.certificate)])

@@ -18,26 +18,27 @@ CallClaim = namedtuple("CallClaim", "number call arguments")
 Call = namedtuple("Call", "wanted short")           # short: a buffer lent one too short, or None
 
 BUFFER_NAMES = [field.name for field in fields(Buffers)]
+OTHER_NAMES = [name for name in BUFFER_NAMES if name != "sums"]     # see make_sum_scripts.py
 
 
 # --- call lists ------------------------------------------------------------------------------
 
-def random_call(rng):
+def random_call(rng, names):
     kind = rng.between(0, 9)
     if kind == 0:
         return Call(rng.choice([1025, 2000, 65535]), None)
     if kind == 1:
-        return Call(rng.between(0, ROUNDS_LIMIT), rng.choice(BUFFER_NAMES))
+        return Call(rng.between(0, ROUNDS_LIMIT), rng.choice(names))
     if kind == 2:
-        return Call(2000, rng.choice(BUFFER_NAMES))
+        return Call(2000, rng.choice(names))
     if kind == 3:
         return Call(0, None)
     return Call(rng.between(1, rng.choice([2, 4, 30])), None)
 
 
-def call_list(rng):
+def call_list(rng, names=BUFFER_NAMES):
     """Several calls, refused ones among them; half of the lists run to the end."""
-    calls = [random_call(rng) for _ in range(rng.between(1, 7))]
+    calls = [random_call(rng, names) for _ in range(rng.between(1, 7))]
     if rng.chance(1, 2):
         calls += [Call(ROUNDS_LIMIT, None), Call(1, None)]
     return calls
@@ -68,6 +69,13 @@ def shortened(code, lent, name):
 # --- half-done runs --------------------------------------------------------------------------
 
 HalfDone = namedtuple("HalfDone", "record copies offsets")
+
+
+def lend_state(code, lent, state):
+    """Puts a half-done run into the buffers, with the sums that are true of it."""
+    lent.copies[:code.edges], lent.offsets[:code.edges] = state.copies, state.offsets
+    table = code.bits, code.checks
+    lent.sums[:code.bits] = tables.true_sums(table, state.copies, state.offsets)
 
 
 def random_half_done(rng, code, rounds_done):
@@ -178,11 +186,13 @@ def cut_claims(rng):
 
 
 def start_claims(rng):
-    code_file = tables.code_file(tables.hamming())      # 12 edges
-    claims = [CallClaim(damage.number, "start", [damage.data, [1] * 3, []])
+    code_file = tables.code_file(tables.hamming())      # 12 edges, 7 bits
+    claims = [CallClaim(damage.number, "start", [damage.data, [1] * 3, [], [1]])
               for damage in make_damage.single_faults(rng)]
-    return claims + [CallClaim(41, "start", [code_file, [1] * copies, [1] * offsets])
-                     for copies, offsets in [(11, 12), (12, 11), (0, 12), (11, 11), (99, 0)]]
+    short = [(11, 12, 7), (12, 11, 7), (0, 12, 7), (11, 11, 7), (99, 0, 99), (12, 12, 6),
+             (12, 12, 0), (99, 99, 6), (11, 11, 6)]
+    return claims + [CallClaim(41, "start", [code_file, *([1] * length for length in lent)])
+                     for lent in short]
 
 
 def rounds_claims(rng):
@@ -191,10 +201,12 @@ def rounds_claims(rng):
     code = parse_code_file(code_file)
     good = {"code_file": code_file, "frame": [5] * 7, "record": None, "wanted": 3, "lent": None}
 
-    def claim(number, short=None, state=None, **changes):
+    def claim(number, short=None, state=None, wrong=None, **changes):
         lent = junk_buffers(rng, code, rng.between(0, 3))
         state = state or HalfDone(Record(), [0] * code.edges, [0] * code.edges)
-        lent.copies[:code.edges], lent.offsets[:code.edges] = state.copies, state.offsets
+        lend_state(code, lent, state)
+        if wrong is not None:
+            lent.sums[wrong] += rng.choice([-1, 1]) * rng.choice([1, 2**16, 2**31])
         lent = shortened(code, lent, short) if short else lent
         record = Record(state.record.rounds_done, state.record.status)
         arguments = {**good, "record": record, "lent": lent, **changes}
@@ -206,17 +218,21 @@ def rounds_claims(rng):
     claims = [claim(damage.number, "word", beyond[0], code_file=damage.data, frame=[9999],
                     wanted=2000) for damage in make_damage.single_faults(rng)]
     for number, frame in BAD_FRAMES:
-        claims += [claim(number, frame=frame),
+        claims += [claim(number, frame=frame), claim(number, wrong=0, frame=frame),
                    claim(number, "spins", ended[0], frame=frame, wanted=1025)]
     for wanted in (1025, 65535, 1 << 31):
         claims += [claim(17, wanted=wanted), claim(17, "copies", ended[1], wanted=wanted),
-                   claim(17, None, beyond[1], wanted=wanted)]
+                   claim(17, None, beyond[1], wanted=wanted), claim(17, wrong=6, wanted=wanted)]
     for name in BUFFER_NAMES:
         claims += [claim(41, name), claim(41, name, wanted=0), claim(41, name, ended[2]),
-                   claim(41, name, beyond[8])]
+                   claim(41, name, beyond[8]), claim(41, name, wrong=0)]
     for wanted in (0, 3, 1024):
         claims += [claim(42, state=state, wanted=wanted) for state in ended]
         claims += [claim(43, state=state, wanted=wanted) for state in beyond]
+        for bit in (0, 3, 6):
+            claims += [claim(42, state=state, wrong=bit, wanted=wanted) for state in ended]
+            claims += [claim(43, state=state, wrong=bit, wanted=wanted)
+                       for state in accepted_half_done(code)]
     return claims
 
 

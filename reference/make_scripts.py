@@ -5,8 +5,8 @@ from itertools import cycle
 import make_inputs as inputs
 import make_runs
 import make_tables as tables
-from call_script import (CAPACITY, KEPT, CallRounds, Fill, PutEdge, StartRun, UseCode, UseFrame,
-                         calls, changed, exact, fresh, longer, opening)
+from call_script import (CAPACITY, KEPT, CallRounds, Fill, Put, StartRun, UseCode, UseFrame, calls,
+                         changed, exact, filled, fresh, longer, opening, put_right, start_of)
 from make_tables import code_file
 from rounds import CERTIFIED, SPENT
 from table import FRAME_LIMIT, UNIT
@@ -90,7 +90,8 @@ def wants():
     script += calls(telling + [1] + telling + [1024] + telling + [1, 1024], exact(table))
     for fill in (Fill(rounds=7, copy=0, offset=0, status=CERTIFIED), Fill(rounds=7, status=SPENT),
                  Fill(rounds=1024, copy=0, offset=0), Fill(rounds=3)):
-        script += opening(table, [5] * 7, fill) + calls([0, 1, 1024, 1025, 2**32 - 1], exact(table))
+        script += opening(table, [5] * 7) + filled(table, fill)
+        script += calls([0, 1, 1024, 1025, 2**32 - 1], exact(table))
     return script
 
 
@@ -113,31 +114,35 @@ def limit_tables(rng):
     one for each table), all that there is."""
     script = []
     large = tables.limit_tables(rng)[:6] + [tables.half_rate(rng)]
-    for table, name in zip(cycle(large), make_runs.BUFFER_NAMES):
+    for table, name in zip(cycle(large), make_runs.OTHER_NAMES):
         lengths = exact(table)
         script += fresh(table, inputs.channel_frame(rng, table[0], 3000, 3000))
         short = changed(lengths, **{name: vars(lengths)[name] - 1})
         script += calls([1], lengths) + calls([1, 0], short) + calls([2], CAPACITY)
-        script += [UseFrame(inputs.full_frame(rng, table[0])), StartRun(8192, 8300)]
+        script += [UseFrame(inputs.full_frame(rng, table[0])), StartRun(8192, 8300, 2048)]
         script += calls([1, 1], lengths)
         script.append(UseFrame([FRAME_LIMIT] * table[0]))
-        script += calls([1], lengths) + [StartRun(lengths.copies, lengths.offsets - 1)]
+        script += calls([1], lengths) + [start_of(table)._replace(offsets=lengths.offsets - 1)]
     return script
 
 
 def swaps():
-    """Record and buffers handed on to another table or frame: no fresh run, but answered.
-    An offset too far is seen only by the table that has the edge."""
+    """Record and buffers handed on to another table, with sums put right for it, or frame: no
+    fresh run, but answered.  An offset too far is seen only by the table that has the edge."""
     small, large = tables.three_bits(), tables.hamming()
     use_small = [UseCode(code_file(small)), UseFrame([-5, 5, 5])]
     use_large = [UseCode(code_file(large)), UseFrame([-35, -40, -33, 0, 33, -11, 12])]
     script = fresh(large, [35, -40, 33, 0, 33, 11, -12]) + calls([3], exact(large))
-    script += use_small + calls([1, 2], exact(small)) + [UseFrame([8191, -8191, 8191])]
-    script += calls([1], exact(small)) + [PutEdge("offsets", 3, 8192 * 9)]
-    script += calls([0, 1], exact(small)) + use_large + calls([0, 1], exact(large))
-    script += [PutEdge("offsets", 3, 8192 * 8)] + calls([0, 1, 1], exact(large))
-    script += [PutEdge("copies", 11, UNIT + 1)] + calls([0, 1], exact(large))
-    return script + use_small + calls([1, 1024], exact(small))
+    script = put_right(small, script + use_small)
+    script += calls([1, 2], exact(small)) + [UseFrame([8191, -8191, 8191])]
+    script += calls([1], exact(small)) + [Put("offsets", 3, 8192 * 9)]
+    script = put_right(large, script + calls([0, 1], exact(small)) + use_large)
+    script += calls([0, 1], exact(large))
+    script = put_right(large, script + [Put("offsets", 3, 8192 * 8)])
+    script += calls([0, 1, 1], exact(large))
+    script = put_right(large, script + [Put("copies", 11, UNIT + 1)])
+    script = put_right(small, script + calls([0, 1], exact(large)) + use_small)
+    return script + calls([1, 1024], exact(small))
 
 
 def emptied_runs(rng):
@@ -163,7 +168,7 @@ def mostly_empty(rng):
     script = fresh(table, inputs.channel_frame(rng, 32, 3000, 3000)) + calls([1], lengths)
     for name in ("multipliers", "masks", "certificate"):
         script += calls([1], changed(lengths, **{name: vars(lengths)[name] - 1}))
-    script += calls([1023], lengths) + [StartRun(32, 31), StartRun(32, 32)]
+    script += calls([1023], lengths) + [StartRun(32, 31, 32), StartRun(32, 32, 32)]
     return script + [UseFrame([-FRAME_LIMIT] * 31 + [FRAME_LIMIT])] + calls([1, 1023], CAPACITY)
 
 
@@ -182,7 +187,7 @@ def empty_checks_put_in():
 def random_calls(rng, lengths):
     """A call list as demand 3 has them: refused calls included, parts of several lengths."""
     listed = []
-    for call in make_runs.call_list(rng):
+    for call in make_runs.call_list(rng, make_runs.OTHER_NAMES):
         lent = longer(lengths, rng.choice([0, 0, 1, 40]))
         if call.short is not None:
             lent = changed(lent, **{call.short: rng.between(0, vars(lengths)[call.short] - 1)})
@@ -197,7 +202,8 @@ def list_pairs(rng, count):
     for table in tables.small_tables(rng, count):
         frame, listed = inputs.lively_frame(rng, table[0]), random_calls(rng, exact(table))
         negated = inputs.negated_under(frame, rng.choice(inputs.codewords(table)))
-        fill = Fill(*(rng.between(0, 255) for _ in make_runs.BUFFER_NAMES))
+        fill = Fill(**{vars(KEPT)[name].element: rng.between(0, 255)
+                       for name in make_runs.OTHER_NAMES})
         pairs.append((fresh(table, frame, fill) + listed, fresh(table, negated, fill) + listed))
     return pairs
 

@@ -6,9 +6,10 @@ import make_damage as damage
 import make_inputs as inputs
 import make_runs
 import make_tables as tables
-from call_script import (CAPACITY, CallRounds, Fill, PutEdge, StartRun, UseCode, UseFrame, calls,
-                         changed, exact, fresh, longer, opening)
-from make_runs import BAD_FRAMES, BUFFER_NAMES
+from call_script import (CAPACITY, CallRounds, Fill, Put, StartRun, UseCode, UseFrame, calls,
+                         changed, exact, filled, fresh, longer, opening, put_all, put_edge,
+                         put_state, put_sums)
+from make_runs import BAD_FRAMES, OTHER_NAMES
 from make_tables import code_file
 from rounds import CERTIFIED, RUNNING, SPENT
 from table import UNIT, parse_code_file
@@ -17,6 +18,8 @@ FARTHEST = (-2**31, 2**31 - 1)
 HAMMING = tables.hamming()
 EXACT = exact(HAMMING)
 GOOD_FRAME = [700, -20, 300, 40, -500, 60, 7]
+LONGEST_START = StartRun(CAPACITY.copies, CAPACITY.offsets, CAPACITY.sums)
+THREE_DONE = Fill(copy=0, offset=0, rounds=3)
 LATE_FRAME = [-35, -40, -33, 0, 33, -11, 12]          # certified after hundreds of rounds
 
 
@@ -30,7 +33,7 @@ def filled_runs():
         states = [(copy, 0) for copy in (0, UNIT, -UNIT, UNIT + 1, -UNIT - 1, *FARTHEST)]
         states += [(0, offset) for offset in (reach, -reach, reach + 1, -reach - 1, *FARTHEST)]
         for copy, offset in states:
-            script.append(Fill(copy=copy, offset=offset, rounds=done))
+            script += filled(HAMMING, Fill(copy=copy, offset=offset, rounds=done))
             script += calls([0, 1] if done < 2 else [1], EXACT)
     return script
 
@@ -46,7 +49,7 @@ def single_edges(rng):
             for name, value in [("copies", UNIT), ("copies", -UNIT - 1), ("offsets", -8192 * 3),
                                 ("offsets", 8192 * 3 + 1), (rng.choice(["copies", "offsets"]),
                                                             rng.choice(FARTHEST))]:
-                script += [Fill(copy=0, offset=0, rounds=3), PutEdge(name, index, value)]
+                script += put_edge(table, THREE_DONE, Put(name, index, value))
                 script += calls([1], longer(lengths, rng.between(0, 2)))
     return script
 
@@ -59,7 +62,7 @@ def ended_states():
                                    (2**32 - 1, *FARTHEST)]:
             script += [Fill(copy=copy, offset=offset, rounds=done, status=status)]
             script += calls([0, 1, 1024], EXACT)
-        script += [StartRun(12, 12)] + calls([1], EXACT)
+        script += [StartRun(12, 12, 7)] + calls([1], EXACT)
     return script
 
 
@@ -71,9 +74,7 @@ def resumed_half_done(rng):
         for done in rng.sample([0, 1, 40, 900, 1022, 1023], 3):
             state = make_runs.random_half_done(rng, code, done)
             script += opening(table, inputs.random_frame(rng, code.bits), Fill(rounds=done))
-            script += [PutEdge("copies", edge, copy) for edge, copy in enumerate(state.copies)]
-            script += [PutEdge("offsets", edge, y) for edge, y in enumerate(state.offsets)]
-            script += calls([1, 2, 30], exact(table))
+            script += put_state(table, state) + calls([1, 2, 30], exact(table))
     return script
 
 
@@ -84,11 +85,13 @@ def farthest_offsets():
     for table, signs in [(tables.stacked_singles(3), (-1, 1, 1)), (tables.three_bits(), (1, -1, 1)),
                          (tables.stacked_singles(3), (1, 1, 1)), (tables.three_bits(), (1, 1, -1)),
                          (tables.stacked_singles(3), (-1, -1, 1))]:
+        offsets = [far * sign for sign in signs]
         for size in (1, 8191):
             script += opening(table, [size] * table[0], Fill(copy=0, offset=0, rounds=1023))
-            script += [PutEdge("offsets", edge, far * sign) for edge, sign in enumerate(signs)]
+            script += put_all("offsets", offsets) + put_sums(table, [0] * 3, offsets)
             script += calls([0, 1024, 1], exact(table))
-    script += opening(tables.three_bits(), [10, 10, 10], Fill(copy=0, offset=0, rounds=1023))
+    script += opening(tables.three_bits(), [10, 10, 10])
+    script += filled(tables.three_bits(), Fill(copy=0, offset=0, rounds=1023))
     return script + calls([1024, 0], exact(tables.three_bits()))
 
 
@@ -107,9 +110,7 @@ def emptied_half_done(rng):
         state = make_runs.random_half_done(rng, code, done)
         script += opening(table, inputs.random_frame(rng, code.bits),
                           Fill(multiplier=far, mask=far, rounds=done))
-        script += [PutEdge("copies", edge, copy) for edge, copy in enumerate(state.copies)]
-        script += [PutEdge("offsets", edge, y) for edge, y in enumerate(state.offsets)]
-        script += calls([0, 1, 30], exact(table))
+        script += put_state(table, state) + calls([0, 1, 30], exact(table))
     return script
 
 
@@ -120,27 +121,27 @@ def emptied_edges():
     for index in (0, lengths.copies - 1, lengths.copies):
         for name, value in [("copies", -UNIT - 1), ("offsets", 8192 * 3 + 1),
                             ("offsets", 8192 * 3)]:
-            script += [Fill(copy=0, offset=0, rounds=3), PutEdge(name, index, value)]
-            script += calls([1], lengths)
-    script += [Fill(copy=0, offset=0, rounds=1024), *calls([0], lengths)]
+            script += put_edge(HOLED, THREE_DONE, Put(name, index, value)) + calls([1], lengths)
+    script += filled(HOLED, Fill(copy=0, offset=0, rounds=1024)) + calls([0], lengths)
     return script + [Fill(status=CERTIFIED), *calls([0, 1], lengths)]
 
 
 def emptied_parts():
     """Each part one too short and exact: empty checks count in m, and in no other length."""
     script, lengths = fresh(HOLED, LATE_FRAME), exact(HOLED)
-    for name in BUFFER_NAMES:
+    for name in OTHER_NAMES:
         needed = vars(lengths)[name]
         script += calls([1], changed(CAPACITY, **{name: needed - 1}))
         script += calls([1], changed(CAPACITY, **{name: needed}))
-    return script + [StartRun(11, 12), StartRun(12, 11), StartRun(12, 12), *calls([1024], lengths)]
+    script += [StartRun(11, 12, 7), StartRun(12, 11, 7), StartRun(12, 12, 7)]
+    return script + calls([1024], lengths)
 
 
 def emptied_files(rng):
     """Damaged files with empty checks in mid-run."""
     script = fresh(HOLED, LATE_FRAME) + calls([2], exact(HOLED))
     for claim in rng.sample(damage.empty_check_claims(rng), 12):
-        script += [UseCode(claim.data), *calls([1], CAPACITY), StartRun(8300, 8300)]
+        script += [UseCode(claim.data), *calls([1], CAPACITY), LONGEST_START]
     return script + [UseCode(code_file(HOLED)), *calls([1, 1024], exact(HOLED))]
 
 
@@ -155,7 +156,7 @@ def short_parts():
                      opening(table, [5] * n, Fill(rounds=1024))]
         for standing in standings:
             script += standing
-            for name in BUFFER_NAMES:
+            for name in OTHER_NAMES:
                 needed = vars(lengths)[name]
                 script += calls([0], changed(CAPACITY, **{name: needed - 1}))
                 script += calls([2], changed(lengths, **{name: needed - 1}))
@@ -173,7 +174,7 @@ def starts():
         edges = exact(table).copies
         for status in (RUNNING, CERTIFIED, SPENT):
             script += opening(table, [9999], Fill(rounds=77, status=status))
-            script += [StartRun(*lent) for lent in
+            script += [StartRun(*lent, table[0]) for lent in
                        [(edges - 1, edges), (edges, edges - 1), (0, 0), (edges - 1, 8300),
                         (8300, 0), (edges, edges), (edges + 1, edges), (8300, 8300)]]
     return script
@@ -185,7 +186,7 @@ def damaged_files(rng):
     for claim in damage.single_faults(rng) + damage.fault_pairs(rng, 1):
         script.append(UseCode(claim.data))
         script += calls([rng.choice([0, 1, 2000])], rng.choice([EXACT, longer(EXACT, -1)]))
-        script.append(StartRun(*rng.choice([(12, 12), (0, 0), (8300, 8300)])))
+        script.append(rng.choice([StartRun(12, 12, 7), StartRun(0, 0, 0), LONGEST_START]))
         if rng.chance(1, 12):
             script += [UseCode(code_file(HAMMING)), *calls([1], EXACT)]
     return script + [UseCode(code_file(HAMMING)), *calls([1, 1024], EXACT)]
@@ -196,7 +197,7 @@ def limit_files(rng):
     claims = [claim for claim in damage.limit_claims(rng) if not 2000 < len(claim.data) < 30000]
     script = fresh(HAMMING, GOOD_FRAME)
     for claim in claims:
-        script += [UseCode(claim.data), *calls([1], CAPACITY), StartRun(8300, 8300)]
+        script += [UseCode(claim.data), *calls([1], CAPACITY), LONGEST_START]
     return script
 
 
@@ -221,10 +222,12 @@ def faulty_call(rng, faults):
     file = damaged_file(rng, rng.choice(damage.ORDER)) if "file" in faults else code_file(HAMMING)
     status = rng.choice([CERTIFIED, SPENT]) if 42 in faults else RUNNING
     wanted = rng.choice([1025, 2000, 2**32 - 1]) if 17 in faults else rng.between(0, 2)
-    name = rng.choice(BUFFER_NAMES)
+    name = rng.choice(OTHER_NAMES)
     lent = changed(EXACT, **{name: vars(EXACT)[name] - 1}) if 41 in faults else EXACT
-    return [Fill(copy=UNIT + (43 in faults), offset=0, rounds=3, status=status), UseCode(file),
-            UseFrame([8191 + (9 in faults)] * (6 if 8 in faults else 7)), CallRounds(wanted, lent)]
+    fill = Fill(copy=UNIT + (43 in faults), offset=0, rounds=3, status=status)
+    return filled(HAMMING, fill) + [
+        UseCode(file), UseFrame([8191 + (9 in faults)] * (6 if 8 in faults else 7)),
+        CallRounds(wanted, lent)]
 
 
 def several_faults(rng):
@@ -247,5 +250,5 @@ def peeled_faults(rng):
                    *calls([5], EXACT), spoilt._replace(status=RUNNING), *calls([5], EXACT),
                    Fill(rounds=2), *calls([5], EXACT),
                    Fill(rounds=2, copy=0), *calls([5], EXACT),
-                   Fill(rounds=2, copy=0, offset=8192), *calls([5], EXACT)]
+                   *filled(HAMMING, Fill(rounds=2, copy=0, offset=8192)), *calls([5], EXACT)]
     return script

@@ -49,6 +49,16 @@ def bit_degrees(table):
     return [times[bit] for bit in range(n)]
 
 
+def true_sums(table, copies, offsets):
+    """Each bit's sum of copy - offset over its edges, gathered edge by edge."""
+    n, checks = table
+    sums = [0] * n
+    owners = [bit for members in checks for bit in members]
+    for bit, copy, offset in zip(owners, copies, offsets, strict=True):
+        sums[bit] += copy - offset
+    return sums
+
+
 # --- small tables ----------------------------------------------------------------------------
 
 def three_bits():

@@ -7,7 +7,7 @@ import make_runs
 import make_scripts
 import make_tables as tables
 import make_weak_frames as weak
-from call_script import Fill, PutEdge, StartRun, UseFrame, calls, exact, fresh, opening
+from call_script import Fill, UseFrame, calls, exact, fresh, opening, put_state, start_of
 from make_tables import code_file
 from make_weak_frames import DEEP_CHECK
 from table import parse_code_file
@@ -60,10 +60,9 @@ def mixed_runs(rng):
 
 def wide_runs():
     """Degree 32: 15 and 16, of both signs, in all ways on three bits; and on 32 bits."""
-    edges = exact(DEEP_CHECK).copies
     script = opening(DEEP_CHECK, [0, 0, 0])
     for frame in product((-16, -15, 15, 16), repeat=3):
-        script += [UseFrame(list(frame)), StartRun(edges, edges), *calls([1, 3], exact(DEEP_CHECK))]
+        script += [UseFrame(list(frame)), start_of(DEEP_CHECK), *calls([1, 3], exact(DEEP_CHECK))]
     square = tables.full_square()
     for frame in ([16] * 32, [-16] * 32, [16] * 31 + [15], [15] * 32, [-16, 16] * 16,
                   [47] * 16 + [48] * 16, [-47] * 16 + [-48] * 16):
@@ -79,9 +78,7 @@ def resumed_beside_halves(rng):
         code = parse_code_file(code_file(table))
         for done in (0, 3, 1022):
             state, frame = weak.beside_halves(rng, code, done)
-            script += opening(table, frame, Fill(rounds=done))
-            script += [PutEdge("copies", edge, copy) for edge, copy in enumerate(state.copies)]
-            script += [PutEdge("offsets", edge, y) for edge, y in enumerate(state.offsets)]
+            script += opening(table, frame, Fill(rounds=done)) + put_state(table, state)
             script += calls([1, 1, 30], exact(table))
     return script
 

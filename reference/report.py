@@ -20,7 +20,7 @@ def frame_line(code, code_file, frame_bytes):
         frame = [int.from_bytes(frame_bytes[k:k + 2], "little", signed=True)
                  for k in range(0, len(frame_bytes), 2)]
         lent = fresh_buffers(code)
-        record = rounds.start(code_file, lent.copies, lent.offsets)
+        record = rounds.start(code_file, lent.copies, lent.offsets, lent.sums)
         ending = rounds.rounds(code_file, frame, record, rounds.ROUNDS_LIMIT, lent)
     except Refused as refusal:
         return str(refusal)

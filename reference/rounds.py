@@ -18,7 +18,7 @@ MULTIPLIER_LIMIT = certificate.MULTIPLIER_LIMIT
 
 RUNNING, CERTIFIED, SPENT = "running", "certified", "spent"
 
-Round = namedtuple("Round", "spins copies offsets multipliers masks")
+Round = namedtuple("Round", "spins copies offsets sums multipliers masks")
 
 
 @dataclass
@@ -36,6 +36,7 @@ class Buffers:
     spins: list
     copies: list
     offsets: list
+    sums: list              # per bit, the sum of copy - offset over its edges
     multipliers: list
     masks: list
     word: list
@@ -45,8 +46,8 @@ class Buffers:
 def buffer_lengths(code):
     """The shortest length of each lent buffer (refusal 41)."""
     checks = len(code.checks)
-    return Buffers(spins=code.bits, copies=code.edges, offsets=code.edges, multipliers=checks,
-                   masks=checks, word=code.bits, certificate=4 + 10 * checks)
+    return Buffers(spins=code.bits, copies=code.edges, offsets=code.edges, sums=code.bits,
+                   multipliers=checks, masks=checks, word=code.bits, certificate=4 + 10 * checks)
 
 
 def divide_nearest(total, count):
@@ -60,13 +61,15 @@ def divide_nearest(total, count):
     return quotient if total >= 0 else -quotient
 
 
-def spins_of_bits(code, frame, copies, offsets):
-    """Step 1: every bit gathers what its edges say."""
-    spins = []
-    for number, edges in zip(frame, code.edges_of_bit):
-        total = number + sum(copies[edge] - offsets[edge] for edge in edges)
-        spins.append(cut.clip(divide_nearest(total, len(edges))))
-    return spins
+def sums_of_bits(code, copies, offsets):
+    """What each bit's edges say: the sum of copy - offset."""
+    return [sum(copies[edge] - offsets[edge] for edge in edges) for edges in code.edges_of_bit]
+
+
+def spins_of_bits(code, frame, sums):
+    """Step 1: a bit's total is its frame number and its sum."""
+    return [cut.clip(divide_nearest(number + told, len(edges)))
+            for number, told, edges in zip(frame, sums, code.edges_of_bit)]
 
 
 def settle_check(values):
@@ -83,10 +86,11 @@ def settle_check(values):
     return cut.moved(values, mask, multiplier), multiplier, mask
 
 
-def one_round(code, frame, copies, offsets):
-    """Steps 1 to 3 from E copies and E offsets, or refusal 44."""
-    spins = spins_of_bits(code, frame, copies, offsets)
-    result = Round(spins, [], [], [], [])
+def one_round(code, frame, offsets, sums):
+    """Steps 1 to 3 from E offsets and n sums, or refusal 44.  Of the copies a round needs
+    nothing that the sums don't tell."""
+    spins = spins_of_bits(code, frame, sums)
+    result = Round(spins, [], [], [], [], [])
     for start, members in zip(code.starts, code.checks):
         values = [spins[bit] + offsets[start + k] for k, bit in enumerate(members)]
         new_copies, multiplier, mask = settle_check(values)
@@ -95,7 +99,7 @@ def one_round(code, frame, copies, offsets):
         result.offsets.extend(value - copy for value, copy in zip(values, new_copies))
         result.multipliers.append(multiplier)
         result.masks.append(mask)
-    return result
+    return result._replace(sums=sums_of_bits(code, result.copies, result.offsets))
 
 
 def candidate(spins):
@@ -114,27 +118,51 @@ def certified_word(code, frame, done):
     return word if certificate.gap(code, frame, word, 1, entries) == 0 else None
 
 
-def start(code_file, copies, offsets):
-    """A fresh record (refusals 1-7, 41).  Zeroes the first E copies and offsets, no more."""
+def check_lengths(code, lent):
+    """41 for the lent buffers, which are given by name: a start is lent three of them."""
+    needed = vars(buffer_lengths(code))
+    refuse_if(any(len(buffer) < needed[name] for name, buffer in lent.items()), 41)
+
+
+def clear(code, lent):
+    """Zeroes what a start is lent, as far as the table needs it."""
+    needed = vars(buffer_lengths(code))
+    for name, buffer in lent.items():
+        buffer[:needed[name]] = [0] * needed[name]
+
+
+def start(code_file, copies, offsets, sums):
+    """A fresh record (refusals 1-7, 41).  Zeroes the first E copies and offsets and the first
+    n sums, no more."""
     code = table.parse_code_file(code_file)
-    refuse_if(len(copies) < code.edges or len(offsets) < code.edges, 41)
-    copies[:code.edges] = [0] * code.edges
-    offsets[:code.edges] = [0] * code.edges
+    lent = {"copies": copies, "offsets": offsets, "sums": sums}
+    check_lengths(code, lent)
+    clear(code, lent)
     return Record()
 
 
-def check_lengths(code, lent):
-    needed = vars(buffer_lengths(code))
-    refuse_if(any(len(vars(lent)[name]) < needed[name] for name in needed), 41)
-
-
-def check_standing(code, record, lent):
-    """42, then 43: whether this record and these edges can be those of a run under way."""
+def check_running(record):
     refuse_if(record.status != RUNNING, 42)
+
+
+def check_limits(code, record, lent):
+    """43: whether this record and these edges can be those of a run under way."""
     refuse_if(record.rounds_done >= ROUNDS_LIMIT, 43)
     farthest = OFFSET_PER_ROUND * record.rounds_done
     refuse_if(any(abs(copy) > UNIT for copy in lent.copies[:code.edges]), 43)
     refuse_if(any(abs(offset) > farthest for offset in lent.offsets[:code.edges]), 43)
+
+
+def check_sums(code, lent):
+    """43: whether the sums are those of the copies and offsets.  The rounds trust them."""
+    refuse_if(lent.sums[:code.bits] != sums_of_bits(code, lent.copies, lent.offsets), 43)
+
+
+def check_standing(code, record, lent):
+    """42, then 43."""
+    check_running(record)
+    check_limits(code, record, lent)
+    check_sums(code, lent)
 
 
 def write_over(buffer, values):
@@ -156,10 +184,10 @@ def rounds(code_file, frame, record, wanted, lent):
     code = table.parse_code_file(code_file)
     table.check_frame(code, frame)
     refuse_if(not 0 <= wanted <= ROUNDS_LIMIT, 17)
-    check_lengths(code, lent)
+    check_lengths(code, vars(lent))
     check_standing(code, record, lent)
     for _ in range(wanted):
-        done = one_round(code, frame, lent.copies[:code.edges], lent.offsets[:code.edges])
+        done = one_round(code, frame, lent.offsets[:code.edges], lent.sums[:code.bits])
         show_round(done, lent)
         record.rounds_done += 1
         word = certified_word(code, frame, done)

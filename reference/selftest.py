@@ -17,9 +17,10 @@ import test_mutants
 import test_optimal
 import test_refusals
 import test_search
+import test_sums
 from support import Account
 
-PARTS = [test_examples, test_division, test_search, test_optimal, test_calls, test_empty,
+PARTS = [test_examples, test_division, test_search, test_optimal, test_calls, test_sums, test_empty,
          test_refusals, test_kinds, test_mutants]
 
 

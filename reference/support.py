@@ -56,7 +56,8 @@ class Run:
         self.frame = frame
         self.lent = make_runs.junk_buffers(rng, self.code, self.SPARE)
         self.junk = copy.deepcopy(self.lent)
-        self.record = decoder.start(self.code_file, self.lent.copies, self.lent.offsets)
+        self.record = decoder.start(self.code_file, self.lent.copies, self.lent.offsets,
+                                    self.lent.sums)
 
     def call(self, call):
         """Makes one call for rounds and tells what it left."""
@@ -95,7 +96,7 @@ def rounds_to_the_end(table, frame):
     """The record of a run that may take 1,100 rounds."""
     data = code_file(table)
     lent = fresh_buffers(parse_code_file(data))
-    record = decoder.start(data, lent.copies, lent.offsets)
+    record = decoder.start(data, lent.copies, lent.offsets, lent.sums)
     with mock.patch.object(rounds, "ROUNDS_LIMIT", 1100):
         decoder.rounds(data, frame, record, 1100, lent)
     return record

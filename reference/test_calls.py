@@ -110,7 +110,8 @@ def plain_nearest(fraction):
 
 
 def plain_round(table, frame, copies, offsets):
-    """Steps 1 to 3 of document 01 once more, with fractions for step 1."""
+    """Steps 1 to 3 of document 01 once more, with fractions for step 1, which adds up all edges
+    anew: sums that were carried wrong would show here."""
     n, checks = table
     edges = [bit for members in checks for bit in members]
     spins = []
@@ -126,7 +127,8 @@ def plain_round(table, frame, copies, offsets):
         multipliers.append(multiplier)
         masks.append(mask)
     new_offsets = [value - copy for value, copy in zip(values, new_copies)]
-    return Round(spins, new_copies, new_offsets, multipliers, masks)
+    return Round(spins, new_copies, new_offsets, tables.true_sums(table, new_copies, new_offsets),
+                 multipliers, masks)
 
 
 # --- resumed runs and what the buffers hold --------------------------------------------------
@@ -181,17 +183,17 @@ def expect_written(run, got):
     expect_equal(got.word, [int(spin < 0) for spin in run.lent.spins[:run.code.bits]], "word")
 
 
-def start_zeroes_only_edges(account):
+def start_zeroes_no_more(account):
     account.announce("starts")
     rng = Prng(54)
     for table in tables.small_tables(rng, 12):
         run = Run(table, [0] * table[0], rng)
-        edges = run.code.edges
+        zeroed = {"copies": run.code.edges, "offsets": run.code.edges, "sums": table[0]}
         expect_equal(run.record, Record(0, RUNNING), "record of a start")
         for name, values in vars(run.lent).items():
-            kept = vars(run.junk)[name]
-            wanted = [0] * edges + kept[edges:] if name in ("copies", "offsets") else kept
-            expect_equal(values, wanted, f"{name} after a start")
+            count = zeroed.get(name, 0)
+            expect_equal(values, [0] * count + vars(run.junk)[name][count:],
+                         f"{name} after a start")
         account.add("starts")
 
 
@@ -241,8 +243,7 @@ def half_done_runs_go_on(account):
         for state in states:
             run = Run(table, inputs.random_frame(rng, table[0]), rng)
             run.record.rounds_done = state.record.rounds_done
-            run.lent.copies[:code.edges] = state.copies
-            run.lent.offsets[:code.edges] = state.offsets
+            make_runs.lend_state(code, run.lent, state)
             expect_equal(run.call(Call(0, None)).answer, RUNNING, f"0 rounds on {state}")
             done = plain_round(table, run.frame, state.copies, state.offsets)
             seen = run.call(Call(1, None))
@@ -257,7 +258,7 @@ def edge_of_43_stays_below_44(account):
     account.announce("multipliers at the edge of 43")
     run = Run(tables.stacked_singles(3), [0], Prng(59))
     run.record.rounds_done, far = 1023, 8192 * 1023
-    run.lent.offsets[:3] = [-far, far, far]
+    run.lent.offsets[:3], run.lent.sums[0] = [-far, far, far], -far
     run.call(Call(1, None))
     expect_equal(run.lent.multipliers[0], 8_388_608, "multiplier at the edge of 43")
     account.add("multipliers at the edge of 43")
@@ -297,6 +298,6 @@ def larger_tables_run(account):
 
 
 TESTS = [negation_changes_nothing_else, splitting_changes_nothing, buffers_show_the_last_round,
-         start_zeroes_only_edges, zero_rounds_change_nothing, runs_end_at_1024,
+         start_zeroes_no_more, zero_rounds_change_nothing, runs_end_at_1024,
          last_round_may_certify, half_done_runs_go_on, edge_of_43_stays_below_44,
          refusal_44_in_mid_call, larger_tables_run]

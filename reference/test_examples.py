@@ -49,9 +49,11 @@ def leaning_frame():
     """(4000, 4000, -2000): the received word breaks the check; three rounds mend it."""
     run = fresh(tables.three_bits(), [4000, 4000, -2000])
     expect_round(run, RUNNING, spins=[4000, 4000, -2000], multipliers=[1968], masks=[4],
-                 copies=[2032, 2032, -32], offsets=[1968, 1968, -1968])
-    expect_round(run, RUNNING, multipliers=[3334], copies=[2698, 2698, 1302], masks=[4])
-    expect_round(run, CERTIFIED, spins=[3364, 3364, 2636], multipliers=[3333], masks=[4])
+                 copies=[2032, 2032, -32], offsets=[1968, 1968, -1968], sums=[64, 64, 1936])
+    expect_round(run, RUNNING, multipliers=[3334], copies=[2698, 2698, 1302], masks=[4],
+                 sums=[-636, -636, 4636])
+    expect_round(run, CERTIFIED, spins=[3364, 3364, 2636], multipliers=[3333], masks=[4],
+                 sums=[32, 32, 5968])
     expect_ending(run, 3, [0, 0, 0], "01 00 01 00 00 00 05 0D 00 00 04 00 00 00")
 
 
@@ -95,8 +97,9 @@ def three_frame_report():
 def odd_total_frame():
     """One bit in two checks of one member, frame (-5): the total -5 over 2 edges is -3."""
     run = fresh(tables.stacked_singles(2), [-5])
-    expect_round(run, RUNNING, spins=[-3], multipliers=[4099, 4099], offsets=[-4099, -4099])
-    expect_round(run, CERTIFIED, spins=[4096], multipliers=[4099, 4099])
+    expect_round(run, RUNNING, spins=[-3], multipliers=[4099, 4099], offsets=[-4099, -4099],
+                 sums=[16390])
+    expect_round(run, CERTIFIED, spins=[4096], multipliers=[4099, 4099], sums=[16390])
     expect_ending(run, 2, [0], "02 00 01 00 00 00 03 10 00 00 01 00 03 10 00 00 01 00 00 00"
                   "01 00 00 00")
 
@@ -183,6 +186,49 @@ def empty_check_named():
                      f"refused {number}", f"entry {multiplier} {mask} on an empty check")
 
 
+def half_done_pair():
+    """Two bits and three edges, the last two of them bit 1's: its sum is 180 + 270."""
+    run = fresh((2, [[0, 1], [1]]), [5, 7])
+    run.record.rounds_done = 1
+    run.lent.copies[:3], run.lent.offsets[:3] = [100, 200, 300], [10, 20, 30]
+    run.lent.sums[:2] = [90, 450]
+    return run
+
+
+def sums_compared():
+    """True sums are taken, whatever stands past them: 95 over 1, and 457 over 2.  No others."""
+    expect_round(half_done_pair(), CERTIFIED, spins=[95, 229])
+    for wrong in ([91, 450], [90, 449], [89, 451], [450, 90], [90 + 2**16, 450], [0, 0],
+                  [90, 450 - 2**16], [90, 2**31 - 1], [-2**31, 450], [-90, -450]):
+        for wanted in (0, 1, 1024):
+            run = half_done_pair()
+            run.lent.sums[:2] = wrong
+            expect_equal(run.call(Call(wanted, None)).answer, "refused 43", f"sums {wrong}")
+
+
+def largest_sums():
+    """32 edges at the limits of 43: the sum is 32 x (4096 + 8192 x 1023)."""
+    for step, answer in [(0, RUNNING), (1, "refused 43"), (-1, "refused 43")]:
+        run = fresh(tables.stacked_singles(32), [5])
+        run.record.rounds_done = 1023
+        run.lent.copies[:32], run.lent.offsets[:32] = [4096] * 32, [-8192 * 1023] * 32
+        run.lent.sums[0] = 268_304_384 + step
+        expect_equal(run.call(Call(0, None)).answer, answer, f"the largest sum and {step}")
+
+
+def sums_in_their_turn():
+    """A wrong sum is named after 17, 41 and 42; sums lent too short are 41, in a start too."""
+    for status, wanted, short, number in [(RUNNING, 1025, None, 17), (RUNNING, 1, "word", 41),
+                                          (RUNNING, 1, "sums", 41), (SPENT, 1, "sums", 41),
+                                          (SPENT, 1, None, 42), (CERTIFIED, 0, None, 42)]:
+        run = half_done_pair()
+        run.record.status, run.lent.sums[1] = status, 451
+        expect_equal(run.call(Call(wanted, short)).answer, f"refused {number}", "a wrong sum")
+    lent = [[1] * 3, [1] * 3, [1]]
+    got = decoder.answer(decoder.start, half_done_pair().code_file, *lent)
+    expect_equal((got, lent), ("refused 41", [[1] * 3, [1] * 3, [1]]), "a start on one sum of two")
+
+
 def report_edges():
     """Readings 5 and 6: surplus bytes are frames, a short frame is 8, bad files stand alone."""
     head = bytes.fromhex("01 00 01 00 00 00 01 00 00 00")
@@ -199,7 +245,7 @@ def report_edges():
 FRAME_TESTS = [cut_examples, leaning_frame, two_ones_frame, four_gaps, one_bit_frame,
                three_frame_report, odd_total_frame, first_totals, weak_frame, half_frame,
                too_weak_frame, side_change_frame, second_best_frame, empty_check_frame,
-               empty_check_named, report_edges]
+               empty_check_named, sums_compared, largest_sums, sums_in_their_turn, report_edges]
 
 
 def worked_examples(account):

@@ -22,7 +22,8 @@ import make_verdicts
 import make_weak_scripts as weak_scripts
 import report_inputs
 import rounds
-from call_script import CAPACITY, KEPT, CallRounds, Fill, Program, PutEdge, StartRun, UseCode, UseFrame
+from call_script import (CAPACITY, KEPT, CallRounds, Fill, Program, Put, StartRun, UseCode,
+                         UseFrame)
 from packing import i32, u8, u32
 from prng import Prng
 from rounds import Buffers, Record
@@ -158,13 +159,13 @@ def read_call(reader):
     if op == 2:
         return UseFrame(reader.numbers("h"))
     if op == 3:
-        return StartRun(*reader.fields("II"))
+        return StartRun(*reader.fields("III"))
     if op == 4:
         wanted, *lengths = reader.fields("I" + "I" * len(ELEMENTS))
         return CallRounds(wanted, Buffers(*lengths))
     expect_equal(op, 5, "op")
     which, index, value = reader.fields("BIi")
-    return PutEdge({1: "copies", 2: "offsets"}[which], index, value)
+    return Put({1: "copies", 2: "offsets", 3: "sums"}[which], index, value)
 
 
 def case_calls_cover_all(account):
@@ -208,7 +209,10 @@ def expect_within_capacity(script):
             lent = zip(vars(call.lengths).values(), vars(CAPACITY).values())
             expect(all(0 <= length <= capacity for length, capacity in lent), f"{call}")
         elif isinstance(call, StartRun):
-            expect(0 <= min(call) and max(call) <= CAPACITY.copies, f"{call}")
+            expect(all(0 <= length <= vars(CAPACITY)[name]
+                       for name, length in call._asdict().items()), f"{call}")
+        elif isinstance(call, Put):
+            expect(0 <= call.index < vars(CAPACITY)[call.name], f"{call}")
         elif isinstance(call, (UseCode, UseFrame)):
             expect(len(call[0]) <= (30000 if isinstance(call, UseCode) else 2100), "length")
 

@@ -4,6 +4,7 @@ Document 01, 'Plausible errors', and the likeliest impostors of 'Contract streng
 parts replace the right ones for the time of one test; nothing in the decoder knows of them.
 """
 
+import struct
 from unittest import mock
 
 import certificate
@@ -31,8 +32,8 @@ def any_codeword(code, frame, done):
 
 
 def round_one_again(right_round):
-    return lambda code, frame, copies, offsets: right_round(
-        code, frame, [0] * code.edges, [0] * code.edges)
+    return lambda code, frame, offsets, sums: right_round(
+        code, frame, [0] * code.edges, [0] * code.bits)
 
 
 def empty_refused(right_contents):
@@ -73,9 +74,73 @@ WRONG_DIVISIONS = {
     "division downward": lambda total, count: total // count,
 }
 
+def sums_by(likeness):
+    """Sums compared by a likeness of the lent ones, whole, to the true ones."""
+    def check(code, lent):
+        true = rounds.sums_of_bits(code, lent.copies, lent.offsets)
+        table.refuse_if(likeness(lent.sums, len(true)) != likeness(true, len(true)), 43)
+    return check
+
+
+def as_floats(sums, n):
+    return struct.pack(f"{n}f", *sums[:n])
+
+
+def without_sums(right_part):
+    """A start's or a call's part that forgets the sums."""
+    return lambda code, lent: right_part(code, {name: buffer for name, buffer in lent.items()
+                                                if name != "sums"})
+
+
+def checks_in_order(*checks):
+    """42 and the tests of 43 in another order."""
+    arguments = {"check_running": lambda code, record, lent: (record,),
+                 "check_limits": lambda code, record, lent: (code, record, lent),
+                 "check_sums": lambda code, record, lent: (code, lent)}
+
+    def check_standing(*standing):
+        for name in checks:
+            getattr(rounds, name)(*arguments[name](*standing))
+    return check_standing
+
+
+def sums_left_by(right_round, leaves_them):
+    def one_round(code, frame, offsets, sums):
+        done = right_round(code, frame, offsets, sums)
+        return done._replace(sums=sums) if leaves_them(code, frame, done) else done
+    return one_round
+
+
+def certifies(code, frame, done):
+    return rounds.certified_word(code, frame, done) is not None
+
+
+# parts of rounds.py
+WRONG_SUMS = {
+    "sums not compared": ("check_sums", lambda code, lent: None),
+    "only the first sum compared": ("check_sums", sums_by(lambda sums, n: sums[0])),
+    "last sum not compared": ("check_sums", sums_by(lambda sums, n: sums[:n - 1])),
+    "only the sums' total compared": ("check_sums", sums_by(lambda sums, n: sum(sums[:n]))),
+    "sums compared in any order": ("check_sums", sums_by(lambda sums, n: sorted(sums[:n]))),
+    "sums compared in 16 bits": ("check_sums", sums_by(lambda sums, n: [s % 2**16
+                                                                       for s in sums[:n]])),
+    "sums compared as floats": ("check_sums", sums_by(as_floats)),
+    "sums compared beyond n": ("check_sums", sums_by(lambda sums, n: sums + [0] * (n - len(sums)))),
+    "sums compared before 42": ("check_standing", checks_in_order("check_sums", "check_running",
+                                                                  "check_limits")),
+    "43 before 42": ("check_standing", checks_in_order("check_limits", "check_sums",
+                                                       "check_running")),
+    "sums left by a certifying round": ("one_round", sums_left_by(rounds.one_round, certifies)),
+    "sums left by every round": ("one_round", sums_left_by(rounds.one_round,
+                                                           lambda *round_done: True)),
+    "sums left by a start": ("clear", without_sums(rounds.clear)),
+    "short sums accepted": ("check_lengths", without_sums(rounds.check_lengths)),
+}
+
 MUTANTS = {
     "side change omitted": (cut, "known_cut", cut_without_side_change),
     **{name: (rounds, "divide_nearest", wrong) for name, wrong in WRONG_DIVISIONS.items()},
+    **{name: (rounds, *wrong) for name, wrong in WRONG_SUMS.items()},
     "zero spin read as bit 0": (rounds, "candidate", lambda spins: [int(s < 0) for s in spins]),
     "d - 1 for d - 2": (certificate, "dual_bound", bound_with_one_too_many),
     "any codeword certified by a run": (rounds, "certified_word", any_codeword),
