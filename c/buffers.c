@@ -39,7 +39,7 @@ static void same_buffers(const char *call, Buffers got, Buffers wanted)
     EACH_BUFFER(SAME_BUFFER)
 }
 
-/* Numbers that no call writes, different in each buffer; the copies and offsets are of no run. */
+/* Numbers that no call writes, different in each buffer; copies, offsets and sums are of no run. */
 static Buffers junk(void)
 {
     Buffers b;
@@ -55,12 +55,13 @@ static Buffers started(void)
     Buffers b = junk();
     memset(b.copies, 0, EDGES * sizeof b.copies[0]);
     memset(b.offsets, 0, EDGES * sizeof b.offsets[0]);
+    memset(b.sums, 0, BITS * sizeof b.sums[0]);
     return b;
 }
 
 /* What a round shows. */
 typedef struct {
-    int32_t spins[BITS], copies[EDGES], offsets[EDGES];
+    int32_t spins[BITS], copies[EDGES], offsets[EDGES], sums[BITS];
     uint32_t multiplier, mask;
 } Shown;
 
@@ -69,6 +70,7 @@ static void show(Buffers *b, const Shown *round)
     memcpy(b->spins, round->spins, sizeof round->spins);
     memcpy(b->copies, round->copies, sizeof round->copies);
     memcpy(b->offsets, round->offsets, sizeof round->offsets);
+    memcpy(b->sums, round->sums, sizeof round->sums);
     b->multipliers[0] = round->multiplier;
     b->masks[0] = round->mask;
 }
@@ -83,25 +85,27 @@ static void show_certified(Buffers *b, const Shown *round, const uint8_t *word, 
 
 /* ---- starts ---- */
 
-static JugnayapCalled start(size_t code_len, size_t copies, size_t offsets, Buffers *b)
+static JugnayapCalled start(size_t code_len, size_t copies, size_t offsets, size_t sums, Buffers *b)
 {
-    return jugnayap_start(code, code_len, b->copies, copies, b->offsets, offsets);
+    return jugnayap_start(code, code_len, b->copies, copies, b->offsets, offsets, b->sums, sums);
 }
 
-/* A start writes E copies and E offsets; refused, it leaves them. */
+/* A start writes E copies, E offsets and n sums; refused, it leaves them. */
 static void starts(void)
 {
     Buffers b = junk();
-    same_called("copies short", start(sizeof code, 2, 4, &b),
+    same_called("copies short", start(sizeof code, 2, 4, 4, &b),
                 (JugnayapCalled){.number = JUGNAYAP_REFUSED_BUFFER_SHORT});
-    same_called("offsets short", start(sizeof code, 4, 2, &b),
+    same_called("offsets short", start(sizeof code, 4, 2, 4, &b),
                 (JugnayapCalled){.number = JUGNAYAP_REFUSED_BUFFER_SHORT});
-    same_called("code a byte short", start(sizeof code - 1, 4, 4, &b),
+    same_called("sums short", start(sizeof code, 4, 4, 2, &b),
+                (JugnayapCalled){.number = JUGNAYAP_REFUSED_BUFFER_SHORT});
+    same_called("code a byte short", start(sizeof code - 1, 4, 4, 4, &b),
                 (JugnayapCalled){.number = JUGNAYAP_REFUSED_LENGTH_WRONG});
-    same_called("nothing lent", jugnayap_start(code, sizeof code, NULL, 0, NULL, 0),
+    same_called("nothing lent", jugnayap_start(code, sizeof code, NULL, 0, NULL, 0, NULL, 0),
                 (JugnayapCalled){.number = JUGNAYAP_REFUSED_BUFFER_SHORT});
     same_buffers("refused start", b, junk());
-    same_called("start", start(sizeof code, 4, 4, &b), (JugnayapCalled){.number = 0, .run = fresh});
+    same_called("start", start(sizeof code, 4, 4, 4, &b), (JugnayapCalled){.number = 0, .run = fresh});
     same_buffers("start", b, started());
 }
 
@@ -123,9 +127,9 @@ static JugnayapCalled rounds_on_nothing(const int16_t *frame, size_t frame_len, 
 static void three_rounds(void)
 {
     static const Shown shown[] = {
-        {{4000, 4000, -2000}, {2032, 2032, -32}, {1968, 1968, -1968}, 1968, 4},
-        {{4064, 4064, -64}, {2698, 2698, 1302}, {3334, 3334, -3334}, 3334, 4},
-        {{3364, 3364, 2636}, {3365, 3365, 2635}, {3333, 3333, -3333}, 3333, 4}};
+        {{4000, 4000, -2000}, {2032, 2032, -32}, {1968, 1968, -1968}, {64, 64, 1936}, 1968, 4},
+        {{4064, 4064, -64}, {2698, 2698, 1302}, {3334, 3334, -3334}, {-636, -636, 4636}, 3334, 4},
+        {{3364, 3364, 2636}, {3365, 3365, 2635}, {3333, 3333, -3333}, {32, 32, 5968}, 3333, 4}};
     static const uint8_t word[] = {0, 0, 0}, certificate[] = {1, 0, 1, 0, 0, 0, 0x05, 0x0D, 0, 0, 4, 0, 0, 0};
     const JugnayapRun first = {1, JUGNAYAP_RUNNING}, second = {2, JUGNAYAP_RUNNING},
                       third = {3, JUGNAYAP_CERTIFIED};
@@ -150,7 +154,8 @@ static void three_rounds(void)
 static void two_ones(void)
 {
     static const int16_t frame[BITS] = {-4000, -4000, -2000};
-    static const Shown last = {{-3364, -3364, 2636}, {-3365, -3365, 2635}, {-3333, -3333, -3333}, 3333, 7};
+    static const Shown last = {
+        {-3364, -3364, 2636}, {-3365, -3365, 2635}, {-3333, -3333, -3333}, {-32, -32, 5968}, 3333, 7};
     static const uint8_t word[] = {1, 1, 0}, certificate[] = {1, 0, 1, 0, 0, 0, 0x05, 0x0D, 0, 0, 7, 0, 0, 0};
     Buffers b = started(), wanted = started();
     same_called("word 110", rounds(frame, fresh, ROUNDS, needed, &b),
@@ -163,7 +168,7 @@ static void two_ones(void)
 static void no_cut(void)
 {
     static const int16_t frame[BITS] = {10, 10, 10};
-    static const Shown last = {{10, 10, 10}, {10, 10, 10}, {0, 0, 0}, 0, 0};
+    static const Shown last = {{10, 10, 10}, {10, 10, 10}, {0, 0, 0}, {10, 10, 10}, 0, 0};
     static const uint8_t word[] = {0, 0, 0}, certificate[] = {0, 0, 1, 0};
     Buffers b = started(), wanted = started();
     same_called("no cut", rounds(frame, fresh, 5, lent, &b),
@@ -244,11 +249,43 @@ static void refused_edges(void)
     const JugnayapRun run = {.rounds = 2, .status = JUGNAYAP_RUNNING};
     refused("no start", JUGNAYAP_REFUSED_RUN_DAMAGED, run, 1, lent, junk());
     Buffers b = started();
-    b.copies[2] = -JUGNAYAP_UNIT - 1;
+    b.sums[2] = b.copies[2] = -JUGNAYAP_UNIT - 1;
     refused("copy -4097", JUGNAYAP_REFUSED_RUN_DAMAGED, run, 1, lent, b);
     b = started();
     b.offsets[1] = 2 * 8192 + 1;
+    b.sums[1] = -b.offsets[1];
     refused("offset 16385 after 2 rounds", JUGNAYAP_REFUSED_RUN_DAMAGED, run, 1, lent, b);
+}
+
+/* Copies and offsets that 2 rounds may leave, with their sums; what is past the third sum is of no run. */
+static Buffers half_done(void)
+{
+    static const int32_t copies[EDGES] = {JUGNAYAP_UNIT, 0, -7}, offsets[EDGES] = {-2 * 8192, 5, 0},
+                         sums[BITS] = {JUGNAYAP_UNIT + 2 * 8192, -5, -7};
+    Buffers b = started();
+    memcpy(b.copies, copies, sizeof copies);
+    memcpy(b.offsets, offsets, sizeof offsets);
+    memcpy(b.sums, sums, sizeof sums);
+    return b;
+}
+
+/* Sums off by these; together they may come to nothing. */
+static void refused_sums(void)
+{
+    static const int32_t off[][BITS] = {{1, 0, 0},   {0, -1, 0},      {0, 0, 1},             {1, -1, 0},
+                                        {3, -1, -2}, {0, 0, 1 << 24}, {0, INT32_MIN + 5, 0}, {0, 0, INT32_MAX}};
+    const JugnayapRun run = {.rounds = 2, .status = JUGNAYAP_RUNNING}, end = {2, JUGNAYAP_CERTIFIED};
+    for (size_t i = 0; i < COUNT(off); i++) {
+        Buffers b = half_done();
+        for (size_t bit = 0; bit < BITS; bit++)
+            b.sums[bit] += off[i][bit];
+        refused("wrong sums", JUGNAYAP_REFUSED_RUN_DAMAGED, run, 1, lent, b);
+        refused("wrong sums, 0 rounds", JUGNAYAP_REFUSED_RUN_DAMAGED, run, 0, lent, b);
+        refused("wrong sums, run ended", JUGNAYAP_REFUSED_RUN_ENDED, end, 1, lent, b);
+    }
+    Buffers b = half_done();
+    same_called("true sums", rounds(leaning, run, 0, lent, &b), (JugnayapCalled){.run = run});
+    same_buffers("true sums", b, half_done());
 }
 
 static void refused_frames(void)
@@ -273,6 +310,7 @@ int main(void)
     refused_records();
     refused_lengths();
     refused_edges();
+    refused_sums();
     refused_frames();
     return account("buffers");
 }

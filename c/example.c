@@ -12,7 +12,7 @@ static const int16_t frame[BITS] = {4000, 4000, -2000};
 
 /* The buffers of one run. */
 typedef struct {
-    int32_t spins[BITS], copies[EDGES], offsets[EDGES];
+    int32_t spins[BITS], copies[EDGES], offsets[EDGES], sums[BITS];
     uint32_t multipliers[CHECKS], masks[CHECKS];
     uint8_t word[BITS], certificate[CERTIFICATE];
 } Buffers;
@@ -20,8 +20,8 @@ typedef struct {
 static JugnayapCalled one_round(JugnayapRun run, Buffers *b)
 {
     return jugnayap_rounds(code, sizeof code, frame, BITS, run, 1, b->spins, BITS, b->copies, EDGES,
-                           b->offsets, EDGES, b->multipliers, CHECKS, b->masks, CHECKS, b->word, BITS,
-                           b->certificate, CERTIFICATE);
+                           b->offsets, EDGES, b->sums, BITS, b->multipliers, CHECKS, b->masks, CHECKS,
+                           b->word, BITS, b->certificate, CERTIFICATE);
 }
 
 static void print_round(uint32_t round, const Buffers *b)
@@ -62,7 +62,8 @@ int main(void)
         return 1;
     }
     Buffers b = {0};
-    JugnayapCalled called = jugnayap_start(code, sizeof code, b.copies, EDGES, b.offsets, EDGES);
+    JugnayapCalled called =
+        jugnayap_start(code, sizeof code, b.copies, EDGES, b.offsets, EDGES, b.sums, BITS);
     while (called.number == 0 && called.run.status == JUGNAYAP_RUNNING) {
         called = one_round(called.run, &b);
         if (called.number == 0)

@@ -154,8 +154,9 @@ static JugnayapCalled decoded(const Code *code, const int16_t *frame, size_t bit
 {
     Lengths n = needed;
     n.certificate = room;
-    JugnayapCalled start =
-        jugnayap_start(code->bytes, code->length, left.copies, n.copies, left.offsets, n.offsets);
+    JugnayapCalled start = jugnayap_start(code->bytes, code->length, left.copies, n.copies, left.offsets,
+                                          n.offsets, left.sums, n.sums);
+    same_number("start", start.number, 0);
     return jugnayap_rounds(code->bytes, code->length, frame, bits, start.run, wanted EACH_BUFFER(LEND));
 }
 

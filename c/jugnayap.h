@@ -38,9 +38,9 @@ extern "C" {
 
 /* The version of this header. jugnayap_version() is that of the library that the program runs with. */
 #define JUGNAYAP_VERSION_MAJOR 0
-#define JUGNAYAP_VERSION_MINOR 1
+#define JUGNAYAP_VERSION_MINOR 2
 #define JUGNAYAP_VERSION_PATCH 0
-#define JUGNAYAP_VERSION_STRING "0.1.0"
+#define JUGNAYAP_VERSION_STRING "0.2.0"
 #define JUGNAYAP_VERSION \
     (JUGNAYAP_VERSION_MAJOR * 10000 + JUGNAYAP_VERSION_MINOR * 100 + JUGNAYAP_VERSION_PATCH)
 
@@ -94,7 +94,8 @@ enum JugnayapRefusal {
     JUGNAYAP_REFUSED_BUFFER_SHORT = 41,      /* a lent buffer too short */
     JUGNAYAP_REFUSED_RUN_ENDED = 42,         /* run already certified or spent */
     JUGNAYAP_REFUSED_RUN_DAMAGED = 43        /* 1024 rounds or more in a running run, a copy outside -U..U, an
-                                                offset beyond 8192 x rounds done, or an unknown status */
+                                                offset beyond 8192 x rounds done, a bit's sum that is not that
+                                                of copy less offset over its edges, or an unknown status */
 };
 
 /* In each answer `number` is 0, or the refusal's number; the fields after it are then 0, but for `run`
@@ -175,24 +176,28 @@ JugnayapAgreement jugnayap_agreement(const uint8_t *code, size_t code_len,
                                      const int16_t *frame, size_t frame_len,
                                      const uint8_t *word, size_t word_len);
 
-/* Starts a run: zeroes the first E copies and offsets, and gives the fresh record {0, JUGNAYAP_RUNNING}.
- * Refusals: the code's, BUFFER_SHORT (copies E, offsets E). A refused start changes neither buffer.
- * Elements past the first E never change. */
+/* Starts a run: zeroes the first E copies and offsets and the first n sums, and gives the fresh record
+ * {0, JUGNAYAP_RUNNING}. Refusals: the code's, BUFFER_SHORT (copies E, offsets E, sums n). A refused start
+ * changes no buffer. Elements past the first E, and n, never change. */
 JugnayapCalled jugnayap_start(const uint8_t *code, size_t code_len,
                               int32_t *copies, size_t copies_len,
-                              int32_t *offsets, size_t offsets_len);
+                              int32_t *offsets, size_t offsets_len,
+                              int32_t *sums, size_t sums_len);
 
 /* Does the rounds wanted, 0 to JUGNAYAP_MAX_ROUNDS, or fewer if the run ends: certified by a word that meets
  * all checks and has gap 0, or spent after JUGNAYAP_MAX_ROUNDS in all without one. `run` is the record after
  * the call, and its status the answer.
  *
- * Lengths needed: spins n; copies, offsets E; multipliers, masks m; word n; certificate
+ * Lengths needed: spins n; copies, offsets E; sums n; multipliers, masks m; word n; certificate
  * JUGNAYAP_CERTIFICATE_LENGTH(m). What is past them never changes.
  *
  * A call that does a round leaves that of the last one: each bit's spin, each edge's copy and offset (in
- * the order of the bodies), each check's multiplier and mask, both 0 for no cut. Only a call that
- * certifies writes word and certificate, the latter 4 + 10q bytes with q the cuts of the last round, in
+ * the order of the bodies), each bit's sum, each check's multiplier and mask, both 0 for no cut. Only a call
+ * that certifies writes word and certificate, the latter 4 + 10q bytes with q the cuts of the last round, in
  * check order, scale 1; what is past them stays. 0 rounds change nothing.
+ *
+ * A bit's sum is that of copy less offset over its edges; a round adds it to the bit's frame number. Each
+ * call, also one for 0 rounds, compares the first n sums with copies and offsets before its rounds.
  *
  * Refusals: the code's, FRAME_LENGTH, FRAME_RANGE, ASKED_TOO_MUCH (wanted), BUFFER_SHORT, RUN_ENDED,
  * RUN_DAMAGED. A refused call gives `run` back as handed in and changes no buffer. */
@@ -202,6 +207,7 @@ JugnayapCalled jugnayap_rounds(const uint8_t *code, size_t code_len,
                                int32_t *spins, size_t spins_len,
                                int32_t *copies, size_t copies_len,
                                int32_t *offsets, size_t offsets_len,
+                               int32_t *sums, size_t sums_len,
                                uint32_t *multipliers, size_t multipliers_len,
                                uint32_t *masks, size_t masks_len,
                                uint8_t *word, size_t word_len,

@@ -12,6 +12,7 @@
     buffer(int32_t, spins, BITS, 10000000) \
     buffer(int32_t, copies, EDGES, 20000000) \
     buffer(int32_t, offsets, EDGES, 30000000) \
+    buffer(int32_t, sums, BITS, 60000000) \
     buffer(uint32_t, multipliers, CHECKS, 40000000) \
     buffer(uint32_t, masks, CHECKS, 50000000) \
     buffer(uint8_t, word, BITS, 100) \

@@ -10,6 +10,12 @@ pub trait Decoder: Sync {
     fn search_cut(&self, code: &[u8], spins: &[i32], check: usize) -> Result<Option<u32>, Refusal>;
     fn judge(&self, code: &[u8], frame: &[i16], word: &[u8], certificate: &[u8]) -> Result<Verdict, Refusal>;
     fn agreement(&self, code: &[u8], frame: &[i16], word: &[u8]) -> Result<i64, Refusal>;
-    fn start(&self, code: &[u8], copies: &mut [i32], offsets: &mut [i32]) -> Result<Record, Refusal>;
+    fn start(
+        &self,
+        code: &[u8],
+        copies: &mut [i32],
+        offsets: &mut [i32],
+        sums: &mut [i32],
+    ) -> Result<Record, Refusal>;
     fn rounds(&self, code: &[u8], frame: &[i16], record: Record, wanted: u32, lent: Buffers) -> Called;
 }

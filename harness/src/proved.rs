@@ -26,8 +26,14 @@ impl Decoder for Proved {
         calls::agreement(code, frame, word)
     }
 
-    fn start(&self, code: &[u8], copies: &mut [i32], offsets: &mut [i32]) -> Result<Record, Refusal> {
-        calls::start(code, copies, offsets)
+    fn start(
+        &self,
+        code: &[u8],
+        copies: &mut [i32],
+        offsets: &mut [i32],
+        sums: &mut [i32],
+    ) -> Result<Record, Refusal> {
+        calls::start(code, copies, offsets, sums)
     }
 
     fn rounds(&self, code: &[u8], frame: &[i16], record: Record, wanted: u32, lent: Buffers) -> Called {

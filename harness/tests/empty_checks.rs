@@ -62,6 +62,7 @@ impl Pair {
         assert_eq!(narrow.spins.lent()[..bits], wide.spins.lent()[..bits]);
         assert_eq!(narrow.copies.lent()[..edges], wide.copies.lent()[..edges]);
         assert_eq!(narrow.offsets.lent()[..edges], wide.offsets.lent()[..edges]);
+        assert_eq!(narrow.sums.lent()[..bits], wide.sums.lent()[..bits]);
         let numbered = |lent: &[u32]| lent[..self.own.len() + self.empty.len()].to_vec();
         assert_eq!(self.spread(&narrow.multipliers.lent()[..checks]), numbered(wide.multipliers.lent()));
         assert_eq!(self.spread(&narrow.masks.lent()[..checks]), numbered(wide.masks.lent()));
@@ -85,15 +86,16 @@ fn same_run(
 ) -> (Record, State) {
     let shapes = [&pair.code, &pair.wider].map(|code| Shape::of(code).unwrap());
     let [mut narrow, mut wide] = shapes.map(|shape| State::random(rng, &shape));
-    narrow.half_done(rng, &shapes[0], done);
-    let edges = shapes[0].edges;
+    narrow.half_done(rng, &Table::parse(&pair.code).unwrap(), done);
+    let (bits, edges) = (shapes[0].bits, shapes[0].edges);
     wide.copies.lent_mut()[..edges].copy_from_slice(&narrow.copies.lent()[..edges]);
     wide.offsets.lent_mut()[..edges].copy_from_slice(&narrow.offsets.lent()[..edges]);
+    wide.sums.lent_mut()[..bits].copy_from_slice(&narrow.sums.lent()[..bits]);
     let mut record = Record { rounds: done, status: Record::RUNNING };
     for (code, state) in [(&pair.code, &mut narrow), (&pair.wider, &mut wide)] {
         let lent = state.lend_all();
         if done == 0 {
-            assert_eq!(decoder.start(code, lent.copies, lent.offsets), Ok(Record::FRESH));
+            assert_eq!(decoder.start(code, lent.copies, lent.offsets, lent.sums), Ok(Record::FRESH));
         }
     }
     for &wanted in calls {
@@ -242,7 +244,7 @@ fn all_but_one() {
         for decoder in ALL {
             let mut state = State::random(&mut Rng::new(7), &Shape::of(&code).unwrap());
             let lent = state.lend_all();
-            let record = decoder.start(&code, lent.copies, lent.offsets).unwrap();
+            let record = decoder.start(&code, lent.copies, lent.offsets, lent.sums).unwrap();
             let called = decoder.rounds(&code, &[4000, 4000, -2000], record, 1_024, state.lend_all());
             assert_eq!(called.record, Record { rounds: 3, status: Record::CERTIFIED });
             let alone = |number: u32| (0..=before + after).map(move |k| if k == before { number } else { 0 });

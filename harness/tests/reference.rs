@@ -14,7 +14,7 @@ fn fresh(code: &[u8]) -> State {
 fn after(decoder: &dyn Decoder, code: &[u8], frame: &[i16], rounds: u32) -> (Record, State) {
     let mut state = fresh(code);
     let lent = state.lend_all();
-    let mut record = decoder.start(code, lent.copies, lent.offsets).unwrap();
+    let mut record = decoder.start(code, lent.copies, lent.offsets, lent.sums).unwrap();
     for _ in 0..rounds {
         let called = decoder.rounds(code, frame, record, 1, state.lend_all());
         assert_eq!(called.refusal, None);
@@ -32,9 +32,11 @@ fn three_bit_frame() {
         assert_eq!(state.spins.lent(), [4000, 4000, -2000]);
         assert_eq!(state.multipliers.lent(), [1968]);
         assert_eq!(state.copies.lent(), [2032, 2032, -32]);
+        assert_eq!(state.sums.lent(), [64, 64, 1936]);
         let (_, state) = after(decoder, &code, &frame, 2);
         assert_eq!(state.multipliers.lent(), [3334]);
         assert_eq!(state.copies.lent(), [2698, 2698, 1302]);
+        assert_eq!(state.sums.lent(), [-636, -636, 4636]);
         let (record, state) = after(decoder, &code, &frame, 3);
         assert_eq!(record, Record { rounds: 3, status: Record::CERTIFIED });
         assert_eq!(state.spins.lent(), [3364, 3364, 2636]);
@@ -123,6 +125,7 @@ fn greatest_multiplier() {
         let mut state = fresh(&code);
         state.copies.lent_mut().copy_from_slice(&[-UNIT, -UNIT, -UNIT]);
         state.offsets.lent_mut().copy_from_slice(&[-far, far, far]);
+        state.sums.lent_mut()[0] = -3 * UNIT - far;
         let record = Record { rounds: 1_023, status: Record::RUNNING };
         let called = decoder.rounds(&code, &[0], record, 1, state.lend_all());
         assert_eq!(called, Called::done(Record { rounds: 1_024, status: Record::SPENT }));

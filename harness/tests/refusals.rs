@@ -3,6 +3,7 @@
 use harness::decoder::{Called, Record, Refusal, Sizes, Verdict};
 use harness::gen::code::{bytes_of, three_bits};
 use harness::gen::state::{Lengths, Shape, State};
+use harness::independent::table::Table;
 use harness::ALL;
 
 fn set(code: &[u8], place: usize, value: u16) -> Vec<u8> {
@@ -190,8 +191,16 @@ fn full_mask() {
     }
 }
 
-/// A call on three bits; `change` edits record, wanted and buffers before it.
+/// A call on three bits; `change` edits record, wanted and buffers before it. The sums are true.
 fn call(number: u32, change: impl Fn(&mut Record, &mut u32, &mut State, &mut Lengths)) {
+    call_as_is(number, |record, wanted, state, lengths| {
+        change(record, wanted, state, lengths);
+        state.set_sums(&Table::parse(&three_bits()).unwrap());
+    });
+}
+
+/// The same, but the sums are 0 if `change` does not edit them.
+fn call_as_is(number: u32, change: impl Fn(&mut Record, &mut u32, &mut State, &mut Lengths)) {
     for decoder in ALL {
         let mut state = State::zeroed(&Shape::of(&three_bits()).unwrap());
         let (mut record, mut wanted) = (Record::FRESH, 1);
@@ -247,15 +256,81 @@ fn calls_in_order() {
         *record = Record { rounds: 5000, status: Record::CERTIFIED };
         state.copies.lent_mut()[0] = i32::MIN;
     });
+    // With a wrong sum too.
+    let wrong_sum = |state: &mut State| state.sums.lent_mut()[1] = 1;
+    call_as_is(17, |_, wanted, state, _| {
+        *wanted = 1025;
+        wrong_sum(state);
+    });
+    call_as_is(41, |_, _, state, lengths| {
+        lengths[0] = 0;
+        wrong_sum(state);
+    });
+    for status in [Record::CERTIFIED, Record::SPENT] {
+        call_as_is(42, |record, _, state, _| {
+            record.status = status;
+            wrong_sum(state);
+        });
+    }
+}
+
+/// A half-done run whose sums are 40, 40 and 20.
+#[test]
+fn sums() {
+    let half_done = |record: &mut Record, state: &mut State, sums: [i32; 3]| {
+        record.rounds = 1;
+        state.copies.lent_mut().copy_from_slice(&[40, 30, 0]);
+        state.offsets.lent_mut().copy_from_slice(&[0, -10, -20]);
+        state.sums.lent_mut().copy_from_slice(&sums);
+    };
+    for rounds in [0, 1, 1024] {
+        let sums = |number: u32, sums: [i32; 3]| {
+            call_as_is(number, |record, wanted, state, _| {
+                *wanted = rounds;
+                half_done(record, state, sums);
+            });
+        };
+        sums(0, [40, 40, 20]);
+        for (bit, true_sum) in [40, 40, 20].into_iter().enumerate() {
+            for wrong in [true_sum - 1, true_sum + 1, -true_sum, 0, i32::MIN, i32::MAX, true_sum + (1 << 16)]
+            {
+                let mut wrong_sums = [40, 40, 20];
+                wrong_sums[bit] = wrong;
+                sums(43, wrong_sums);
+            }
+        }
+        sums(43, [41, 39, 20]);
+        sums(43, [20, 40, 40]);
+    }
 }
 
 #[test]
 fn starts() {
     for decoder in ALL {
-        let (mut copies, mut offsets) = ([7; 4], [7; 4]);
-        let start = decoder.start(&three_bits(), &mut copies[..2], &mut offsets);
-        assert_eq!((start, copies, offsets), (Err(Refusal::BUFFER), [7; 4], [7; 4]));
-        let start = decoder.start(&three_bits(), &mut copies, &mut offsets);
-        assert_eq!((start, copies, offsets), (Ok(Record::FRESH), [0, 0, 0, 7], [0, 0, 0, 7]));
+        let (mut copies, mut offsets, mut sums) = ([7; 4], [7; 4], [7; 4]);
+        for [z, y, s] in [[2, 3, 3], [4, 2, 4], [3, 4, 2], [0, 0, 0]] {
+            let start = decoder.start(&three_bits(), &mut copies[..z], &mut offsets[..y], &mut sums[..s]);
+            assert_eq!((start, copies, offsets, sums), (Err(Refusal::BUFFER), [7; 4], [7; 4], [7; 4]));
+        }
+        let start = decoder.start(&three_bits(), &mut copies, &mut offsets, &mut sums);
+        let zeroed = [0, 0, 0, 7];
+        assert_eq!((start, copies, offsets, sums), (Ok(Record::FRESH), zeroed, zeroed, zeroed));
+    }
+}
+
+/// Three bits and four edges: other lengths of copies and offsets than of sums.
+#[test]
+fn starts_of_other_lengths() {
+    for decoder in ALL {
+        let (mut copies, mut offsets, mut sums) = ([7; 5], [7; 5], [7; 4]);
+        let mut start = |z, y, s| {
+            let answer = decoder.start(&chain(), &mut copies[..z], &mut offsets[..y], &mut sums[..s]);
+            (answer, copies, offsets, sums)
+        };
+        for [z, y, s] in [[3, 5, 4], [5, 3, 4], [5, 5, 2]] {
+            assert_eq!(start(z, y, s), (Err(Refusal::BUFFER), [7; 5], [7; 5], [7; 4]));
+        }
+        let zeroed = [0, 0, 0, 0, 7];
+        assert_eq!(start(4, 4, 3), (Ok(Record::FRESH), zeroed, zeroed, [0, 0, 0, 7]));
     }
 }

@@ -21,7 +21,7 @@ fn each(series: u64, cases: u64) -> impl Iterator<Item = (&'static dyn Decoder, 
 fn run(decoder: &dyn Decoder, code: &[u8], frame: &[i16], calls: &[u32]) -> Vec<(Record, State)> {
     let mut state = State::zeroed(&Shape::of(code).unwrap());
     let lent = state.lend_all();
-    let mut record = decoder.start(code, lent.copies, lent.offsets).unwrap();
+    let mut record = decoder.start(code, lent.copies, lent.offsets, lent.sums).unwrap();
     let call = |&wanted: &u32| {
         record = decoder.rounds(code, frame, record, wanted, state.lend_all()).record;
         (record, state.clone())
@@ -39,6 +39,7 @@ fn spins(decoder: &dyn Decoder, degree: usize, totals: &[i32]) -> Vec<i32> {
     for (bit, total) in totals.iter().enumerate() {
         // The bit's edge in the first check of its block.
         state.offsets.lent_mut()[bit / 32 * 32 * degree + bit % 32] = -total;
+        state.sums.lent_mut()[bit] = *total;
     }
     // So many rounds that 43 allows the offsets.
     let record = Record { rounds: 20, status: Record::RUNNING };
@@ -108,8 +109,10 @@ fn one_over_three_never_moves() {
 
 /// Turns what a call has left into what it must leave if the frame is negated by a codeword.
 fn negate(table: &Table, codeword: &[u8], record: Record, state: &mut State) {
-    let spins = state.spins.lent_mut().iter_mut();
-    spins.zip(codeword).for_each(|(spin, &bit)| *spin *= side(bit));
+    for numbers in [state.spins.lent_mut(), state.sums.lent_mut()] {
+        let bits = numbers.iter_mut().zip(codeword);
+        bits.for_each(|(number, &bit)| *number *= side(bit));
+    }
     for numbers in [state.copies.lent_mut(), state.offsets.lent_mut()] {
         let edges = numbers.iter_mut().zip(&table.members);
         edges.for_each(|(number, &member)| *number *= side(codeword[usize::from(member)]));

@@ -80,6 +80,7 @@ macro_rules! each_buffer {
             spins: i32, bits;
             copies: i32, edges;
             offsets: i32, edges;
+            sums: i32, bits;
             multipliers: u32, checks;
             masks: u32, checks;
             word: u8, bits;
@@ -95,7 +96,9 @@ macro_rules! lent {
         /// `checks` and `edges` are the code's and `certificate` is 4 + 10 × `checks`.
         ///
         /// A call that does a round leaves what the last one has: each bit's spin, each edge's copy and
-        /// offset, each check's multiplier and mask. One that certifies also writes word and certificate.
+        /// offset, each bit's sum of copies less offsets over its edges, each check's multiplier and mask. One
+        /// that certifies also writes word and certificate. The sums are compared with copies and offsets on
+        /// entry.
         #[derive(Debug)]
         pub struct Buffers<'a> {
             $(
@@ -181,8 +184,13 @@ pub fn agreement(code: &[u8], frame: &[i16], word: &[u8]) -> Result<i64, Refusal
     answer(raw.number, raw.agreement == 0, raw.agreement)
 }
 
-/// Starts a run: zeroes the first E copies and offsets. Refusals: 1 to 7, 41.
-pub fn start(code: &[u8], copies: &mut [i32], offsets: &mut [i32]) -> Result<Record, Refusal> {
+/// Starts a run: zeroes the first E copies and offsets and the first n sums. Refusals: 1 to 7, 41.
+pub fn start(
+    code: &[u8],
+    copies: &mut [i32],
+    offsets: &mut [i32],
+    sums: &mut [i32],
+) -> Result<Record, Refusal> {
     let raw = unsafe {
         ffi::jugnayap_start(
             code.as_ptr(),
@@ -191,6 +199,8 @@ pub fn start(code: &[u8], copies: &mut [i32], offsets: &mut [i32]) -> Result<Rec
             copies.len(),
             offsets.as_mut_ptr(),
             offsets.len(),
+            sums.as_mut_ptr(),
+            sums.len(),
         )
     };
     answer(raw.number, raw.run == Record { rounds: 0, status: 0 }, raw.run)

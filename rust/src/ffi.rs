@@ -70,6 +70,8 @@ extern "C" {
         copies_len: usize,
         offsets: *mut i32,
         offsets_len: usize,
+        sums: *mut i32,
+        sums_len: usize,
     ) -> Called;
 }
 

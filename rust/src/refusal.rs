@@ -49,7 +49,7 @@ refusals! {
     REQUEST = 17, "no such check, or more than 1024 rounds wanted";
     BUFFER = 41, "a lent buffer too short";
     ENDED = 42, "run already certified or spent";
-    STATE = 43, "record, copies or offsets that no run leaves";
+    STATE = 43, "record, copies, offsets or sums that no run leaves";
 }
 
 impl fmt::Debug for Refusal {

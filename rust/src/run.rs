@@ -100,9 +100,9 @@ impl<'c> Run<'c> {
     /// Starts again, in the same buffers.
     pub fn restart(&mut self) {
         self.buffers.clear();
-        let Owned { copies, offsets, .. } = &mut self.buffers;
+        let Owned { copies, offsets, sums, .. } = &mut self.buffers;
         self.record =
-            calls::start(self.code.file(), copies, offsets).expect("an accepted code, and its lengths");
+            calls::start(self.code.file(), copies, offsets, sums).expect("an accepted code, and its lengths");
     }
 
     /// Does the rounds wanted, 0 to 1,024, or fewer if the run ends. Refusals: 8, 9, 17, 42.
@@ -151,6 +151,11 @@ impl<'c> Run<'c> {
     /// Each edge's offset, in the order of the code file's bodies.
     pub fn offsets(&self) -> &[i32] {
         &self.buffers.offsets
+    }
+
+    /// Each bit's sum of copies less offsets over its edges, which the next round adds to its frame number.
+    pub fn sums(&self) -> &[i32] {
+        &self.buffers.sums
     }
 
     /// Each check's multiplier, 0 for no cut.

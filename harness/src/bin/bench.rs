@@ -71,6 +71,27 @@ impl Bench {
         work
     }
 
+    /// Runs that have done so many rounds and go on.
+    fn half_done(&self, rounds: u32) -> Vec<(&[i16], Record, State)> {
+        let run = |frame| {
+            let (_, record, state) = self.run(&Independent, frame, rounds);
+            (frame, record, state)
+        };
+        let runs = self.frames.iter().map(|frame| run(&frame[..]));
+        runs.filter(|(_, record, _)| record.status == Record::RUNNING).collect()
+    }
+
+    /// Nanoseconds of a call for no round on each: all that a call does before its rounds, with the comparison
+    /// of sums.
+    fn enter_all(&self, decoder: &dyn Decoder, half_done: &mut [(&[i16], Record, State)]) -> f64 {
+        let begun = cpu_nanoseconds();
+        for (frame, record, state) in half_done {
+            let called = decoder.rounds(&self.code, frame, *record, 0, state.lend_all());
+            assert_eq!(called.refusal, None);
+        }
+        cpu_nanoseconds() - begun
+    }
+
     /// Nanoseconds of judging the certificates of all certified frames.
     fn judge_all(&self, decoder: &dyn Decoder, certified: &[(&[i16], State)]) -> f64 {
         let begun = cpu_nanoseconds();
@@ -120,6 +141,10 @@ fn rounds_and_frames(bench: &Bench) {
     let edges = bench.shape.edges as f64;
     let frames = bench.frames.len() as f64;
     heading("microseconds");
+    let mut half_done = bench.half_done(10);
+    let runs = half_done.len() as f64;
+    let enter = medians(|decoder| bench.enter_all(decoder, &mut half_done) / runs / 1e3);
+    line("call for 0 rounds, on a half-done run", enter);
     let all = |wanted: u32| medians(|decoder| bench.run_all(decoder, wanted).nanoseconds / frames / 1e3);
     let calls = [1, 10, 30].map(all);
     line("call for 1 round", calls[0]);

@@ -52,7 +52,7 @@ struct Side<'a> {
 impl Side<'_> {
     fn start(&mut self, run: &Run, lengths: &Lengths) -> Answer {
         let lent = self.state.lend(lengths);
-        let answer = self.decoder.start(&run.code, lent.copies, lent.offsets);
+        let answer = self.decoder.start(&run.code, lent.copies, lent.offsets, lent.sums);
         self.record = answer.unwrap_or(self.record);
         Answer::Start(answer)
     }

@@ -149,9 +149,9 @@ fn half_done(rng: &mut Rng, code: Vec<u8>, table: &Table) -> Run {
     let any = rng.below(ROUND_LIMIT as usize) as u32;
     let rounds = rng.pick(&[0, 1, 3, any, any, ROUND_LIMIT - 4, ROUND_LIMIT - 1]);
     let mut record = Record { rounds, status: Record::RUNNING };
-    state.half_done(rng, shape, rounds);
+    state.half_done(rng, table, rounds);
     for _ in 0..rng.pick(&[0, 0, 0, 1, 1, 2]) {
-        state.overstep(rng, shape, &mut record);
+        state.overstep(rng, table, &mut record);
     }
     let calls = calls(rng, shape, &state);
     Run { code, frame, record, state, start: None, calls }

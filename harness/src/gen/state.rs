@@ -114,32 +114,77 @@ impl State {
         self.lend(&lengths)
     }
 
-    /// Copies and offsets as a run of so many rounds may leave them.
-    pub fn half_done(&mut self, rng: &mut Rng, shape: &Shape, rounds: u32) {
+    /// Each bit's sum of copies less offsets, which wraps round where these are beyond their limits.
+    pub fn true_sums(&self, table: &Table) -> Vec<i32> {
+        let mut sums = vec![0i32; table.bits];
+        let edges = self.copies.lent().iter().zip(self.offsets.lent());
+        for (&member, (&copy, &offset)) in table.members.iter().zip(edges) {
+            let sum = &mut sums[usize::from(member)];
+            *sum = sum.wrapping_add(copy).wrapping_sub(offset);
+        }
+        sums
+    }
+
+    pub fn set_sums(&mut self, table: &Table) {
+        let sums = self.true_sums(table);
+        self.sums.lent_mut()[..table.bits].copy_from_slice(&sums);
+    }
+
+    /// Copies, offsets and sums as a run of so many rounds may leave them.
+    pub fn half_done(&mut self, rng: &mut Rng, table: &Table, rounds: u32) {
         let limit = OFFSET_STEP * rounds.min(ROUND_LIMIT) as i32;
         let reach = rng.pick(&[limit.min(300), limit.min(3 * UNIT), limit]);
         let edgy = rng.one_in(3);
-        for edge in 0..shape.edges {
+        for edge in 0..table.edges() {
             let extreme = edgy && rng.one_in(2);
             self.copies.lent_mut()[edge] = if extreme { rng.pick(&[-UNIT, UNIT]) } else { rng.signed(UNIT) };
             self.offsets.lent_mut()[edge] =
                 if extreme { rng.pick(&[-limit, limit]) } else { rng.signed(reach) };
         }
+        self.set_sums(table);
     }
 
-    /// One thing beyond the limits of a half-done run (43), or something that only looks like it.
-    pub fn overstep(&mut self, rng: &mut Rng, shape: &Shape, record: &mut Record) {
-        let limit = OFFSET_STEP * record.rounds.min(ROUND_LIMIT) as i32;
-        let edge = rng.below(shape.edges);
-        match rng.below(8) {
+    /// One thing that no run leaves (42, 43), or something that only looks like it.
+    pub fn overstep(&mut self, rng: &mut Rng, table: &Table, record: &mut Record) {
+        match rng.below(12) {
+            0..=3 => self.overstep_edge(rng, table, record.rounds),
+            4 => record.rounds = rng.pick(&[ROUND_LIMIT, ROUND_LIMIT + 1, u32::MAX, 1 << 19, 1 << 31]),
+            5 => record.status = Record::CERTIFIED,
+            6 => record.status = Record::SPENT,
+            7 => record.status = rng.pick(&[3, 4, 256, u32::MAX]),
+            _ => self.spoil_sums(rng, table.bits),
+        }
+    }
+
+    /// A copy or an offset beyond its limit, or one past the edges. The sums are made true, so that they don't
+    /// tell.
+    fn overstep_edge(&mut self, rng: &mut Rng, table: &Table, rounds: u32) {
+        let limit = OFFSET_STEP * rounds.min(ROUND_LIMIT) as i32;
+        let edge = rng.below(table.edges());
+        match rng.below(4) {
             0 => self.copies.lent_mut()[edge] = rng.pick(&[-UNIT - 1, UNIT + 1, i32::MIN, i32::MAX]),
             1 => self.offsets.lent_mut()[edge] = rng.pick(&[-limit - 1, limit + 1, i32::MIN, i32::MAX]),
-            2 => record.rounds = rng.pick(&[ROUND_LIMIT, ROUND_LIMIT + 1, u32::MAX, 1 << 19, 1 << 31]),
-            3 => record.status = Record::CERTIFIED,
-            4 => record.status = Record::SPENT,
-            5 => record.status = rng.pick(&[3, 4, 256, u32::MAX]),
-            6 => self.copies.lent_mut().last_mut().into_iter().for_each(|last| *last = i32::MAX),
+            2 => self.copies.lent_mut().last_mut().into_iter().for_each(|last| *last = i32::MAX),
             _ => self.offsets.lent_mut().last_mut().into_iter().for_each(|last| *last = i32::MIN),
+        }
+        self.set_sums(table);
+    }
+
+    /// A sum that isn't true, or two whose errors cancel, or anything past the bits, which must not matter.
+    pub fn spoil_sums(&mut self, rng: &mut Rng, bits: usize) {
+        let (bit, other) = (rng.below(bits), rng.below(bits));
+        let (power, any) = (1 << rng.below(32), rng.draw() as i32);
+        let off = rng.pick(&[1, 1, -1, -1, power, any]);
+        let sums = self.sums.lent_mut();
+        match rng.below(6) {
+            0..=1 => sums[bit] = sums[bit].wrapping_add(off),
+            2 => sums[bit] = rng.pick(&[0, i32::MIN, i32::MAX]),
+            3 => {
+                sums[bit] = sums[bit].wrapping_add(off);
+                sums[other] = sums[other].wrapping_sub(off);
+            }
+            4 => sums.swap(bit, other),
+            _ => sums[bits..].fill(rng.pick(&[0, 1, i32::MIN, i32::MAX])),
         }
     }
 }

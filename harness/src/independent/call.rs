@@ -1,20 +1,27 @@
 //! A run's start and its calls for rounds: what is refused (17, 41, 42, 43), and in which order.
 
 use super::input::test_frame;
-use super::limits::{certificate_length, OFFSET_STEP, ROUND_LIMIT, UNIT};
-use super::table::Table;
+use super::limits::{certificate_length, OFFSET_STEP, ROUND_LIMIT, SIZE_LIMIT, UNIT};
+use super::table::{place, Table};
 use crate::decoder::{Buffers, Called, Record, Refusal};
 
 /// Does rounds on an admitted call and answers the new record.
 pub type Rounds = fn(&Table, &[i16], Record, u32, Buffers) -> Record;
 
-pub fn start(code: &[u8], copies: &mut [i32], offsets: &mut [i32]) -> Result<Record, Refusal> {
-    let edges = Table::parse(code)?.edges();
-    if copies.len() < edges || offsets.len() < edges {
+pub fn start(
+    code: &[u8],
+    copies: &mut [i32],
+    offsets: &mut [i32],
+    sums: &mut [i32],
+) -> Result<Record, Refusal> {
+    let table = Table::parse(code)?;
+    let (bits, edges) = (table.bits, table.edges());
+    if copies.len() < edges || offsets.len() < edges || sums.len() < bits {
         return Err(Refusal::BUFFER);
     }
     copies[..edges].fill(0);
     offsets[..edges].fill(0);
+    sums[..bits].fill(0);
     Ok(Record::FRESH)
 }
 
@@ -37,7 +44,10 @@ fn admit(code: &[u8], frame: &[i16], record: Record, wanted: u32, lent: &Buffers
     if record.status == Record::CERTIFIED || record.status == Record::SPENT {
         return Err(Refusal::ENDED);
     }
-    if record.status != Record::RUNNING || record.rounds >= ROUND_LIMIT || !in_limits(&table, record, lent) {
+    if record.status != Record::RUNNING || record.rounds >= ROUND_LIMIT {
+        return Err(Refusal::STATE);
+    }
+    if !in_limits(&table, record, lent) || !sums_true(&table, lent) {
         return Err(Refusal::STATE);
     }
     Ok(table)
@@ -48,6 +58,7 @@ fn long_enough(table: &Table, lent: &Buffers) -> bool {
     lent.spins.len() >= bits
         && lent.copies.len() >= edges
         && lent.offsets.len() >= edges
+        && lent.sums.len() >= bits
         && lent.multipliers.len() >= checks
         && lent.masks.len() >= checks
         && lent.word.len() >= bits
@@ -63,6 +74,15 @@ fn in_limits(table: &Table, record: Record, lent: &Buffers) -> bool {
     within(lent.copies, UNIT) && within(lent.offsets, OFFSET_STEP * record.rounds as i32)
 }
 
+/// Whether each sum is that of z − y over its bit's edges. In their limits these leave no sum beyond 32 bits.
+fn sums_true(table: &Table, lent: &Buffers) -> bool {
+    let mut sums = [0; SIZE_LIMIT];
+    for ((&member, z), y) in table.members.iter().zip(&*lent.copies).zip(&*lent.offsets) {
+        sums[place(member)] += z - y;
+    }
+    sums[..table.bits] == lent.sums[..table.bits]
+}
+
 /// The first parts that a call may write; but the certificate's length is known only at the end.
 fn exact<'a>(table: &Table, lent: Buffers<'a>) -> Buffers<'a> {
     let (bits, checks, edges) = (table.bits, table.checks(), table.edges());
@@ -70,6 +90,7 @@ fn exact<'a>(table: &Table, lent: Buffers<'a>) -> Buffers<'a> {
         spins: &mut lent.spins[..bits],
         copies: &mut lent.copies[..edges],
         offsets: &mut lent.offsets[..edges],
+        sums: &mut lent.sums[..bits],
         multipliers: &mut lent.multipliers[..checks],
         masks: &mut lent.masks[..checks],
         word: &mut lent.word[..bits],

@@ -1,5 +1,5 @@
 //! The rounds as a receiver would run them. The pass over the checks looks at each edge, finds cut and
-//! multiplier of the check in one, and stores the edge, adding it to its bit's total of the next round.
+//! multiplier of the check in one, and stores the edge, adding it to its bit's sum for the next round.
 
 use super::certificate::{bound, cuts, write};
 use super::input::agreement;
@@ -26,8 +26,8 @@ pub fn spin_size(total: i32, reciprocal: u32) -> i32 {
 
 /// Per-bit state. Full-sized, so that a masked member needs no bounds check.
 struct Bits {
-    /// Frame number plus z − y over the bit's edges, gathered for the next round.
-    totals: [i32; SIZE_LIMIT],
+    /// z − y over the bit's edges: the lent sums, and then those gathered for the next round.
+    sums: [i32; SIZE_LIMIT],
     spins: [i32; SIZE_LIMIT],
     reciprocals: [u32; SIZE_LIMIT],
 }
@@ -51,7 +51,7 @@ pub fn run(table: &Table, frame: &[i16], mut record: Record, wanted: u32, mut le
         return record;
     }
     let last = ROUND_LIMIT.min(record.rounds + wanted);
-    let mut bits = Bits::new(table, frame, lent.copies, lent.offsets);
+    let mut bits = Bits::new(table, lent.sums);
     while record.status == Record::RUNNING && record.rounds < last {
         let no_zero = bits.take_spins(frame);
         let met = pass(table, &mut bits, &mut lent);
@@ -63,35 +63,32 @@ pub fn run(table: &Table, frame: &[i16], mut record: Record, wanted: u32, mut le
         }
     }
     lent.spins.copy_from_slice(&bits.spins[..table.bits]);
+    lent.sums.copy_from_slice(&bits.sums[..table.bits]);
     record
 }
 
 impl Bits {
-    fn new(table: &Table, frame: &[i16], copies: &[i32], offsets: &[i32]) -> Bits {
+    fn new(table: &Table, sums: &[i32]) -> Bits {
         let zero = [0; SIZE_LIMIT];
-        let mut bits = Bits { totals: zero, spins: zero, reciprocals: [0; SIZE_LIMIT] };
+        let mut bits = Bits { sums: zero, spins: zero, reciprocals: [0; SIZE_LIMIT] };
         for (reciprocal, &degree) in bits.reciprocals.iter_mut().zip(&table.degrees) {
             *reciprocal = reciprocal_of(degree);
         }
-        for (total, &l) in bits.totals.iter_mut().zip(frame) {
-            *total = i32::from(l);
-        }
-        for ((&member, z), y) in table.members.iter().zip(copies).zip(offsets) {
-            bits.totals[place(member)] += z - y;
-        }
+        bits.sums[..table.bits].copy_from_slice(sums);
         bits
     }
 
-    /// Turns totals into spins, and begins the next totals. Answers whether no spin is 0.
+    /// Turns totals into spins, and begins the next sums. Answers whether no spin is 0.
     fn take_spins(&mut self, frame: &[i16]) -> bool {
         let mut no_zero = true;
-        let bits = self.totals.iter_mut().zip(&mut self.spins).zip(&self.reciprocals).zip(frame);
-        for (((total, spin), &reciprocal), &l) in bits {
-            let size = spin_size(*total, reciprocal);
-            let side = *total >> 31;
+        let bits = self.sums.iter_mut().zip(&mut self.spins).zip(&self.reciprocals).zip(frame);
+        for (((sum, spin), &reciprocal), &l) in bits {
+            let total = i32::from(l) + *sum;
+            let size = spin_size(total, reciprocal);
+            let side = total >> 31;
             *spin = (size ^ side) - side;
             no_zero &= size != 0;
-            *total = i32::from(l);
+            *sum = 0;
         }
         no_zero
     }
@@ -201,7 +198,7 @@ impl<const D: usize> Seen<D> {
 }
 
 /// Moves each value toward 0 by b, the turned one away from it, and clips; stores copies, offsets and
-/// totals.
+/// sums.
 #[inline(always)]
 fn move_copies<const D: usize>(
     bits: &mut Bits,
@@ -220,7 +217,7 @@ fn move_copies<const D: usize>(
         let z = (outward ^ side) - side;
         copies[k] = z;
         offsets[k] = v - z;
-        bits.totals[place(members[k])] += 2 * z - v;
+        bits.sums[place(members[k])] += 2 * z - v;
     }
 }
 

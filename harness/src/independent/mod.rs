@@ -50,8 +50,14 @@ macro_rules! decoder {
                 input::agreement_of(code, frame, word)
             }
 
-            fn start(&self, code: &[u8], copies: &mut [i32], offsets: &mut [i32]) -> Result<Record, Refusal> {
-                call::start(code, copies, offsets)
+            fn start(
+                &self,
+                code: &[u8],
+                copies: &mut [i32],
+                offsets: &mut [i32],
+                sums: &mut [i32],
+            ) -> Result<Record, Refusal> {
+                call::start(code, copies, offsets, sums)
             }
 
             fn rounds(

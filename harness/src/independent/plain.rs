@@ -25,10 +25,11 @@ pub fn run(table: &Table, frame: &[i16], mut record: Record, wanted: u32, mut le
 
 /// One round; answers whether it certifies, and then has written word and certificate.
 fn round(table: &Table, frame: &[i16], lent: &mut Buffers) -> bool {
-    lent.spins.copy_from_slice(&spins(table, frame, lent.copies, lent.offsets));
+    lent.spins.copy_from_slice(&spins(table, frame, lent.sums));
     for check in 0..table.checks() {
         relax(table, check, lent);
     }
+    lent.sums.copy_from_slice(&sums(table, lent.copies, lent.offsets));
     let Some(word) = candidate(table, lent.spins) else {
         return false;
     };
@@ -45,13 +46,18 @@ fn clip(value: i32) -> i32 {
     value.clamp(-UNIT, UNIT)
 }
 
-fn spins(table: &Table, frame: &[i16], copies: &[i32], offsets: &[i32]) -> Vec<i32> {
-    let mut totals: Vec<i32> = frame.iter().map(|&l| i32::from(l)).collect();
+fn spins(table: &Table, frame: &[i16], sums: &[i32]) -> Vec<i32> {
+    let totals = frame.iter().zip(sums).map(|(&l, sum)| i32::from(l) + sum);
+    totals.zip(&table.degrees).map(|(total, &degree)| clip(nearest(total, i32::from(degree)))).collect()
+}
+
+/// Each bit's sum of z − y over its edges.
+fn sums(table: &Table, copies: &[i32], offsets: &[i32]) -> Vec<i32> {
+    let mut sums = vec![0; table.bits];
     for (edge, &member) in table.members.iter().enumerate() {
-        totals[usize::from(member)] += copies[edge] - offsets[edge];
+        sums[usize::from(member)] += copies[edge] - offsets[edge];
     }
-    let bits = totals.into_iter().zip(&table.degrees);
-    bits.map(|(total, &degree)| clip(nearest(total, i32::from(degree)))).collect()
+    sums
 }
 
 /// A total over its bit's degree: the nearest whole number, of two the one away from zero.

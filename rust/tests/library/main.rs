@@ -2,6 +2,7 @@
 
 mod alist;
 mod alist_refused;
+mod calls;
 mod certificate;
 mod code;
 mod gen;

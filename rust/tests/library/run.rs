@@ -10,10 +10,10 @@ fn ring() -> Code {
 }
 
 /// All that a run shows.
-type View<'r> = (u32, [&'r [i32]; 3], [&'r [u32]; 2]);
+type View<'r> = (u32, [&'r [i32]; 4], [&'r [u32]; 2]);
 
 fn view<'r>(run: &'r Run) -> View<'r> {
-    let edges_and_bits = [run.spins(), run.copies(), run.offsets()];
+    let edges_and_bits = [run.spins(), run.copies(), run.offsets(), run.sums()];
     (run.rounds_done(), edges_and_bits, [run.multipliers(), run.masks()])
 }
 
@@ -24,7 +24,7 @@ fn shows_what_a_round_leaves() {
     let mut run = Run::start(&code);
     run.rounds(&[4000, 4000, -2000], 1).unwrap();
     let (spins, copies, offsets) = ([4000, 4000, -2000], [2032, 2032, -32], [1968, 1968, -1968]);
-    let left: View = (1, [&spins, &copies, &offsets], [&[1968], &[4]]);
+    let left: View = (1, [&spins, &copies, &offsets, &[64, 64, 1936]], [&[1968], &[4]]);
     assert_eq!(view(&run), left);
 }
 
@@ -58,6 +58,39 @@ fn to_the_end(run: &mut Run, frame: &[i16], mut wanted: impl FnMut() -> u32) -> 
         }
         assert_eq!(run.rounds_done(), before + wanted);
     }
+}
+
+/// Each bit's sum of copies less offsets, added up edge by edge.
+fn added_up(run: &Run) -> Vec<i32> {
+    let code = run.code();
+    let mut sums = vec![0; code.bits()];
+    let edges = (0..code.checks()).flat_map(|check| code.members(check));
+    for (bit, (copy, offset)) in edges.zip(run.copies().iter().zip(run.offsets())) {
+        sums[usize::from(bit)] += copy - offset;
+    }
+    sums
+}
+
+#[test]
+fn sums_are_true_after_every_call() {
+    let mut rng = Rng::new(7);
+    let (mut certified, mut spent) = (0, 0);
+    for _ in 0..100 {
+        let code = small(&mut rng);
+        let frame = frame(&mut rng, code.bits(), 20, 900);
+        let mut run = Run::start(&code);
+        let mut answer = Answer::Running;
+        while answer == Answer::Running {
+            assert_eq!(run.sums(), added_up(&run));
+            answer = run.rounds(&frame, rng.between(0, 40) as u32).unwrap();
+        }
+        assert_eq!(run.sums(), added_up(&run));
+        match answer {
+            Answer::Certified(_) => certified += 1,
+            _ => spent += 1,
+        }
+    }
+    assert!(certified >= 20 && spent >= 5, "{certified} certified, {spent} spent");
 }
 
 /// However a run's rounds are called for, its answer is that of one call, and so is what it leaves.
@@ -129,7 +162,7 @@ fn restarted_is_fresh() {
     }
     let zeros = vec![0; code.edges()];
     let (bits, checks) = (&zeros[..code.bits()], vec![0; code.checks()]);
-    assert_eq!(view(&run), (0, [bits, &zeros, &zeros], [&checks[..], &checks[..]]));
+    assert_eq!(view(&run), (0, [bits, &zeros, &zeros, bits], [&checks[..], &checks[..]]));
 }
 
 /// What a certified run shows is what it answers.
