@@ -17,5 +17,5 @@ certificateRoom = 20600
 -- of each buffer no more is lent than it has
 abbrev pub InRooms : Parts → Type 0
 InRooms p =
-    (p .spins ≤ bitsRoom) × (p .copies ≤ edgesRoom) × (p .offsets ≤ edgesRoom) × (p .multipliers ≤ checksRoom) × (p .masks ≤ checksRoom)
+    (p .spins ≤ bitsRoom) × (p .copies ≤ edgesRoom) × (p .offsets ≤ edgesRoom) × (p .sums ≤ bitsRoom) × (p .multipliers ≤ checksRoom) × (p .masks ≤ checksRoom)
     × (p .word ≤ bitsRoom) × (p .certificate ≤ certificateRoom)

@@ -1,4 +1,4 @@
-// What is done to copies and offsets alone: a start, and an element that is put.
+// What is done to copies, offsets and sums alone: a start, and an element that is put.
 use super::command::Command;
 use super::command::PUT;
 use super::command::START;
@@ -7,33 +7,35 @@ use super::print::print_started;
 use run::Record;
 
 // Nothing where the buffer has no such index.
-fn put_at(edges: &mut [i32], index: usize, value: i32) {
-    if index < edges.len() {
-        edges[index] = value;
+fn put_at(buffer: &mut [i32], index: usize, value: i32) {
+    if index < buffer.len() {
+        buffer[index] = value;
     }
 }
 
-// Buffer 1 is the copies.
-fn put(command: Command, copies: &mut [i32], offsets: &mut [i32]) {
+// Buffer 1 is the copies, 2 the offsets, any other the sums.
+fn put(command: Command, copies: &mut [i32], offsets: &mut [i32], sums: &mut [i32]) {
+    let buffer = command.fields[0];
     let index = command.number(1) as usize;
     let value = command.signed(5);
-    if command.fields[0] == 1 {
-        put_at(copies, index, value);
-    } else {
-        put_at(offsets, index, value);
+    match buffer {
+        1 => put_at(copies, index, value),
+        2 => put_at(offsets, index, value),
+        _ => put_at(sums, index, value),
     }
 }
 
 // The record of the run after a start or a put; any other command does nothing here.
-pub(crate) fn on_edges(
+pub(crate) fn on_state(
     run: Record,
     command: Command,
     code: &[u8],
     copies: &mut [i32],
     offsets: &mut [i32],
+    sums: &mut [i32],
 ) -> Record {
     if command.operation == PUT {
-        put(command, copies, offsets);
+        put(command, copies, offsets, sums);
         return run;
     }
     if command.operation != START {
@@ -42,6 +44,12 @@ pub(crate) fn on_edges(
     let size = least(command.code, code.len());
     let c = command.lent(0, copies.len());
     let o = command.lent(4, offsets.len());
-    let started = run::start(&code[..size], &mut copies[..c], &mut offsets[..o]);
+    let s = command.lent(8, sums.len());
+    let started = run::start(
+        &code[..size],
+        &mut copies[..c],
+        &mut offsets[..o],
+        &mut sums[..s],
+    );
     print_started(started, run)
 }

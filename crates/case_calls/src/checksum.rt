@@ -51,18 +51,24 @@ fn with_u8(start: u64, buffer: &[u8]) -> u64 {
 }
 
 // The signed buffers, which come first.
-pub(crate) fn of_edges(spins: &[i32; BITS], copies: &[i32; EDGES], offsets: &[i32; EDGES]) -> u64 {
-    with_i32(with_i32(with_i32(FIRST, spins), copies), offsets)
+pub(crate) fn of_signed(
+    spins: &[i32; BITS],
+    copies: &[i32; EDGES],
+    offsets: &[i32; EDGES],
+    sums: &[i32; BITS],
+) -> u64 {
+    let edges = with_i32(with_i32(with_i32(FIRST, spins), copies), offsets);
+    with_i32(edges, sums)
 }
 
 // And the others.
 pub(crate) fn with_cuts(
-    edges: u64,
+    signed: u64,
     multipliers: &[u32; CHECKS],
     masks: &[u32; CHECKS],
     word: &[u8; BITS],
     certificate: &[u8; CERTIFICATE],
 ) -> u64 {
-    let cuts = with_u32(with_u32(edges, multipliers), masks);
+    let cuts = with_u32(with_u32(signed, multipliers), masks);
     with_u8(with_u8(cuts, word), certificate)
 }

@@ -49,6 +49,7 @@ pub(crate) struct Fill {
     pub spin: i32,
     pub copy: i32,
     pub offset: i32,
+    pub sum: i32,
     pub multiplier: u32,
     pub mask: u32,
     pub word: u8,
@@ -63,6 +64,7 @@ pub(crate) struct Parts {
     pub spins: usize,
     pub copies: usize,
     pub offsets: usize,
+    pub sums: usize,
     pub multipliers: usize,
     pub masks: usize,
     pub word: usize,
@@ -74,9 +76,9 @@ fn fields_size(operation: u8) -> usize
     ensures { λ r. ⌜ r ≤ 64 ⌝ }
 {
     match operation {
-        0 => 27,
-        3 => 8,
-        4 => 32,
+        0 => 31,
+        3 => 12,
+        4 => 36,
         5 => 9,
         _ => 0,
     }
@@ -123,10 +125,11 @@ impl Command {
             spin: self.signed(5),
             copy: self.signed(9),
             offset: self.signed(13),
-            multiplier: self.number(17),
-            mask: self.number(21),
-            word: self.fields[25],
-            certificate: self.fields[26],
+            sum: self.signed(17),
+            multiplier: self.number(21),
+            mask: self.number(25),
+            word: self.fields[29],
+            certificate: self.fields[30],
         }
     }
 
@@ -140,10 +143,11 @@ impl Command {
             spins: self.lent(4, BITS),
             copies: self.lent(8, EDGES),
             offsets: self.lent(12, EDGES),
-            multipliers: self.lent(16, CHECKS),
-            masks: self.lent(20, CHECKS),
-            word: self.lent(24, BITS),
-            certificate: self.lent(28, CERTIFICATE),
+            sums: self.lent(16, BITS),
+            multipliers: self.lent(20, CHECKS),
+            masks: self.lent(24, CHECKS),
+            word: self.lent(28, BITS),
+            certificate: self.lent(32, CERTIFICATE),
         }
     }
 }

@@ -5,9 +5,9 @@
 //     0 set     the rounds done and the status; the element that fills each buffer
 //     1 code    a length, at most 30,000, and a code file
 //     2 frame   a count, at most 2,100, and frame numbers
-//     3 start   how many copies and offsets are lent
+//     3 start   how many copies, offsets and sums are lent
 //     4 rounds  the rounds wanted, and how many elements of each buffer are lent
-//     5 put     1 for copies or 2 for offsets; an index and an element
+//     5 put     1 for copies, 2 for offsets or 3 for sums; an index and an element
 //
 // A start and a call for rounds get a line: the answer, the record of the run and a checksum of all
 // whole buffers. A code file or a frame that is not whole is empty. The end of the input, an
@@ -17,8 +17,8 @@ mod checksum;
 mod command;
 mod print;
 
-use calls::on_edges;
-use checksum::of_edges;
+use calls::on_state;
+use checksum::of_signed;
 use checksum::with_cuts;
 use command::CALLED;
 use command::Command;
@@ -49,6 +49,7 @@ fn play(fill: Fill, first: Command, code: &mut [u8], frame: &mut [i16]) -> Comma
     let mut spins = [fill.spin; BITS];
     let mut copies = [fill.copy; EDGES];
     let mut offsets = [fill.offset; EDGES];
+    let mut sums = [fill.sum; BITS];
     let mut multipliers = [fill.multiplier; CHECKS];
     let mut masks = [fill.mask; CHECKS];
     let mut word = [fill.word; BITS];
@@ -68,6 +69,7 @@ fn play(fill: Fill, first: Command, code: &mut [u8], frame: &mut [i16]) -> Comma
                 &mut spins[..parts.spins],
                 &mut copies[..parts.copies],
                 &mut offsets[..parts.offsets],
+                &mut sums[..parts.sums],
                 &mut multipliers[..parts.multipliers],
                 &mut masks[..parts.masks],
                 &mut word[..parts.word],
@@ -75,11 +77,18 @@ fn play(fill: Fill, first: Command, code: &mut [u8], frame: &mut [i16]) -> Comma
             ));
             command.operation = CALLED;
         } else {
-            let edges = of_edges(&spins, &copies, &offsets);
-            let all = with_cuts(edges, &multipliers, &masks, &word, &certificate);
+            let signed = of_signed(&spins, &copies, &offsets, &sums);
+            let all = with_cuts(signed, &multipliers, &masks, &word, &certificate);
             print_state(command.operation, run, all);
             command = next(command, code, frame);
-            run = on_edges(run, command, code, &mut copies, &mut offsets);
+            run = on_state(
+                run,
+                command,
+                code,
+                &mut copies,
+                &mut offsets,
+                &mut sums,
+            );
         }
     }
     command

@@ -109,8 +109,8 @@ abbrev pub callNumbers : List ℕ → List ℤ → ℕ → JugnayapRun → Buffe
 callNumbers file l wanted h b = callLeft h (call file l wanted (runFrom h b))
 
 -- ---- f makes what is returned, and what is left in the slices, of what came in them
-abbrev pub StartBecomes : (Buffers → Left) → JugnayapCalled → Slice ℤ → Slice ℤ → Type 0
-StartBecomes f r z y = leftAs r (startLent (left z) (left y)) ≡ f (startLent (came z) (came y))
+abbrev pub StartBecomes : (Buffers → Left) → JugnayapCalled → Slice ℤ → Slice ℤ → Slice ℤ → Type 0
+StartBecomes f r z y x = leftAs r (startLent (left z) (left y) (left x)) ≡ f (startLent (came z) (came y) (came x))
 
 abbrev pub NumbersBecome : (Buffers → Left) → JugnayapCalled → Both Buffers Buffers → Type 0
 NumbersBecome f r b = leftAs r (b .exit) ≡ f (b .entry)

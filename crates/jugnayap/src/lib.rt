@@ -60,8 +60,8 @@ pub struct JugnayapCalled {
     pub run: JugnayapRun,
 }
 
-// 0.1.0, as JUGNAYAP_VERSION counts it.
-const VERSION: u32 = 100;
+// 0.2.0, as JUGNAYAP_VERSION counts it.
+const VERSION: u32 = 200;
 
 #[no_mangle]
 pub extern "C" fn jugnayap_version() -> u32
@@ -166,10 +166,11 @@ pub extern "C" fn jugnayap_start(
     code: &[u8],
     copies: &mut [i32],
     offsets: &mut [i32],
+    sums: &mut [i32],
 ) -> JugnayapCalled
-    ensures { λ r. ⌜ StartBecomes (startNumbers (now (code .entry))) r copies offsets ⌝ }
+    ensures { λ r. ⌜ StartBecomes (startNumbers (now (code .entry))) r copies offsets sums ⌝ }
 {
-    started_numbers(run::start(code, copies, offsets))
+    started_numbers(run::start(code, copies, offsets, sums))
 }
 
 #[no_mangle]
@@ -181,12 +182,13 @@ pub extern "C" fn jugnayap_rounds(
     spins: &mut [i32],
     copies: &mut [i32],
     offsets: &mut [i32],
+    sums: &mut [i32],
     multipliers: &mut [u32],
     masks: &mut [u32],
     word: &mut [u8],
     certificate: &mut [u8],
 ) -> JugnayapCalled
-    ensures { λ r. ⌜ NumbersBecome (callNumbers (now (code .entry)) (now (frame .entry)) wanted run) r (slices spins copies offsets multipliers masks word certificate) ⌝ }
+    ensures { λ r. ⌜ NumbersBecome (callNumbers (now (code .entry)) (now (frame .entry)) wanted run) r (slices spins copies offsets sums multipliers masks word certificate) ⌝ }
 {
     let handed = record_of(run);
     let called = decoder::rounds(
@@ -197,6 +199,7 @@ pub extern "C" fn jugnayap_rounds(
         spins,
         copies,
         offsets,
+        sums,
         multipliers,
         masks,
         word,

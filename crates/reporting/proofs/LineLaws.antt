@@ -46,9 +46,9 @@ went (gives t) = gives fresh
 refused-inj : {A : Type 0} (j k : ℕ) → _≡_ {A = Answer A} (refused j) (refused k) → j ≡ k
 refused-inj j k e = cc
 
-module _ (file : List ℕ) (b : Buffers) (h : maxEdges ≤ length (b .copies)) (k : maxEdges ≤ length (b .offsets)) where
+module _ (file : List ℕ) (b : Buffers) (h : maxEdges ≤ length (b .copies)) (k : maxEdges ≤ length (b .offsets)) (i : maxBits ≤ length (b .sums)) where
   began : (t : Table) → codeFile file ≡ gives t → start file b ≡ record { answer = gives fresh; buffers = write (zeroing t) b }
-  began t e = started-on file t b e (zero-room t b (le-trans (file-sound file t e .few) h) (le-trans (file-sound file t e .few) k))
+  began t e = started-on file t b e (zero-room t b (le-trans (file-sound file t e .few) h) (le-trans (file-sound file t e .few) k) (le-trans (file-sound file t e .bits .1) i))
 
   stayed : (j : ℕ) → codeFile file ≡ refused j → start file b ≡ record { answer = refused j; buffers = b }
   unfolding start then
@@ -67,7 +67,7 @@ module _ (file : List ℕ) (b : Buffers) (h : maxEdges ≤ length (b .copies)) (
   start-refused j e = go (codeFile file) (sym start-answer ∙ e)
     where
       go : (a : Answer Table) → went a ≡ refused j → a ≡ refused j
-      go (refused i) q = ap refused (refused-inj i j q)
+      go (refused n) q = ap refused (refused-inj n j q)
       go (gives t) q = absurd (refused≢gives (sym q))
 
   start-fresh : (p : Progress) → start file b .answer ≡ gives p → p ≡ fresh
@@ -75,29 +75,29 @@ module _ (file : List ℕ) (b : Buffers) (h : maxEdges ≤ length (b .copies)) (
   start-fresh p e = go (codeFile file) (sym start-answer ∙ e)
     where
       go : (a : Answer Table) → went a ≡ gives p → p ≡ fresh
-      go (refused i) q = absurd (refused≢gives q)
+      go (refused n) q = absurd (refused≢gives q)
       go (gives t) q = sym (gives-inj fresh p q)
 
 -- these buffers, with what a start has left of those that it was lent
 abbrev pub withStarted : Buffers → Buffers → Buffers
 withStarted b s = each (λ x. cond (zeroed x) (the x s) (the x b))
 
--- ---- the code's run, with room for every table's copies and offsets
-module _ (file : List ℕ) (l : List ℤ) (b : Buffers) (h : maxEdges ≤ length (b .copies)) (k : maxEdges ≤ length (b .offsets)) where
+-- ---- the code's run, with room for every table's copies, offsets and sums
+module _ (file : List ℕ) (l : List ℤ) (b : Buffers) (h : maxEdges ≤ length (b .copies)) (k : maxEdges ≤ length (b .offsets)) (i : maxBits ≤ length (b .sums)) where
   lends : Buffers
-  lends = startLent (b .copies) (b .offsets)
+  lends = startLent (b .copies) (b .offsets) (b .sums)
 
-  -- a start that is lent copies and offsets alone does the same to them
-  same-start : withStarted b (start file (startLent (b .copies) (b .offsets)) .buffers) ≡ start file b .buffers
+  -- a start that is lent these alone does the same to them
+  same-start : withStarted b (start file (startLent (b .copies) (b .offsets) (b .sums)) .buffers) ≡ start file b .buffers
   unfolding lends
   same-start = go (codeFile file) refl
     where
       go : (a : Answer Table) → codeFile file ≡ a → withStarted b (start file lends .buffers) ≡ start file b .buffers
-      go (refused j) p = ap (λ x. withStarted b (x .buffers)) (stayed file lends h k j p) ∙ ap (λ x. x .buffers) (sym (stayed file b h k j p))
-      go (gives t) p = ap (λ x. withStarted b (x .buffers)) (began file lends h k t p) ∙ ap (λ x. x .buffers) (sym (began file b h k t p))
+      go (refused j) p = ap (λ x. withStarted b (x .buffers)) (stayed file lends h k i j p) ∙ ap (λ x. x .buffers) (sym (stayed file b h k i j p))
+      go (gives t) p = ap (λ x. withStarted b (x .buffers)) (began file lends h k i t p) ∙ ap (λ x. x .buffers) (sym (began file b h k i t p))
 
-  -- s is what a start answered, d what it left of the copies and offsets
-  module _ (s : Started) (d : Buffers) (e : record { answer = startedOf s; buffers = d } ≡ start file (startLent (b .copies) (b .offsets))) where
+  -- s is what a start answered, d what it left of them
+  module _ (s : Started) (d : Buffers) (e : record { answer = startedOf s; buffers = d } ≡ start file (startLent (b .copies) (b .offsets) (b .sums))) where
     answered : (a : Answer Progress) → startedOf s ≡ a → start file lends .answer ≡ a
     unfolding lends
     answered a p = ap (λ x. x .answer) (sym e) ∙ p
@@ -106,9 +106,9 @@ module _ (file : List ℕ) (l : List ℤ) (b : Buffers) (h : maxEdges ≤ length
         → record { answer = refused j; rounds = r .rounds; word = b .word; certificate = b .certificate } ≡ freshRan file l b
     unfolding freshRan call lends
     ran-refused j r p q =
-        let bad = start-refused file lends h k j (answered (refused j) (ap startedOf p)) in
+        let bad = start-refused file lends h k i j (answered (refused j) (ap startedOf p)) in
         ap (λ n. record { answer = refused j; rounds = n .rounds; word = b .word; certificate = b .certificate }) q
-        ∙ ap (λ x. record { answer = refused j; rounds = 0; word = x .buffers .word; certificate = x .buffers .certificate }) (sym (stayed file b h k j bad))
+        ∙ ap (λ x. record { answer = refused j; rounds = 0; word = x .buffers .word; certificate = x .buffers .certificate }) (sym (stayed file b h k i j bad))
         ∙ ap (λ a. ranOf (callBy l roundLimit (startedRun file b) a)) (sym bad)
 
     pub ran-started : (r : Record) (c : Called) → s ≡ Fresh r → c ≡ call file l roundLimit (record { progress = progressOf r; buffers = withStarted b d }) → ranOf c ≡ freshRan file l b
@@ -116,7 +116,7 @@ module _ (file : List ℕ) (l : List ℤ) (b : Buffers) (h : maxEdges ≤ length
     ran-started r c p q =
         ap ranOf q
         ∙ ap₂ (λ x y. ranOf (call file l roundLimit (record { progress = x; buffers = y })))
-        (start-fresh file lends h k (progressOf r) (answered (gives (progressOf r)) (ap startedOf p)))
+        (start-fresh file lends h k i (progressOf r) (answered (gives (progressOf r)) (ap startedOf p)))
         (ap (λ x. withStarted b (x .buffers)) e ∙ same-start)
 
 -- ---- and the line

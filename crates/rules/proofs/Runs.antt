@@ -282,7 +282,7 @@ sound-safe t r h =
 pub sums-carried : (t : Table) (l : List ℤ) (k : ℕ) (r : Run) → soundRun t r ≡ true → sumsIn t (iterate t l k r .buffers) ≡ trueSums t (iterate t l k r .buffers)
 sums-carried t l k r h = iterate-safe t l k r (sound-safe t r h) .sums
 
-admitted-sound : (t : Table) (l : List ℤ) (v : ℕ) (n : Lengths) (r : Run) → admits t l v n r ≡ gives tt → soundRun t r ≡ true
+pub admitted-sound : (t : Table) (l : List ℤ) (v : ℕ) (n : Lengths) (r : Run) → admits t l v n r ≡ gives tt → soundRun t r ≡ true
 unfolding admits onFrame
 admitted-sound t l v n r h =
     let size = must-gives (eqb (length l) (t .bits)) frameLength _ tt h in

@@ -12,13 +12,13 @@ use Rattle.case_calls.proofs.play.Tie as tie
 
 -- the lengths of the inputs and of the buffers
 abbrev Inv-loop : tie.InvT-loop
-Inv-loop code₀ frame₀ s₀ z₀ y₀ b₀ k₀ w₀ q₀ run₀ command₀ left₀ code frame s z y b k w q run command left =
+Inv-loop code₀ frame₀ s₀ z₀ y₀ x₀ b₀ k₀ w₀ q₀ run₀ command₀ left₀ code frame s z y x b k w q run command left =
     (length code ≡ length code₀) × (length frame ≡ length frame₀)
-    × (length s ≡ bitsRoom) × (length z ≡ edgesRoom) × (length y ≡ edgesRoom) × (length b ≡ checksRoom) × (length k ≡ checksRoom) × (length w ≡ bitsRoom)
+    × (length s ≡ bitsRoom) × (length z ≡ edgesRoom) × (length y ≡ edgesRoom) × (length x ≡ bitsRoom) × (length b ≡ checksRoom) × (length k ≡ checksRoom) × (length w ≡ bitsRoom)
     × (length q ≡ certificateRoom)
 
 abbrev μ-loop : tie.MeasureT-loop
-μ-loop code₀ frame₀ s₀ z₀ y₀ b₀ k₀ w₀ q₀ run₀ command₀ left₀ code frame s z y b k w q run command left = left
+μ-loop code₀ frame₀ s₀ z₀ y₀ x₀ b₀ k₀ w₀ q₀ run₀ command₀ left₀ code frame s z y x b k w q run command left = left
 
 -- a part that comes back as long as it was lent leaves the whole as long as it was
 back : {A : Type 0} {size : ℕ} (p : List A) (n : ℕ) (l : List A) → length l ≡ size → length p ≡ length (take n l) → length (p ++ drop n l) ≡ size
@@ -50,6 +50,7 @@ loop-again c =
       search (back, inv .6, kept),
       search (back, inv .7, kept),
       search (back, inv .8, kept),
+      search (back, inv .9, kept),
     )
 
 loop-less-2 : tie.Need-loop-less-2 Inv-loop μ-loop
@@ -60,8 +61,8 @@ loop-again-2 c =
     let read = c .before .before .before .before .before .before .before .before .before in
     let inv = reading read .before .loop .inv in
     let inputs = read .next .kept in
-    let edges = c .before .before .on-edges .kept in
-    (inputs .1 .0 ∙ inv .0, inputs .1 .1 .0 ∙ inv .1, inv .2, edges .1 .1 .1 .0 ∙ inv .3, edges .1 .1 .1 .1 .0 ∙ inv .4, inv .5, inv .6, inv .7, inv .8)
+    let state = c .before .before .before .on-state .kept in
+    (inputs .1 .0 ∙ inv .0, inputs .1 .1 .0 ∙ inv .1, inv .2, state .1 .1 .1 .0 ∙ inv .3, state .1 .1 .1 .1 .0 ∙ inv .4, state .1 .1 .1 .1 .1 .0 ∙ inv .5, inv .6, inv .7, inv .8, inv .9)
 
 pub play-spec : {M : Type 1} → statement M
 play-spec =
@@ -73,6 +74,8 @@ play-spec =
     (λ c κs. search needs)
     (λ c. search needs)
     (λ c κs. search needs)
+    (λ c. search needs)
+    (λ c. simp length-take (omega arith))
     (λ c. search needs)
     (λ c. simp length-take (omega arith))
     (λ c. search needs)

@@ -15,7 +15,7 @@ unfolding lentWith
 returns c =
     let begun = c .before .before .before .before .before .before in
     let args = begun .before .before .before .before .before .before .args in
-    ran-refused (args .code .now) (args .frame .now) (lentWith (args .word .now) (args .certificate .now)) (omega arith) (omega arith)
+    ran-refused (args .code .now) (args .frame .now) (lentWith (args .word .now) (args .certificate .now)) (omega arith) (omega arith) (omega arith)
     (begun .start .result) _ (begun .start .ensures) _ (c .fresh .result) (c .before .before .started .given .1) (c .fresh .ensures)
 
 returns-2 : tie.Need-returns-2
@@ -25,7 +25,7 @@ returns-2 c =
     let known = fresh done in
     let begun = known .before .before .before .before in
     let args = begun .before .before .before .before .before .before .args in
-    ran-started (args .code .now) (args .frame .now) (lentWith (args .word .now) (args .certificate .now)) (omega arith) (omega arith)
+    ran-started (args .code .now) (args .frame .now) (lentWith (args .word .now) (args .certificate .now)) (omega arith) (omega arith) (omega arith)
     (begun .start .result) _ (begun .start .ensures) _ _ (known .started2 .given .1) (done .rounds .ensures)
 
 pub decode-spec : {M : Type 1} → statement M

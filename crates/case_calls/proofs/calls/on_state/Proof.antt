@@ -1,9 +1,9 @@
--- `on_edges` meets its contract: the parts that are lent have room. Assumes nothing.
+-- `on_state` meets its contract: the parts that are lent have room. Assumes nothing.
 use native.Mathlib.Omega.{arith}
 use lib.ListN.{length-take}
 use borrow.Author.Needs.{needs}
-use Rattle.case_calls.proofs.calls.on_edges.Statement.{statement}
-use Rattle.case_calls.proofs.calls.on_edges.Tie as tie
+use Rattle.case_calls.proofs.calls.on_state.Statement.{statement}
+use Rattle.case_calls.proofs.calls.on_state.Tie as tie
 
 pub on-edges-spec : {M : Type 1} → statement M
 on-edges-spec =
