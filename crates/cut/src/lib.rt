@@ -21,7 +21,6 @@ ghost use lib.Dec.{eqb, ltb};
 ghost use lib.IntN.{pos};
 ghost use lib.ListN.{length, set};
 ghost use Rattle.integers.specs.Linear.{up, _⩽_, Within};
-ghost use Rattle.integers.specs.Clip.{clipZ};
 ghost use Rattle.rules.specs.Limits.{unit, maxDegree};
 ghost use Rattle.rules.specs.Cut.{maskAnswer, cutAnswer};
 ghost use Rattle.table.specs.Layout.{tableOf, Holds};
@@ -46,19 +45,6 @@ pub enum Found {
     Refused(u8),
     Nothing,
     Mask(u32),
-}
-
-// "Then clipped to −U..U."
-pub fn clip(x: i32) -> i32
-    ensures { λ r. ⌜ r ≡ clipZ unit x ⌝ }
-{
-    if x < -UNIT {
-        return -UNIT;
-    }
-    if UNIT < x {
-        return UNIT;
-    }
-    x
 }
 
 // What a height adds to a left side: 0 for a negative one.
