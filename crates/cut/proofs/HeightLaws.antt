@@ -1,19 +1,23 @@
--- Heights: the greatest of them, and the heights as the negative values see them. Assumes nothing.
-use mathlib.Core.Path.{_≡_, refl, sym, _∙_, ap}
+-- Heights: the greatest of them, one of them changed, and the heights as the negative values see them. Assumes nothing.
+use mathlib.Core.Path.{_≡_, refl, sym, _∙_, ap, subst}
 use mathlib.Core.Bool.{Bool, true, false, cond}
 use mathlib.Core.Logic.{_⊎_, inl, inr}
 use mathlib.Core.List.{List, [], _∷_, _++_}
 use Prim.Native.Nat.{ℕ, zero, suc, _<_}
 use native.Mathlib.Omega.{arith}
 use native.Mathlib.Nat.{le-of-suc-le-suc}
+use lib.Dec.{eqb}
 use lib.ListN.{length, set}
+use lib.Seq.{getD-set-same, getD-set-other}
 use lib.IntN.{ℤ, pos, negsuc, _+ℤ_, _-ℤ_}
 use lib.Signed.{_≤ℤ_, _<ℤ_, ltZ, ≤ℤ-refl}
 use mir.Syntax.{w32}
 use mir.Val.{SFits}
+use borrow.Author.Tests.{eqb-true, eqb-false}
 use Rattle.integers.specs.Linear.{lin, arithZ, _⩽_, lt-ltZ, le-ltZ}
 use Rattle.integers.specs.Order.{le-trans, le-antisym, le-or-lt, le-total, nltZ-le}
 use Rattle.rules.specs.Limits.{unit}
+use Rattle.rules.specs.Table.{at}
 use Rattle.rules.specs.Cut.{isNeg}
 use Rattle.cut.specs.Heights.{height, higher, highest}
 use Rattle.cut.specs.Scan.{sights}
@@ -78,6 +82,14 @@ highest-set (a ∷ hs) zero z h t = higher-left z (highest hs) (le-trans (highes
 highest-set (a ∷ hs) (suc k) z h t =
     ap (higher a) (highest-set hs k z (le-of-suc-le-suc h) (le-trans (highest hs) (higher a (highest hs)) z (higher-second a (highest hs)) t))
     ∙ higher-right a z (le-trans a (higher a (highest hs)) z (higher-first a (highest hs)) t)
+
+-- ---- a list with z in place k, place by place
+pub set-picks : (hs : List ℤ) (k i : ℕ) (z : ℤ) → i < length hs → at (set hs k z) i ≡ cond (eqb i k) z (at hs i)
+set-picks hs k i z h = go (eqb i k) refl
+  where
+    go : (b : Bool) → eqb i k ≡ b → at (set hs k z) i ≡ cond b z (at hs i)
+    go true e = ap (at (set hs k z)) (eqb-true i k e) ∙ getD-set-same hs k z (pos 0) (subst (λ n. n < length hs) (eqb-true i k e) h)
+    go false e = getD-set-other hs k i z (pos 0) (eqb-false i k e)
 
 -- ---- as the negative values see them
 pub height-negative : (v : ℤ) → v <ℤ pos 0 → pos unit +ℤ v ≡ height (isNeg v) v

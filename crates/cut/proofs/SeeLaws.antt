@@ -53,8 +53,8 @@ module _ (s : Scan) (hs : List ℤ) where
   pub decided-stay : (t : ℤ) → (ones (s .mask) % 2 ≡ 1 → ⊥) → 2 * up (s .top) ≤ s .room → t ≡ s .top → stays 0 t hs ≡ decided s hs
   decided-stay t o h p = ap (λ t. stays 0 t hs) p ∙ decided-even false o (le-ltb (s .room) (2 * up (s .top)) h)
 
-  pub changes-is : (b : ℕ) (t : ℤ) → b ≡ 2 ^ s .place → t ≡ pos (2 * unit) -ℤ s .top → stays (bitXor (s .mask) b) t (set hs (s .place) t) ≡ changes s hs
-  changes-is b t e p = ap₂ (λ b t. stays (bitXor (s .mask) b) t (set hs (s .place) t)) e p
+  pub changes-is : (b : ℕ) (t : ℤ) (l : List ℤ) → b ≡ 2 ^ s .place → l ≡ set hs (s .place) t → t ≡ pos (2 * unit) -ℤ s .top → stays (bitXor (s .mask) b) t l ≡ changes s hs
+  changes-is b t l e r p = ap (stays (bitXor (s .mask) b) t) r ∙ ap₂ (λ b t. stays (bitXor (s .mask) b) t (set hs (s .place) t)) e p
 
 -- a height above 0 is a size
 pub above-within : (z : ℤ) (r : ℕ) → z ⩽ pos unit → r < 2 * up z → Within unit z

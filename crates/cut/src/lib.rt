@@ -17,11 +17,10 @@ use table::Checked;
 ghost use mathlib.Core.Path.{_≡_};
 ghost use mathlib.Core.Bool.{cond};
 ghost use Prim.Native.Nat.{_+_, _*_, _<_};
-ghost use lib.Dec.{ltb};
+ghost use lib.Dec.{eqb, ltb};
 ghost use lib.IntN.{pos};
-ghost use lib.ListN.{length};
+ghost use lib.ListN.{length, set};
 ghost use Rattle.integers.specs.Linear.{up, _⩽_, Within};
-ghost use Rattle.integers.specs.Clip.{clipZ};
 ghost use Rattle.rules.specs.Limits.{unit, maxDegree};
 ghost use Rattle.rules.specs.Cut.{maskAnswer, cutAnswer};
 ghost use Rattle.table.specs.Layout.{tableOf, Holds};
@@ -48,19 +47,6 @@ pub enum Found {
     Mask(u32),
 }
 
-// "Then clipped to −U..U."
-pub fn clip(x: i32) -> i32
-    ensures { λ r. ⌜ r ≡ clipZ unit x ⌝ }
-{
-    if x < -UNIT {
-        return -UNIT;
-    }
-    if UNIT < x {
-        return UNIT;
-    }
-    x
-}
-
 // What a height adds to a left side: 0 for a negative one.
 pub fn above(h: i32) -> u32
     ensures { λ r. ⌜ r ≡ up h ⌝ }
@@ -81,6 +67,28 @@ fn when_violated(left: u32, mask: u32) -> u32
     0
 }
 
+// What place i has when x is put in place k.
+fn pick(i: usize, k: usize, x: i32, h: i32) -> i32
+    ensures { λ r. ⌜ r ≡ cond (eqb i k) x h ⌝ }
+{
+    if i == k {
+        return x;
+    }
+    h
+}
+
+// x in place k. A pass over all places with a choice in each: a store at a place that is known late
+// would hold up the reads that follow it.
+fn put(heights: &mut [i32], k: usize, x: i32)
+    ensures { λ _. ⌜ now (heights .exit) ≡ set (now (heights .entry)) k x ⌝ }
+{
+    let mut i: usize = 0;
+    while i < heights.len() {
+        heights[i] = pick(i, k, x, heights[i]);
+        i += 1;
+    }
+}
+
 // The member with the greatest height changes sides: U less its size becomes U and its size.
 fn change_side(s: Scan, heights: &mut [i32]) -> Cut
     requires { ⌜ (s .place < maxDegree) × (s .place < length (now heights)) × Within unit (s .top) ⌝ }
@@ -89,7 +97,7 @@ fn change_side(s: Scan, heights: &mut [i32]) -> Cut
     let k = s.place;
     let height = s.top;
     let raised = 2 * UNIT - height;
-    heights[k] = raised;
+    put(heights, k, raised);
     Cut {
         number: 0,
         mask: s.mask ^ bit(k),

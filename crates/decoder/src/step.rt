@@ -4,7 +4,7 @@ use super::common::DEGREE_8;
 use super::mask::holds;
 use super::multiplier::least_multiplier;
 use super::store::store_signed;
-use cut::clip;
+use spin::clip;
 ghost use mathlib.Core.Path.{_≡_};
 ghost use Prim.Native.Nat.{_≤_, _<_};
 ghost use lib.ListN.{length, set};

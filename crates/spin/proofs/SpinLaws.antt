@@ -6,11 +6,11 @@ use native.Mathlib.Omega.{arith}
 use native.Mathlib.Decide.{decLe}
 use native.Mathlib.Nat.{lt-of-not-le, div-le-self, mod-lt}
 use lib.IntN.{ℤ, pos, negsuc, negℤ, natAbs, _+ℤ_, _-ℤ_, negℤ-negℤ}
-use lib.Signed.{_≤ℤ_, _<ℤ_, ltZ, leZ}
+use lib.Signed.{_≤ℤ_, _<ℤ_, leZ}
 use mir.Syntax.{Width}
 use mir.Val.{SFits}
 use Rattle.integers.specs.Linear.{lin, arithZ, le-out, _⩽_, Within, lt-ltZ, le-ltZ}
-use Rattle.integers.specs.Order.{ltZ-lt, nltZ-le, leZ-le, nleZ-lt}
+use Rattle.integers.specs.Order.{leZ-le, nleZ-lt}
 use Rattle.integers.specs.Product.{abs-pos, natAbs-is, within}
 use Rattle.integers.specs.Division.{signed, signed-size, divZ, nearest, nearest-le, nearest-up, nearest-stays}
 use Rattle.integers.specs.Machine.{signed-fits}
@@ -19,12 +19,6 @@ use Rattle.spin.specs.Spin.{Degree, lacks}
 
 -- ---- what the code's comparisons say, of the numbers that it reads
 module _ {x x' y y' : ℤ} (e : x ≡ x') (f : y ≡ y') where
-  pub below : ltZ x y ≡ true → x' <ℤ y'
-  below h = subst (λ z. z <ℤ y') e (subst (λ z. x <ℤ z) f (ltZ-lt x y h))
-
-  pub not-below : ltZ x y ≡ false → y' ≤ℤ x'
-  not-below h = subst (λ z. y' ≤ℤ z) e (subst (λ z. z ≤ℤ x) f (nltZ-le x y h))
-
   pub at-most : leZ x y ≡ true → x' ≤ℤ y'
   at-most h = subst (λ z. z ≤ℤ y') e (subst (λ z. x ≤ℤ z) f (leZ-le x y h))
 

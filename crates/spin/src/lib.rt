@@ -55,7 +55,7 @@ pub fn quotient_of(total: i32, degree: u16) -> i32
 }
 
 // "Clipped to -U..U."
-fn clip(x: i32) -> i32
+pub fn clip(x: i32) -> i32
     ensures { λ r. ⌜ r ≡ clipZ unit x ⌝ }
 {
     if x < -UNIT {

@@ -21,8 +21,11 @@ sub-raised c = simp lin (omega (arithZ, known (top-fits c)))
 
 returns : tie.Need-returns
 returns c =
-    let told = c .before .before in
-    changes-is (told .before .args .s) (told .before .args .heights .now) _ _ (c .before .bit .ensures) (toZ-ofZ (sub-raised told) ∙ ap (λ z. pos (2 * unit) -ℤ z) (toZ-ofZ (top-fits told)))
+    let put = c .before .before .before in
+    let told = put .before .before in
+    let args = told .before .args in
+    changes-is (args .s) (args .heights .now) _ _ _ (c .before .bit .ensures) (put .put .ensures)
+    (toZ-ofZ (sub-raised told) ∙ ap (λ z. pos (2 * unit) -ℤ z) (toZ-ofZ (top-fits told)))
 
 pub change-side-spec : {M : Type 1} → statement M
 change-side-spec =
@@ -30,8 +33,7 @@ change-side-spec =
     (tie.spec
     (λ c. search needs)
     sub-raised
-    (λ c. search needs)
-    (λ c. search needs)
+    (λ c κs. search needs)
     (λ c κs. search needs)
     (λ c. search needs)
     returns)
