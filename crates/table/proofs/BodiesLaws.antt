@@ -1,15 +1,15 @@
 -- The bodies as the loops go over them: what is left is a number, or a check, and what is left after it. Assumes nothing.
 use mathlib.Core.Path.{_≡_, refl, _∙_, ap, ap₂}
-use mathlib.Core.Bool.{true, false, _&&_}
+use mathlib.Core.Bool.{Bool, true, _&&_}
 use mathlib.Core.List.{List, [], _∷_}
 use Prim.Native.Nat.{ℕ, _+_, _*_, _-_, _≤_, _<_}
 use native.Mathlib.Omega.{arith}
 use native.Mathlib.Nat.{sub-eq-zero-of-le}
 use lib.Dec.{leb, ltb}
-use borrow.Author.Tests.{lt-ltb, le-ltb, le-leb, lt-leb}
 use Rattle.integers.specs.Count.{left-more}
 use Rattle.rules.specs.Bytes.{u16At}
 use Rattle.rules.specs.CodeFile.{Content, contentAt, numbersAt, bodies, ascends, membersRight}
+use Rattle.table.proofs.AnswerLaws.{and-more, and-end}
 use Rattle.table.proofs.ContentsLaws.{contentsFrom, contents-more, contents-end}
 
 -- ---- numbers from a byte on
@@ -38,18 +38,14 @@ module _ (file : List ℕ) (at d k n least x : ℕ) (h : k < d) (e : x ≡ u16At
   ascends-at : ascends n least (numbersFrom file at d k) ≡ ((leb least x && ltb x n) && ascends n (x + 1) (numbersFrom file at d (k + 1)))
   ascends-at = ap (ascends n least) (numbers-more file at d k h) ∙ ascends-cons n least (u16At file (at + 2 * k)) (numbersFrom file at d (k + 1)) ∙ rw e refl
 
-  pub ascends-low : x < least → ascends n least (numbersFrom file at d k) ≡ false
-  ascends-low t = ascends-at ∙ simp (lt-leb least x t)
+  -- "all" of the numbers before k are right, then "more" of those before k + 1
+  pub ascends-more : (all more : Bool) → more ≡ (all && (leb least x && ltb x n))
+      → (all && ascends n least (numbersFrom file at d k)) ≡ (more && ascends n (x + 1) (numbersFrom file at d (k + 1)))
+  ascends-more all more q = and-more all (leb least x && ltb x n) _ more ascends-at q
 
-  pub ascends-high : least ≤ x → n ≤ x → ascends n least (numbersFrom file at d k) ≡ false
-  ascends-high s t = ascends-at ∙ simp (le-leb least x s, le-ltb x n t)
-
-  pub ascends-more : least ≤ x → x < n → ascends n least (numbersFrom file at d k) ≡ ascends n (x + 1) (numbersFrom file at d (k + 1))
-  ascends-more s t = ascends-at ∙ simp (le-leb least x s, lt-ltb x n t)
-
-pub ascends-end : (file : List ℕ) (at d k n least : ℕ) → d ≤ k → ascends n least (numbersFrom file at d k) ≡ true
+pub ascends-end : (file : List ℕ) (at d k n least : ℕ) → d ≤ k → (all : Bool) → (all && ascends n least (numbersFrom file at d k)) ≡ all
 unfolding ascends
-ascends-end file at d k n least h = ap (ascends n least) (numbers-end file at d k h)
+ascends-end file at d k n least h all = and-end all (ap (ascends n least) (numbers-end file at d k h))
 
 -- ---- check by check
 bodies-cons : (file : List ℕ) (a : ℕ) (e : Content) (es : List Content) → bodies file a (e ∷ es) ≡ numbersAt file a (e .count) ∷ bodies file (a + 2 * e .count) es

@@ -14,6 +14,7 @@ use Rattle.rules.specs.Limits.{maxBits, maxBitDegree}
 use Rattle.rules.specs.Bytes.{u16At}
 use Rattle.rules.specs.Table.{degreeOf}
 use Rattle.rules.specs.CodeFile.{inRange, numbersAt, bitsRight}
+use Rattle.table.proofs.AnswerLaws.{and-more, and-end}
 use Rattle.table.proofs.BodiesLaws.{numbersFrom, numbers-more, numbers-end, numbers-all}
 use Rattle.rules.proofs.FileLaws.{numbers-length}
 
@@ -76,12 +77,15 @@ bits-cons : (f : ℕ → ℕ) (i k : ℕ) → bitsRight f i (suc k) ≡ (inRange
 unfolding bitsRight
 bits-cons f i k = refl
 
-pub bits-more : (f : ℕ → ℕ) (n i d : ℕ) → i < n → d ≡ f i → bitsRight f i (n - i) ≡ (inRange 1 maxBitDegree d && bitsRight f (i + 1) (n - (i + 1)))
-bits-more f n i d h e = ap (bitsRight f i) (left-more i n h) ∙ bits-cons f i (n - (i + 1)) ∙ ap (λ x. inRange 1 maxBitDegree x && bitsRight f (i + 1) (n - (i + 1))) (sym e)
+pub bits-more : (f : ℕ → ℕ) (n i d : ℕ) → i < n → d ≡ f i → (all more : Bool) → more ≡ (all && inRange 1 maxBitDegree d)
+    → (all && bitsRight f i (n - i)) ≡ (more && bitsRight f (i + 1) (n - (i + 1)))
+bits-more f n i d h e all more q =
+    let rest = bitsRight f (i + 1) (n - (i + 1)) in
+    and-more all (inRange 1 maxBitDegree d) rest more (ap (bitsRight f i) (left-more i n h) ∙ bits-cons f i (n - (i + 1)) ∙ ap (λ x. inRange 1 maxBitDegree x && rest) (sym e)) q
 
-pub bits-end : (f : ℕ → ℕ) (n i : ℕ) → n ≤ i → bitsRight f i (n - i) ≡ true
+pub bits-end : (f : ℕ → ℕ) (n i : ℕ) → n ≤ i → (all : Bool) → (all && bitsRight f i (n - i)) ≡ all
 unfolding bitsRight
-bits-end f n i h = ap (bitsRight f i) (sub-eq-zero-of-le h)
+bits-end f n i h all = and-end all (ap (bitsRight f i) (sub-eq-zero-of-le h))
 
 pub bits-all : (f : ℕ → ℕ) (n : ℕ) → bitsRight f 0 (n - 0) ≡ bitsRight f 0 n
 bits-all f n = ap (bitsRight f 0) (omega arith)

@@ -1,6 +1,8 @@
 // The bodies: the members of each check, one check after the other.
 use super::contents::contents_end;
 use super::contents::count_at;
+use super::numbers::between;
+use super::numbers::both;
 use super::numbers::u16_at;
 ghost use mathlib.Core.Path.{_≡_};
 ghost use Prim.Native.Nat.{_+_, _*_, _≤_, _<_};
@@ -8,6 +10,9 @@ ghost use lib.ListN.{length};
 ghost use Rattle.rules.specs.Limits.{maxChecks, contentsEnd, fileLength};
 ghost use Rattle.rules.specs.Bytes.{u16Limit, u16At};
 ghost use Rattle.rules.specs.CodeFile.{contents, totalCount, numbersAt, bodies, ascends, membersRight};
+
+// The degree whose loop is compiled by itself: with a known count it needs no counting.
+const COMMON_DEGREE: usize = 6;
 
 // The k-th member of the bodies from byte `at` on.
 pub(crate) fn member_at(code: &[u8], at: usize, k: usize) -> usize
@@ -18,24 +23,31 @@ pub(crate) fn member_at(code: &[u8], at: usize, k: usize) -> usize
 }
 
 // The d members from byte `at` on are below n and "strictly ascending".
-pub(crate) fn ascending(code: &[u8], at: usize, d: usize, n: usize) -> bool
+fn ascending_of(code: &[u8], at: usize, d: usize, n: usize) -> bool
     requires { ⌜ at + 2 * d ≤ length (now code) ⌝ }
     ensures { λ r. ⌜ r ≡ ascends n 0 (numbersAt (now (code .entry)) at d) ⌝ }
 {
+    let mut all = true;
     let mut least: usize = 0;
     let mut k: usize = 0;
     while k < d {
         let x = member_at(code, at, k);
-        if x < least {
-            return false;
-        }
-        if n <= x {
-            return false;
-        }
+        all = both(all, between(least, n, x));
         least = x + 1;
         k += 1;
     }
-    true
+    all
+}
+
+// The same, the common degree being a known number where the loop is inlined.
+pub(crate) fn ascending(code: &[u8], at: usize, d: usize, n: usize) -> bool
+    requires { ⌜ at + 2 * d ≤ length (now code) ⌝ }
+    ensures { λ r. ⌜ r ≡ ascends n 0 (numbersAt (now (code .entry)) at d) ⌝ }
+{
+    if d == COMMON_DEGREE {
+        return ascending_of(code, at, COMMON_DEGREE, n);
+    }
+    ascending_of(code, at, d, n)
 }
 
 // Every check's members, where the bodies are all that follows the contents.

@@ -1,5 +1,6 @@
 // In how many checks each bit stands.
 use super::bodies::member_at;
+use super::numbers::both;
 use super::numbers::in_range;
 use limits::MAX_BIT_DEGREE;
 use limits::MAX_BITS;
@@ -39,14 +40,13 @@ pub(crate) fn degrees_right(degrees: &[u16; MAX_BITS], n: usize) -> bool
     requires { ⌜ n ≤ maxBits ⌝ }
     ensures { λ r. ⌜ r ≡ bitsRight (λ i. getD (now (degrees .entry)) i 0) 0 n ⌝ }
 {
+    let mut all = true;
     let mut i: usize = 0;
     while i < n {
-        if !in_range(1, MAX_BIT_DEGREE, wide(degrees[i])) {
-            return false;
-        }
+        all = both(all, in_range(1, MAX_BIT_DEGREE, wide(degrees[i])));
         i += 1;
     }
-    true
+    all
 }
 
 // "Each bit stands in 1 to 32 checks."

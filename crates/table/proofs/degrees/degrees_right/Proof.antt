@@ -1,38 +1,30 @@
--- `degrees_right` meets its contract: the degrees from bit i on decide. Assumes nothing.
-use mathlib.Core.Path.{_≡_, sym, _∙_}
+-- `degrees_right` meets its contract: `all` says whether the degrees before bit i are right, and the others decide. Assumes nothing.
+use mathlib.Core.Path.{_≡_, sym, _∙_, ap}
+use mathlib.Core.Bool.{_&&_}
 use Prim.Native.Nat.{_-_, _≤_}
 use native.Mathlib.Omega.{arith}
 use lib.ListN.{getD}
 use borrow.Author.Needs.{needs}
-use borrow.Author.Tests.{not-true, not-false}
 use Rattle.rules.specs.CodeFile.{bitsRight}
-use Rattle.table.proofs.AnswerLaws.{and-fails, and-holds}
 use Rattle.table.proofs.DegreesLaws.{bits-more, bits-end, bits-all}
 use Rattle.table.proofs.degrees.degrees_right.Statement.{statement}
 use Rattle.table.proofs.degrees.degrees_right.Tie as tie
 
 abbrev Inv-loop : tie.InvT-loop
-Inv-loop degrees n i₀ i = (i ≤ n) × (bitsRight (λ k. getD degrees k 0) 0 n ≡ bitsRight (λ k. getD degrees k 0) i (n - i))
+Inv-loop degrees n all₀ i₀ all i = (i ≤ n) × (bitsRight (λ k. getD degrees k 0) 0 n ≡ (all && bitsRight (λ k. getD degrees k 0) i (n - i)))
 
 abbrev μ-loop : tie.MeasureT-loop
-μ-loop degrees n i₀ i = n - i
-
-returns : tie.Need-returns Inv-loop μ-loop
-returns c =
-    sym (c .before .before .before .before .before .loop .inv .1
-    ∙ bits-more _ _ _ _ (c .before .before .before .before .loop-test .taken) (c .before .before .wide .ensures)
-    ∙ and-fails _ _ (sym (c .before .in-range .ensures) ∙ not-true _ (c .if1 .taken)))
+μ-loop degrees n all₀ i₀ all i = n - i
 
 loop-again : tie.Need-loop-again Inv-loop μ-loop
-loop-again c = (
-  omega arith,
-  c .before .before .before .before .before .loop .inv .1
-      ∙ bits-more _ _ _ _ (c .before .before .before .before .loop-test .taken) (c .before .before .wide .ensures)
-      ∙ and-holds _ _ (sym (c .before .in-range .ensures) ∙ not-false _ (c .if1 .left)),
-)
+loop-again c =
+    let loop = c .before .before .before .before .before .loop in
+    let test = c .before .before .before .before .loop-test .taken in
+    let one = c .both .ensures ∙ ap (λ b. loop .all && b) (c .before .in-range .ensures) in
+    (omega arith, loop .inv .1 ∙ bits-more _ _ _ _ test (c .before .before .wide .ensures) (loop .all) _ one)
 
-returns-2 : tie.Need-returns-2 Inv-loop μ-loop
-returns-2 c = sym (c .before .loop .inv .1 ∙ bits-end _ _ _ (c .loop-test .left))
+returns : tie.Need-returns Inv-loop μ-loop
+returns c = sym (c .before .loop .inv .1 ∙ bits-end _ _ _ (c .loop-test .left) _)
 
 pub degrees-right-spec : {M : Type 1} → statement M
 degrees-right-spec =
@@ -45,8 +37,8 @@ degrees-right-spec =
     (λ c. search needs)
     (λ c κs. tt)
     (λ c κs. tt)
-    returns
+    (λ c κs. tt)
     (λ c. omega arith)
     (λ c. omega arith)
     loop-again
-    returns-2)
+    returns)
