@@ -1,70 +1,28 @@
--- The search for the multiplier on a cut's heights: its sums, member by member, where it starts, and that its end is the multiplier. Assumes nothing.
-use mathlib.Core.Path.{_≡_, refl, sym, _∙_, ap, subst}
+-- The search for the multiplier on a cut's heights: where it starts, and that its end is the multiplier. Assumes nothing.
+use mathlib.Core.Path.{_≡_, refl, sym, ap, subst}
 use mathlib.Core.Bool.{Bool, true, false, cond, false≢true}
 use mathlib.Core.List.{List, [], _∷_}
 use mathlib.Core.Logic.{_⊎_, inl, inr}
-use Prim.Native.Nat.{ℕ, zero, suc, _+_, _*_, _-_, _/_, _≤_, _<_, min}
-use native.Mathlib.Nat.{add-assoc, add-comm, mul-comm, suc-mul, lt-div-mul-add, le-add-right}
+use Prim.Native.Nat.{ℕ, zero, suc, _+_, _*_, _-_, _/_, _≤_, _<_}
+use native.Mathlib.Nat.{mul-comm, suc-mul, lt-div-mul-add, le-add-right}
 use native.Mathlib.Omega.{arith}
-use native.Mathlib.Numerals.{add-one}
-use lib.Seq.{take-all}
-use lib.ListN.{length, take, getD}
+use lib.ListN.{length}
 use lib.IntN.{ℤ, pos, negsuc, negℤ, natAbs, _+ℤ_, _-ℤ_}
 use lib.Signed.{_≤ℤ_, _<ℤ_, ltZ}
 use mir.Syntax.{w32}
 use mir.Val.{SFits}
 use Rattle.rules.specs.Limits.{offsetLimit, priceLimit, stepLimit, valueLimit, maxDegree, unit}
 use Rattle.integers.specs.Linear.{lin, arithZ, _⩽_, Within, up, le-out, lt-ltZ}
-use Rattle.integers.specs.Product.{natAbs-≤}
+use Rattle.integers.specs.Product.{natAbs-≤, abs-pos}
 use Rattle.integers.specs.Sum.{AllWithin}
 use Rattle.rules.specs.Parity.{left, odd, Alike}
 use Rattle.rules.specs.Step.{clips, moves, short, multiplier}
 use Rattle.rules.proofs.CutRule.{Cuts}
 use Rattle.rules.proofs.Multiplier.{moves-zero, multiplier-least, multiplier-unique}
-use Rattle.cut.specs.Heights.{height, heightsOf, highest}
-use Rattle.decoder.specs.Lifted.{lifted, lifting, tally, sumAt, countAt, sumZ, Rising, LeastAt, lack, lackLimit, reach}
-use Rattle.decoder.proofs.MultiplierSumLaws.{sum-within}
+use Rattle.cut.specs.Heights.{height, heightsOf, higher, highest}
+use Rattle.decoder.specs.Lifted.{lifted, tally, sumAt, sumZ, AllUpTo, Rising, LeastAt, lack, lackLimit, reach}
+use Rattle.decoder.proofs.MultiplierSumLaws.{sum-within, up-to-more}
 use Rattle.decoder.proofs.LiftedLaws.{short-of, met-of, of-short}
-
--- ---- the first i members
-tally-take : (f : ℤ → ℕ) (i : ℕ) (hs : List ℤ) → i < length hs → tally f (take (suc i) hs) ≡ tally f (take i hs) + f (getD hs i (pos 0))
-tally-take f i [] k = absurd (omega arith)
-tally-take f zero (h ∷ hs) k = add-comm (f h) 0
-tally-take f (suc i) (h ∷ hs) k =
-    ap (λ n. f h + n) (tally-take f i hs (omega arith))
-    ∙ sym (add-assoc (f h) (tally f (take i hs)) (f (getD hs i (pos 0))))
-
-unfoldable pub sumFirst : List ℤ → ℕ → ℕ → ℕ
-sumFirst hs b i = tally (lifted b) (take i hs)
-
-unfoldable pub countFirst : List ℤ → ℕ → ℕ → ℕ
-countFirst hs b i = tally (lifting b) (take i hs)
-
-pub first-none : (hs : List ℤ) (b : ℕ) → (0 ≡ sumFirst hs b 0) × (0 ≡ countFirst hs b 0)
-unfolding sumFirst countFirst
-first-none hs b = (refl, refl)
-
-pub first-next : (hs : List ℤ) (b i a : ℕ) → i < length hs → a ≡ lifted b (getD hs i (pos 0))
-    → (sumFirst hs b i + a ≡ sumFirst hs b (i + 1)) × (countFirst hs b i + min a 1 ≡ countFirst hs b (i + 1))
-unfolding sumFirst countFirst
-first-next hs b i a k e = (more (lifted b) a e, more (lifting b) (min a 1) (ap (λ n. min n 1) e))
-  where
-    more : (f : ℤ → ℕ) (x : ℕ) → x ≡ f (getD hs i (pos 0)) → tally f (take i hs) + x ≡ tally f (take (i + 1) hs)
-    more f x p = ap (λ n. tally f (take i hs) + n) p ∙ sym (tally-take f i hs k) ∙ ap (λ n. tally f (take n hs)) (sym (add-one i))
-
-pub first-all : (hs : List ℤ) (b i : ℕ) → length hs ≤ i → (sumFirst hs b i ≡ sumAt hs b) × (countFirst hs b i ≡ countAt hs b)
-unfolding sumFirst countFirst sumAt countAt
-first-all hs b i k = (ap (tally (lifted b)) (take-all i hs k), ap (tally (lifting b)) (take-all i hs k))
-
-top : (z : ℤ) → z ⩽ pos 16777216 → up z ≤ 16777216
-top (pos n) h = omega (arith, le-out h)
-top (negsuc n) h = omega arith
-
-pub lifted-le : (b : ℕ) (h : ℤ) → Within stepLimit h → b ≤ stepLimit → lifted b h ≤ 16777216
-lifted-le b h w k = top (h +ℤ pos b) (sum-in b h w k)
-  where
-    sum-in : (b : ℕ) (h : ℤ) → Within stepLimit h → b ≤ stepLimit → h +ℤ pos b ⩽ pos 16777216
-    sum-in b h = simp lin (omega arithZ)
 
 -- ---- the greatest height is one of them
 abbrev In : ℤ → List ℤ → Type 0
@@ -81,6 +39,26 @@ highest-in h (k ∷ hs) w = go (ltZ h (highest (k ∷ hs))) (highest-in k hs (w 
     go : (b : Bool) → In (highest (k ∷ hs)) (k ∷ hs) → In (cond b (highest (k ∷ hs)) h) (h ∷ k ∷ hs)
     go true i = inr i
     go false i = inl refl
+
+highest-most : (hs : List ℤ) → AllUpTo (highest hs) hs
+highest-most [] = tt
+highest-most (h ∷ hs) = (above h (highest hs) .0, up-to-more (highest hs) (higher h (highest hs)) hs (above h (highest hs) .1) (highest-most hs))
+  where
+    here : (z : ℤ) → z ⩽ z
+    here z = simp lin (omega arithZ)
+
+    less : (a b : ℤ) → ltZ a b ≡ true → a ⩽ b
+    less a b = simp lin (omega arithZ)
+
+    not-less : (a b : ℤ) → ltZ a b ≡ false → b ⩽ a
+    not-less a b = simp lin (omega arithZ)
+
+    above : (a b : ℤ) → (a ⩽ higher a b) × (b ⩽ higher a b)
+    above a b = go (ltZ a b) refl
+      where
+        go : (t : Bool) → ltZ a b ≡ t → (a ⩽ cond t b a) × (b ⩽ cond t b a)
+        go true e = (less a b e, here b)
+        go false e = (here a, not-less a b e)
 
 in-sum : (b : ℕ) (x : ℤ) (hs : List ℤ) → In x hs → lifted b x ≤ tally (lifted b) hs
 in-sum b x [] i = absurd i
@@ -162,16 +140,17 @@ module _ (ts : List Bool) (vs : List ℤ) (few : length vs ≤ maxDegree) (small
     small = heights-small ts vs small;
     short = at-zero;
     low = in-low (highest hs) ts vs small member;
-    high = most;
-    met = later (in-sum (natAbs (pos reach -ℤ highest hs)) (highest hs) hs member) (reached (highest hs) most);
+    high = short-top;
+    most = highest-most hs;
+    met = later (in-sum (natAbs (pos reach -ℤ highest hs)) (highest hs) hs member) (reached (highest hs) short-top);
   }
     where
       nonempty : (hs : List ℤ) → In (highest hs) hs → 0 < length hs
       nonempty [] i = absurd i
       nonempty (h ∷ hs) i = omega arith
 
-      most : highest hs ⩽ pos reach
-      most = under-top (highest hs) (tally (lifted 0) hs) (in-sum 0 (highest hs) hs member) at-zero
+      short-top : highest hs ⩽ pos reach
+      short-top = under-top (highest hs) (tally (lifted 0) hs) (in-sum 0 (highest hs) hs member) at-zero
 
       later : {a b : ℕ} → a ≤ b → reach ≤ a → reach ≤ b
       later h k = omega arith
@@ -253,9 +232,6 @@ sum-next n z h k w x = (fits n z h k w x, within n z h w x)
     within : (n : ℕ) (z h : ℤ) → Within (stepLimit * n) z → Within stepLimit h → Within (stepLimit * (n + 1)) (z +ℤ h)
     within n z h = simp lin (omega arithZ)
 
-pub lift-fits : (h : ℤ) (b : ℕ) → Within stepLimit h → b ≤ stepLimit → SFits w32 (h +ℤ pos b)
-lift-fits h b = simp lin (omega arithZ)
-
 pub start-fits : (x : ℤ) → negℤ (pos offsetLimit) ≤ℤ x → x ≤ℤ pos reach → SFits w32 (pos reach -ℤ x) × (pos 0 ≤ℤ (pos reach -ℤ x))
 start-fits x h k = (simp lin (omega arithZ), simp lin (omega arithZ))
 
@@ -265,3 +241,13 @@ start-most x h k = size (pos reach -ℤ x) (simp lin (omega arithZ)) (simp lin (
     size : (z : ℤ) → pos 0 ≤ℤ z → z ≤ℤ pos stepLimit → natAbs z ≤ stepLimit
     size (pos n) h k = omega (arith, le-out k)
     size (negsuc n) h k = absurd (omega arithZ)
+
+-- from there b falls, and no height is lifted above 2U
+pub start-under : (hs : List ℤ) (x : ℤ) (b : ℕ) → AllUpTo x hs → x ≤ℤ pos reach → b ≤ natAbs (pos reach -ℤ x) → AllUpTo (pos reach -ℤ pos b) hs
+start-under hs x b a h k = up-to-more x (pos reach -ℤ pos b) hs (under x b (natAbs (pos reach -ℤ x)) (abs-pos (pos reach -ℤ x) (left x h)) k) a
+  where
+    left : (x : ℤ) → x ≤ℤ pos reach → pos 0 ⩽ pos reach -ℤ x
+    left x = simp lin (omega arithZ)
+
+    under : (x : ℤ) (b n : ℕ) → pos n ≡ pos reach -ℤ x → b ≤ n → x ⩽ pos reach -ℤ pos b
+    under x b n = simp lin (omega arithZ)

@@ -2,7 +2,7 @@
 -- reach 2U together (document 01, "One round", step 2). Definitions only. Assumes nothing.
 use mathlib.Core.Path.{_≡_}
 use mathlib.Core.List.{List, [], _∷_}
-use Prim.Native.Nat.{ℕ, suc, _+_, _*_, _≤_, _<_, min}
+use Prim.Native.Nat.{ℕ, suc, _+_, _*_, _^_, _≤_, _<_, min}
 use lib.ListN.{length}
 use lib.IntN.{ℤ, pos, negℤ, natAbs, _+ℤ_, _-ℤ_}
 use lib.Signed.{_≤ℤ_}
@@ -37,6 +37,14 @@ sumAt hs b = tally (lifted b) hs
 unfoldable pub countAt : List ℤ → ℕ → ℕ
 countAt hs b = tally (lifting b) hs
 
+-- both in one number: what a member above 0 counts there, more than any sum
+abbrev pub one : ℕ
+one = 2 ^ 20
+
+-- a member's share of it
+abbrev pub packed : ℕ → ℤ → ℕ
+packed b h = one * lifting b h + lifted b h
+
 -- all heights together
 abbrev pub sumZ : List ℤ → ℤ
 sumZ [] = pos 0
@@ -46,6 +54,11 @@ sumZ (h ∷ hs) = h +ℤ sumZ hs
 abbrev pub lack : List ℤ → ℤ
 lack hs = pos reach -ℤ sumZ hs
 
+-- no height is above t
+abbrev pub AllUpTo : ℤ → List ℤ → Type 0
+AllUpTo t [] = Unit {0}
+AllUpTo t (h ∷ hs) = (h ≤ℤ t) × AllUpTo t hs
+
 -- the heights of a cut, and the greatest of them: lifted to 2U alone, that one meets the inequality
 pub record Rising (hs : List ℤ) (top : ℤ) : Type 0 where
   pub some : 0 < length hs
@@ -54,6 +67,7 @@ pub record Rising (hs : List ℤ) (top : ℤ) : Type 0 where
   pub short : sumAt hs 0 < reach
   pub low : negℤ (pos offsetLimit) ≤ℤ top
   pub high : top ≤ℤ pos reach
+  pub most : AllUpTo top hs
   pub met : reach ≤ sumAt hs (natAbs (pos reach -ℤ top))
 
 -- b is the least step at which the heights reach 2U

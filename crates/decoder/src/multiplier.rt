@@ -1,14 +1,14 @@
 // The least multiplier of a cut, found from above on the heights that the cut search leaves. With F the
 // sum of the lifted heights above 0 and k their number, b falls by (F - 2U) / k until that is 0.
-use cut::above;
 use limits::UNIT;
 ghost use mathlib.Core.Path.{_≡_};
-ghost use Prim.Native.Nat.{_-_, _*_, _/_, _≤_, min};
+ghost use Prim.Native.Nat.{_-_, _/_, _≤_};
+ghost use lib.IntN.{pos, natAbs, _-ℤ_};
 ghost use lib.ListN.{length};
-ghost use Rattle.integers.specs.Linear.{Within};
+ghost use Rattle.integers.specs.Linear.{_⩽_};
 ghost use Rattle.integers.specs.Sum.{AllWithin};
 ghost use Rattle.rules.specs.Limits.{maxDegree, stepLimit};
-ghost use Rattle.decoder.specs.Lifted.{lifted, sumAt, countAt, sumZ, Rising, LeastAt, reach};
+ghost use Rattle.decoder.specs.Lifted.{packed, sumAt, countAt, sumZ, AllUpTo, Rising, LeastAt, reach};
 
 // "At least 2U."
 const REACH: u32 = 2 * UNIT as u32;
@@ -19,42 +19,41 @@ pub struct Slope {
     pub count: u32,
 }
 
-// A height lifted by b.
-fn lift(h: i32, b: u32) -> u32
-    requires { ⌜ (Within stepLimit h) × (b ≤ stepLimit) ⌝ }
-    ensures { λ r. ⌜ r ≡ lifted b h ⌝ }
-{
-    above(h + b as i32)
-}
+// One member above 0, in the upper bits of a number that has a sum in the lower ones.
+const ONE: u32 = 0x10_0000;
 
-fn one_if(a: u32) -> u32
-    ensures { λ r. ⌜ r ≡ min a 1 ⌝ }
+// A member's share of that number: ONE and its height lifted by b, or nothing where that is not above 0.
+fn share(h: i32, b: u32) -> u32
+    requires { ⌜ (b ≤ stepLimit) × (h ⩽ pos reach -ℤ pos b) ⌝ }
+    ensures { λ r. ⌜ r ≡ packed b h ⌝ }
 {
-    if a > 0 {
-        return 1;
+    let up = b as i32;
+    if -up < h {
+        return ONE + (up + h) as u32;
     }
     0
 }
 
+// At most 32 members of at most 2U: the sum stays below ONE.
 fn slope_at(heights: &[i32], b: u32) -> Slope
-    requires { ⌜ (length (now heights) ≤ maxDegree) × (b ≤ stepLimit) × AllWithin stepLimit (now heights) ⌝ }
+    requires { ⌜ (length (now heights) ≤ maxDegree) × (b ≤ stepLimit) × AllUpTo (pos reach -ℤ pos b) (now heights) ⌝ }
     ensures { λ r. ⌜ (r .sum ≡ sumAt (now (heights .entry)) b) × (r .count ≡ countAt (now (heights .entry)) b) ⌝ }
 {
-    let mut sum: u32 = 0;
-    let mut count: u32 = 0;
+    let mut both: u32 = 0;
     let mut i = 0;
     while i < heights.len() {
-        let a = lift(heights[i], b);
-        sum += a;
-        count += one_if(a);
+        both += share(heights[i], b);
         i += 1;
     }
-    Slope { sum, count }
+    Slope {
+        sum: both % ONE,
+        count: both / ONE,
+    }
 }
 
 // How far b can fall at once.
 fn fall(heights: &[i32], b: u32) -> u32
-    requires { ⌜ (length (now heights) ≤ maxDegree) × (b ≤ stepLimit) × AllWithin stepLimit (now heights) × (reach ≤ sumAt (now heights) b) ⌝ }
+    requires { ⌜ (length (now heights) ≤ maxDegree) × (b ≤ stepLimit) × AllUpTo (pos reach -ℤ pos b) (now heights) × (reach ≤ sumAt (now heights) b) ⌝ }
     ensures { λ r. ⌜ r ≡ (sumAt (now (heights .entry)) b - reach) / countAt (now (heights .entry)) b ⌝ }
 {
     let slope = slope_at(heights, b);
@@ -80,7 +79,7 @@ fn sum_of(heights: &[i32]) -> i32
 // lifts the greatest alone. Mostly it is the least already.
 fn first_step(heights: &[i32], top: i32) -> u32
     requires { ⌜ Rising (now heights) top ⌝ }
-    ensures { λ r. ⌜ (r ≤ stepLimit) × (reach ≤ sumAt (now (heights .entry)) r) ⌝ }
+    ensures { λ r. ⌜ (r ≤ natAbs (pos reach -ℤ top)) × (reach ≤ sumAt (now (heights .entry)) r) ⌝ }
 {
     let d = heights.len() as u32;
     let together = (2 * UNIT - sum_of(heights)) as u32;

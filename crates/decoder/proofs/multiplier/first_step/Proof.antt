@@ -9,11 +9,10 @@ use mir.Syntax.{w32}
 use mir.Val.{SFits, toZ, ofZ}
 use mir.Facts.{toZ-ofZ}
 use borrow.Author.Needs.{needs}
-use Rattle.rules.specs.Limits.{stepLimit}
 use Rattle.integers.specs.Machine.{fit, to-unsigned}
 use Rattle.integers.specs.Product.{abs-pos}
 use Rattle.decoder.specs.Lifted.{sumAt, lack, lackLimit, reach}
-use Rattle.decoder.proofs.MultiplierLaws.{level-met, together-fits, start-fits, start-most}
+use Rattle.decoder.proofs.MultiplierLaws.{level-met, together-fits, start-fits}
 use Rattle.decoder.proofs.multiplier.first_step.Statement.{statement}
 use Rattle.decoder.proofs.multiplier.first_step.Tie as tie
 
@@ -43,9 +42,6 @@ sub-alone c = subst (SFits w32) (sym (top-lacks c)) (start-fits (c .before .args
 alone-is : (c : tie.After-sum-of) → natAbs (pos reach -ℤ c .before .args .top) ≡ natAbs (toZ w32 (ofZ w32 (pos reach -ℤ toZ w32 (ofZ w32 (c .before .args .top)))))
 alone-is c = ap natAbs (sym (toZ-ofZ (sub-alone c) ∙ top-lacks c))
 
-alone-most : (c : tie.After-sum-of) → natAbs (toZ w32 (ofZ w32 (pos reach -ℤ toZ w32 (ofZ w32 (c .before .args .top))))) ≤ stepLimit
-alone-most c = subst (λ n. n ≤ stepLimit) (alone-is c) (start-most (c .before .args .top) (c .before .pre .low) (c .before .pre .high))
-
 cast-alone : tie.Need-cast-alone
 cast-alone c = to-unsigned tt (sub-alone c) (subst (λ z. pos 0 ≤ℤ z) (sym (top-lacks c)) (start-fits (c .before .args .top) (c .before .pre .low) (c .before .pre .high) .1))
 
@@ -58,7 +54,7 @@ returns : tie.Need-returns
 returns c =
     let a = c .before .before .args in
     let z = lack (a .heights .now) in (
-      omega (arith, alone-most (c .before)),
+      omega (arith, alone-is (c .before)),
       subst (λ n. reach ≤ sumAt (a .heights .now) ((n + (length (a .heights .now) - 1)) / length (a .heights .now))) (ap natAbs (sym (together-is (c .before))))
           (level-met (a .heights .now) (natAbs z) (c .before .before .pre .some) (abs-pos z (lack-fits (c .before) .1))),
     )
@@ -66,7 +62,7 @@ returns c =
 returns-2 : tie.Need-returns-2
 returns-2 c =
     let start = c .before .before in
-    (alone-most (c .before), subst (λ n. reach ≤ sumAt (start .args .heights .now) n) (alone-is (c .before)) (start .pre .met))
+    (omega (arith, alone-is (c .before)), subst (λ n. reach ≤ sumAt (start .args .heights .now) n) (alone-is (c .before)) (start .pre .met))
 
 pub first-step-spec : {M : Type 1} → statement M
 first-step-spec =
