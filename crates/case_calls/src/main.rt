@@ -81,14 +81,7 @@ fn play(fill: Fill, first: Command, code: &mut [u8], frame: &mut [i16]) -> Comma
             let all = with_cuts(signed, &multipliers, &masks, &word, &certificate);
             print_state(command.operation, run, all);
             command = next(command, code, frame);
-            run = on_state(
-                run,
-                command,
-                code,
-                &mut copies,
-                &mut offsets,
-                &mut sums,
-            );
+            run = on_state(run, command, code, &mut copies, &mut offsets, &mut sums);
         }
     }
     command

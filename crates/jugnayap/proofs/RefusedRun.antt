@@ -4,12 +4,14 @@ use mathlib.Core.Path.{_≡_, refl, sym, _∙_, ap, ap₂}
 use mathlib.Core.List.{List}
 use Prim.Native.Nat.{ℕ, zero, suc, _+_}
 use lib.IntN.{ℤ}
+use lib.Dec.{leb}
+use Rattle.rules.specs.Limits.{roundLimit}
 use Rattle.rules.specs.Refusal.{Answer, refused, gives, must, replyOf, askedTooMuch, bufferShort, runEnded, runDamaged}
 use Rattle.rules.specs.Table.{Table}
 use Rattle.rules.specs.CodeFile.{codeFile}
 use Rattle.rules.specs.Input.{eachWithin, onFrame}
 use Rattle.rules.specs.Buffers.{Buffers, Lengths, lengthsOf, needs, fits}
-use Rattle.rules.specs.Run.{Run, iterate, stateIn, isRunning, sound, admits, perform, callOn, callBy, call, Safe}
+use Rattle.rules.specs.Run.{Run, iterate, limited, sound, admits, perform, callOn, callBy, call}
 use Rattle.rules.proofs.AnswerLaws.{refused≢gives, must-gives}
 use Rattle.rules.proofs.Counted.{all-counted}
 use Rattle.rules.proofs.Runs.{admitted-sound, sound-safe}
@@ -54,5 +56,5 @@ abbrev pub damaged : Table → List ℤ → ℕ → Lengths → Answer (Unit {0}
 damaged t l wanted lent = onFrame t l (must (leb wanted roundLimit) askedTooMuch (must (fits (needs t) lent) bufferShort (refused runDamaged)))
 
 pub unknown-43 : (t : Table) (l : List ℤ) (wanted : ℕ) (lent : Lengths) (k s : ℕ) (b : Buffers) → admits t l wanted lent (runFrom (unknown k s) b) ≡ damaged t l wanted lent
-unfolding admits must sound
+unfolding admits must sound limited
 unknown-43 t l wanted lent k s b = refl

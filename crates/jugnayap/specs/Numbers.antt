@@ -18,12 +18,12 @@ use Rattle.jugnayap.specs.declared.JugnayapAgreement.{JugnayapAgreement}
 use Rattle.jugnayap.specs.declared.JugnayapRun.{JugnayapRun}
 use Rattle.jugnayap.specs.declared.JugnayapCalled.{JugnayapCalled}
 
--- ---- the version, 0.1.0, as one number that grows with it
+-- ---- the version, 0.2.0, as one number that grows with it
 abbrev pub versionNumber : ℕ → ℕ → ℕ → ℕ
 versionNumber major minor patch = major * 10000 + minor * 100 + patch
 
 abbrev pub version : ℕ
-version = versionNumber 0 1 0
+version = versionNumber 0 2 0
 
 -- ---- a reply as a struct: its number, then its values in their order, 0 where there is none
 abbrev pub signed : Reply → ℕ → ℤ

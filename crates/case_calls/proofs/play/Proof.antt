@@ -54,15 +54,33 @@ loop-again c =
     )
 
 loop-less-2 : tie.Need-loop-less-2 Inv-loop μ-loop
-loop-less-2 c = omega (arith, reading (c .before .before .before .before .before .before .before .before .before) .loop-test .taken)
+loop-less-2 c = omega (arith, reading (c .before .before .before .before .before .before .before .before .before .before .before) .loop-test .taken)
 
 loop-again-2 : tie.Need-loop-again-2 Inv-loop μ-loop
 loop-again-2 c =
-    let read = c .before .before .before .before .before .before .before .before .before in
-    let inv = reading read .before .loop .inv in
-    let inputs = read .next .kept in
-    let state = c .before .before .before .on-state .kept in
-    (inputs .1 .0 ∙ inv .0, inputs .1 .1 .0 ∙ inv .1, inv .2, state .1 .1 .1 .0 ∙ inv .3, state .1 .1 .1 .1 .0 ∙ inv .4, state .1 .1 .1 .1 .1 .0 ∙ inv .5, inv .6, inv .7, inv .8, inv .9)
+    let inv = reading (c .before .before .before .before .before .before .before .before .before .before .before) .before .loop .inv in
+    let inputs = c .before .before .before .before .before .before .before .before .before .before .before .next .kept in
+    let state = c .before .before .before .on-state .kept in (
+      inputs .1 .0 ∙ inv .0,
+      inputs .1 .1 .0 ∙ inv .1,
+      inv .2,
+      state .1 .1 .1 .0 ∙ inv .3,
+      state .1 .1 .1 .1 .0 ∙ inv .4,
+      state .1 .1 .1 .1 .1 .0 ∙ inv .5,
+      inv .6,
+      inv .7,
+      inv .8,
+      inv .9,
+    )
+
+slice-aggregate-on-state : tie.Need-slice-aggregate-on-state Inv-loop μ-loop
+slice-aggregate-on-state c = search (needs, reading (c .before .before .before .before .before) .before .loop .inv)
+
+slice-aggregate-on-state-2 : tie.Need-slice-aggregate-on-state-2 Inv-loop μ-loop
+slice-aggregate-on-state-2 c = search (needs, reading (c .before .before .before .before .before .before) .before .loop .inv)
+
+slice-aggregate-on-state-3 : tie.Need-slice-aggregate-on-state-3 Inv-loop μ-loop
+slice-aggregate-on-state-3 c = search (needs, reading (c .before .before .before .before .before .before .before) .before .loop .inv)
 
 pub play-spec : {M : Type 1} → statement M
 play-spec =
@@ -102,8 +120,9 @@ play-spec =
     (λ c κs. search needs)
     (λ c κs. search needs)
     (λ c κs. search needs)
-    (λ c. search (needs, reading (c .before .before .before .before .before) .before .loop .inv))
-    (λ c. search (needs, reading (c .before .before .before .before .before .before) .before .loop .inv))
+    slice-aggregate-on-state
+    slice-aggregate-on-state-2
+    slice-aggregate-on-state-3
     (λ c κs. search needs)
     loop-less-2
     loop-again-2

@@ -31,4 +31,5 @@ jugnayap-rounds-spec =
     (λ c. search needs)
     (λ c. search needs)
     (λ c. search needs)
+    (λ c. search needs)
     returns)

@@ -5,7 +5,7 @@ use Rattle.jugnayap.proofs.jugnayap_start.Statement.{statement}
 use Rattle.jugnayap.proofs.jugnayap_start.Tie as tie
 
 returns : tie.Need-returns
-returns c = start-left _ _ _ (c .started-numbers .ensures) (c .before .before .before .start .ensures)
+returns c = start-left _ _ _ (c .started-numbers .ensures) (c .before .before .before .before .start .ensures)
 
 pub jugnayap-start-spec : {M : Type 1} → statement M
 jugnayap-start-spec =
@@ -13,6 +13,7 @@ jugnayap-start-spec =
     (tie.spec
     (λ c κs. search needs)
     (λ c κs. search needs)
+    (λ c. search needs)
     (λ c. search needs)
     (λ c. search needs)
     returns)

@@ -6,27 +6,19 @@ use Rattle.reporting.proofs.LineLaws.{ran-refused, ran-started}
 use Rattle.reporting.proofs.decode.Statement.{statement}
 use Rattle.reporting.proofs.decode.Tie as tie
 
--- the state with the fresh record, seen from the rounds: found by its type
-abbrev fresh : tie.After-rounds → tie.After-started2
-fresh c = search
-
 returns : tie.Need-returns
 unfolding lentWith
 returns c =
-    let begun = c .before .before .before .before .before .before in
-    let args = begun .before .before .before .before .before .before .args in
+    let args = c .before .before .before .before .before .before .before .before .before .before .before .before .before .before .args in
     ran-refused (args .code .now) (args .frame .now) (lentWith (args .word .now) (args .certificate .now)) (omega arith) (omega arith) (omega arith)
-    (begun .start .result) _ (begun .start .ensures) _ (c .fresh .result) (c .before .before .started .given .1) (c .fresh .ensures)
+    (c .before .before .before .before .before .before .before .start .result) _ (c .before .before .before .before .before .before .before .start .ensures) _ (c .fresh .result) (c .before .before .started .given .1) (c .fresh .ensures)
 
 returns-2 : tie.Need-returns-2
 unfolding lentWith
 returns-2 c =
-    let done : tie.After-rounds = search in
-    let known = fresh done in
-    let begun = known .before .before .before .before in
-    let args = begun .before .before .before .before .before .before .args in
+    let args = c .before .before .before .before .before .before .before .before .before .before .before .before .before .before .before .before .before .before .before .before .before .before .before .before .before .before .before .before .before .before .before .before .args in
     ran-started (args .code .now) (args .frame .now) (lentWith (args .word .now) (args .certificate .now)) (omega arith) (omega arith) (omega arith)
-    (begun .start .result) _ (begun .start .ensures) _ _ (known .started2 .given .1) (done .rounds .ensures)
+    (c .before .before .before .before .before .before .before .before .before .before .before .before .before .before .before .before .before .before .before .before .before .before .before .before .before .start .result) _ (c .before .before .before .before .before .before .before .before .before .before .before .before .before .before .before .before .before .before .before .before .before .before .before .before .before .start .ensures) _ _ (c .before .before .before .before .before .before .before .before .before .before .before .before .before .before .before .before .before .before .before .before .started2 .given .1) (c .before .before .before .before .before .before .before .before .before .before .rounds .ensures)
 
 pub decode-spec : {M : Type 1} → statement M
 decode-spec =
@@ -34,9 +26,11 @@ decode-spec =
     (tie.spec
     (λ c. search needs)
     (λ c. search needs)
+    (λ c. search needs)
     (λ c κs. search needs)
     (λ c. search needs)
     (λ c κs. search needs)
+    (λ c. search needs)
     (λ c. search needs)
     (λ c. search needs)
     (λ c. search needs)

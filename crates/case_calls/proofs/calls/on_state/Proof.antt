@@ -5,8 +5,8 @@ use borrow.Author.Needs.{needs}
 use Rattle.case_calls.proofs.calls.on_state.Statement.{statement}
 use Rattle.case_calls.proofs.calls.on_state.Tie as tie
 
-pub on-edges-spec : {M : Type 1} → statement M
-on-edges-spec =
+pub on-state-spec : {M : Type 1} → statement M
+on-state-spec =
     tie.close
     (tie.spec
     (λ c κs. search needs)
@@ -14,6 +14,8 @@ on-edges-spec =
     (λ c. search needs)
     (λ c. search needs)
     (λ c. search needs)
+    (λ c. search needs)
+    (λ c κs. search needs)
     (λ c κs. search needs)
     (λ c κs. search needs)
     (λ c κs. search needs)
@@ -22,8 +24,11 @@ on-edges-spec =
     (λ c. simp length-take (omega arith))
     (λ c. search needs)
     (λ c. simp length-take (omega arith))
+    (λ c. search needs)
+    (λ c. simp length-take (omega arith))
     (λ c κs. search needs)
     (λ c κs. search needs)
+    (λ c. search needs)
     (λ c. search needs)
     (λ c. search needs)
     (λ c. search needs))
