@@ -48,7 +48,7 @@ pub enum Found {
 }
 
 // What a height adds to a left side: 0 for a negative one.
-pub fn above(h: i32) -> u32
+pub(crate) fn above(h: i32) -> u32
     ensures { λ r. ⌜ r ≡ up h ⌝ }
 {
     if h < 0 {

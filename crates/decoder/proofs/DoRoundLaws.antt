@@ -11,7 +11,7 @@ use Rattle.integers.specs.Linear.{Within}
 use Rattle.integers.specs.Clip.{clipZ}
 use Rattle.integers.specs.Sum.{AllWithin}
 use Rattle.rules.specs.Limits.{unit, roundLimit, offsetPerRound, offsetLimit, valueLimit, weightLimit, sumLimit, stepLimit, maxBitDegree}
-use Rattle.rules.specs.Table.{Table, at, edges, edgesOf, degreeOf}
+use Rattle.rules.specs.Table.{Table, at, edgesOf, degreeOf}
 use Rattle.rules.specs.Cut.{negatives, keep}
 use Rattle.rules.specs.Step.{Entry, minus}
 use Rattle.rules.specs.Round.{State, total, divided, spin, firstOf, sumsOf, Round, round}
@@ -32,7 +32,6 @@ use Rattle.run.specs.Ending.{closing, statusBy, recordBy}
 use Rattle.run.proofs.EndingLaws.{counted-next}
 use Rattle.decoder.specs.Found.{found}
 use Rattle.decoder.specs.Rounds.{Given, looped, filled, roundsFrom, Ready}
-use Rattle.table.proofs.LayoutLaws.{members-below, members-fit}
 use Rattle.decoder.proofs.PlaceLaws.{first-same}
 use Rattle.decoder.proofs.ExactLaws.{state-exact, sums-exact}
 use Rattle.decoder.proofs.RoundLaws.{spins-are, passed-is, spins-within, foundIn, round-closed}

@@ -36,9 +36,6 @@ up-fits v b = simp lin (omega arithZ)
 pub down-fits : (v : ℤ) (b : ℕ) → Within valueLimit v → b ≤ stepLimit → SFits w32 (v -ℤ pos b)
 down-fits v b = simp lin (omega arithZ)
 
-pub value-fits : (x y : ℤ) → Within unit x → Within offsetLimit y → SFits w32 (x +ℤ y)
-value-fits x y = simp lin (omega arithZ)
-
 pub offset-fits : (v z : ℤ) → Within valueLimit v → Within unit z → SFits w32 (v -ℤ z)
 offset-fits v z = simp lin (omega arithZ)
 

@@ -1,15 +1,12 @@
 -- Lists within limits, and what stands at a place of a difference, and when the first n numbers of two functions are the same, and of one clipped. Assumes nothing.
 use mathlib.Core.Path.{_≡_, refl, ap, ap₂}
-use mathlib.Core.List.{List, [], _∷_}
+use mathlib.Core.List.{_∷_}
 use Prim.Native.Nat.{ℕ, zero, suc, _<_}
-use native.Mathlib.Nat.{le-of-suc-le-suc, suc-inj}
 use native.Mathlib.Omega.{arith}
-use lib.ListN.{length, take}
-use lib.IntN.{ℤ, _-ℤ_}
+use lib.IntN.{ℤ}
 use Rattle.integers.specs.Clip.{clipZ}
-use Rattle.integers.specs.Sum.{AllWithin}
 use Rattle.rules.specs.Table.{at}
-use Rattle.rules.specs.Step.{clips, minus}
+use Rattle.rules.specs.Step.{clips}
 use Rattle.rules.specs.Round.{firstOf}
 
 -- ---- the first n numbers of f

@@ -6,13 +6,13 @@ use Prim.Native.Nat.{ℕ, zero, suc, _+_}
 use lib.IntN.{ℤ}
 use lib.Dec.{leb}
 use Rattle.rules.specs.Limits.{roundLimit}
-use Rattle.rules.specs.Refusal.{Answer, refused, gives, must, replyOf, askedTooMuch, bufferShort, runEnded, runDamaged}
+use Rattle.rules.specs.Refusal.{Answer, refused, gives, must, replyOf, askedTooMuch, bufferShort, runDamaged}
 use Rattle.rules.specs.Table.{Table}
 use Rattle.rules.specs.CodeFile.{codeFile}
-use Rattle.rules.specs.Input.{eachWithin, onFrame}
+use Rattle.rules.specs.Input.{onFrame}
 use Rattle.rules.specs.Buffers.{Buffers, Lengths, lengthsOf, needs, fits}
 use Rattle.rules.specs.Run.{Run, iterate, limited, sound, admits, perform, callOn, callBy, call}
-use Rattle.rules.proofs.AnswerLaws.{refused≢gives, must-gives}
+use Rattle.rules.proofs.AnswerLaws.{refused≢gives}
 use Rattle.rules.proofs.Counted.{all-counted}
 use Rattle.rules.proofs.Runs.{admitted-sound, sound-safe}
 use Rattle.decoder.proofs.CallLaws.{answers}

@@ -1,19 +1,14 @@
 -- Round 1 of a fresh run: a bit's spin is 0 exactly if twice its frame number's size is below its degree. Assumes nothing.
-use mathlib.Core.Path.{_≡_, refl, _∙_, ap, ap₂, sym}
+use mathlib.Core.Path.{_≡_, _∙_, ap, sym}
 use mathlib.Core.Logic.{_↔_}
-use mathlib.Core.Bool.{Bool, true, false}
-use mathlib.Core.List.{List, [], _∷_}
-use Prim.Native.Nat.{ℕ, zero, suc, _*_, _<_, _≤_}
+use mathlib.Core.List.{List}
+use Prim.Native.Nat.{ℕ, _*_, _<_, _≤_}
 use native.Mathlib.Omega.{arith}
-use lib.Dec.{eqb}
 use lib.IntN.{ℤ, pos, natAbs, _+ℤ_}
 use Rattle.integers.specs.Linear.{lin, arithZ}
 use Rattle.integers.specs.Clip.{clipZ, clip-zero}
-use Rattle.integers.specs.Sum.{pick}
 use Rattle.rules.specs.Limits.{unit}
 use Rattle.rules.specs.Table.{Table, edges, edgesOf, degreeOf, at}
-use Rattle.rules.specs.Step.{minus}
-use Rattle.rules.specs.Bound.{gather}
 use Rattle.rules.specs.Round.{State, total, divided, spin, round}
 use Rattle.rules.specs.Buffers.{Buffers, zeros}
 use Rattle.rules.specs.Run.{stateIn}

@@ -2,14 +2,13 @@
 use mathlib.Core.Path.{_≡_, refl, sym, _∙_, ap, ap₂, subst}
 use mathlib.Core.Bool.{Bool, true, false, cond, _&&_}
 use mathlib.Core.List.{List, [], _∷_}
-use Prim.Native.Nat.{ℕ, zero, suc, _*_, _≤_, _<_}
+use Prim.Native.Nat.{ℕ, zero, suc, _≤_, _<_}
 use native.Mathlib.Omega.{arith}
 use lib.Dec.{leb, ltb, eqb}
 use lib.ListN.{length, take, drop, length-append}
 use lib.IntN.{ℤ, pos}
-use borrow.Author.Tests.{ltb-true, lt-ltb, le-leb, eqb-true}
-use Rattle.integers.specs.Sum.{AllWithin}
-use Rattle.rules.specs.Limits.{unit, maxChecks, maxEdges, frameLimit, roundLimit, offsetPerRound}
+use borrow.Author.Tests.{lt-ltb, le-leb, eqb-true}
+use Rattle.rules.specs.Limits.{maxChecks, maxEdges, frameLimit, roundLimit}
 use Rattle.rules.specs.Refusal.{Answer, refused, gives, must, then, Reply, replyOf, frameLength, frameRange, askedTooMuch, bufferShort, runEnded, runDamaged}
 use Rattle.rules.specs.Table.{Table, edges, edgesOf, checksOf}
 use Rattle.rules.specs.CodeFile.{codeFile, tableValues}
@@ -18,7 +17,6 @@ use Rattle.rules.specs.Input.{eachWithin, onFrame}
 use Rattle.rules.specs.Round.{State}
 use Rattle.rules.specs.Buffers.{Each, by-name, each, Lengths, needs, fits, over}
 use Rattle.rules.specs.Run.{Progress, Run, isRunning, sound, soundRun, stateIn, sumsIn, admits}
-use Rattle.rules.proofs.Basics.{and-both}
 use Rattle.rules.proofs.BufferLaws.{take-over, fits-part, part-fits}
 use Rattle.rules.proofs.Tables.{file-sound}
 use Rattle.rules.proofs.AnswerLaws.{refused≢gives, gives-inj, must-gives, must-true, then-gives}

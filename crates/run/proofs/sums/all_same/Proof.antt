@@ -6,7 +6,6 @@ use lib.ListN.{length, drop}
 use lib.IntN.{_-ℤ_}
 use mir.Syntax.{w32}
 use mir.Facts.{toZ-ofZ}
-use borrow.Author.Needs.{needs}
 use borrow.Author.Tests.{not-true, not-false}
 use Rattle.integers.specs.Machine.{fit}
 use Rattle.rules.specs.Round.{isZero}
