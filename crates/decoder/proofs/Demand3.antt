@@ -80,7 +80,8 @@ roundsGave x =
     record {
       answer = outcomeOf (x .result .outcome);
       run = runIn (x .result .run)
-          (lent (now (b .0)) (now (b .1 .0)) (now (b .1 .1 .0)) (now (b .1 .1 .1 .0)) (now (b .1 .1 .1 .1 .0)) (now (b .1 .1 .1 .1 .1 .0)) (now (b .1 .1 .1 .1 .1 .1 .0)) (now (b .1 .1 .1 .1 .1 .1 .1 .0)));
+          (lent (now (b .0)) (now (b .1 .0)) (now (b .1 .1 .0)) (now (b .1 .1 .1 .0)) (now (b .1 .1 .1 .1 .0)) (now (b .1 .1 .1 .1 .1 .0)) (now (b .1 .1 .1 .1 .1 .1 .0))
+          (now (b .1 .1 .1 .1 .1 .1 .1 .0)));
     }
 
 -- what the contracts say, by document 01's definitions

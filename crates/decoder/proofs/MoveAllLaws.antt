@@ -11,7 +11,7 @@ use lib.IntN.{ℤ, pos, _+ℤ_, _-ℤ_}
 use mir.Syntax.{w32}
 use mir.Val.{SFits, toZ}
 use mir.Facts.{toZ-pos}
-use Rattle.rules.specs.Limits.{offsetLimit, stepLimit, valueLimit, weightLimit, unit}
+use Rattle.rules.specs.Limits.{stepLimit, valueLimit, weightLimit, unit}
 use Rattle.integers.specs.Linear.{lin, arithZ, Within}
 use Rattle.rules.specs.Table.{at}
 use Rattle.rules.specs.Mask.{setOf}

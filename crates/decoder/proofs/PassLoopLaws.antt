@@ -238,11 +238,13 @@ module _ {n : ℕ} {ss ms : List ℕ} {s z y x : List ℤ} {bs ks : List ℕ} (f
       weights-are : minus (stepAt unit (at s) cs y j .copies) (stepAt unit (at s) cs y j .offsets) ≡ part (from j) (from (j + 1)) (weightsIn goal)
       unfolding passed part
       weights-are = ap₂ minus (here (goal .copies) _ (copies-at unit (at s) cs y j h)) (here (goal .offsets) _ (offsets-at unit (at s) cs y j h))
-          ∙ sym (ap (take (from (j + 1) - from j)) (minus-drop (from j) (goal .copies) (goal .offsets)) ∙ minus-take (from (j + 1) - from j) (drop (from j) (goal .copies)) (drop (from j) (goal .offsets)))
+          ∙ sym (ap (take (from (j + 1) - from j)) (minus-drop (from j) (goal .copies) (goal .offsets))
+          ∙ minus-take (from (j + 1) - from j) (drop (from j) (goal .copies)) (drop (from j) (goal .offsets)))
 
       sums-next : Added ms (weightsIn goal) x (from (j + 1)) (summed (part (from j) (from (j + 1)) ms) (stepAt unit (at s) cs y j .copies) (stepAt unit (at s) cs y j .offsets) (q .sums))
       unfolding part
-      sums-next = added-part (from (j + 1)) (part (from j) (from (j + 1)) ms) (minus (stepAt unit (at s) cs y j .copies) (stepAt unit (at s) cs y j .offsets)) (g .sums) (begins ms) (begins (weightsIn goal) ∙ ap (λ l. l ++ drop (from (j + 1)) (weightsIn goal)) (sym weights-are))
+      sums-next = added-part (from (j + 1)) (part (from j) (from (j + 1)) ms) (minus (stepAt unit (at s) cs y j .copies) (stepAt unit (at s) cs y j .offsets)) (g .sums)
+          (begins ms) (begins (weightsIn goal) ∙ ap (λ l. l ++ drop (from (j + 1)) (weightsIn goal)) (sym weights-are))
           (ap length weights-are ∙ part-length (from j) (from (j + 1)) (weightsIn goal) (omega (arith, end-in, weights-long)) ∙ sym (part-length (from j) (from (j + 1)) ms end-in))
           (subst (λ k. Below k (part (from j) (from (j + 1)) ms)) (sym sums-size) below-there)
           (subst (AllWithin weightLimit) (sym weights-are) part-within)

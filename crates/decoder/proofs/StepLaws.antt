@@ -71,7 +71,8 @@ module _ (ms : List ℕ) (xs v : List ℤ) (m : ℕ) (e : m ≡ cutMask (cut uni
           ∙ sym (ap (λ o. steppedBy ms xs (stepBy unit v o)) (some-cut f))
 
 -- ---- the heights hs that the cut search leaves of the values v in the place of z, with the greatest of them
-module _ (ms : List ℕ) (xs v z hs : List ℤ) (k m : ℕ) (top : ℤ) (few : length v ≤ maxDegree) (same : length z ≡ length v) (e : (record { number = k; mask = m; top = top; heights = hs }) ≡ seen v z) where
+module _ (ms : List ℕ) (xs v z hs : List ℤ) (k m : ℕ) (top : ℤ) (few : length v ≤ maxDegree) (same : length z ≡ length v)
+    (e : (record { number = k; mask = m; top = top; heights = hs }) ≡ seen v z) where
   whole : (record { number = k; mask = m; top = top; heights = hs }) ≡ seenOn v z
   whole = e ∙ sym (seen-whole v z few (omega arith))
 

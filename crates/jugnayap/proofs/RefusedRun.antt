@@ -24,7 +24,8 @@ module _ (l : List ℤ) (wanted : ℕ) (r : Run) where
   performed-keeps : (t : Table) (lent : Lengths) (a : Answer (Unit {0})) (k : ℕ) → admits t l wanted lent r ≡ a → perform t l wanted r a .answer ≡ refused k → perform t l wanted r a .run ≡ r
   performed-keeps t lent (refused j) k q h = refl
   performed-keeps t lent (gives tt) k q h = absurd (refused≢gives (sym h
-      ∙ sym (answers (iterate t l wanted r .progress .status) (iterate t l wanted r .progress .rounds) (r .progress .rounds + wanted) (all-counted t l wanted r (sound-safe t r (admitted-sound t l wanted lent r q))))))
+      ∙ sym (answers (iterate t l wanted r .progress .status) (iterate t l wanted r .progress .rounds) (r .progress .rounds + wanted)
+      (all-counted t l wanted r (sound-safe t r (admitted-sound t l wanted lent r q))))))
 
   called-keeps : (a : Answer Table) (k : ℕ) → callBy l wanted r a .answer ≡ refused k → callBy l wanted r a .run ≡ r
   unfolding callOn

@@ -18,7 +18,8 @@ use Rattle.rules.specs.Round.{State, sumAt, pass, copiesIn, offsetsIn, e
 use Rattle.rules.proofs.Signs.{turn-sum, turn-zero, turn-turn, turn-side, at-turns, bit-plus, odd-plus, alike-sym, alike-trans}
 use Rattle.rules.proofs.CutRule.{plusO}
 use Rattle.rules.proofs.Pass.{state-eq, spinsIn, stepsIn, steps-laid, Good, rows-good}
-use Rattle.rules.proofs.RoundTurns.{Even, meets-even, signs, turnState, bitsAt-alike, gather-turn, sum-turn, spin-turn, turnSteps, pass-turn, copies-turn, offsets-turn, turnEntries, entries-turn}
+use Rattle.rules.proofs.RoundTurns.{Even, meets-even, signs, turnState, bitsAt-alike, gather-turn, sum-turn, spin-turn}
+use Rattle.rules.proofs.RoundTurns.{turnSteps, pass-turn, copies-turn, offsets-turn, turnEntries, entries-turn}
 
 -- ---- the candidate
 abbrev plusB : Bool → Option Bool → Option Bool

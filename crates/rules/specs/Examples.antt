@@ -318,7 +318,8 @@ pub cases : List Case
 cases = files ++ cuts ++ certificates ++ empties ++ scales ++ calls ++ rounds ++ lists ++ report
 
 pub examples : asked cases ≡ said cases
-unfolding cases fourBits emptied frameD frameE files cuts certificates empties scales calls rounds lists report regular onBit0 callsOf threeBits oneBit frameA answerTo must then replyOf u16At u32At agreement
+unfolding cases fourBits emptied frameD frameE files cuts certificates empties scales calls rounds lists report
+    regular onBit0 callsOf threeBits oneBit frameA answerTo must then replyOf u16At u32At agreement
     maskRight ones lib.Count.onesIn inRange contents countsRight startsRight totalCount numbersAt bodies ascends membersRight bitsRight fileOf codeFile codeFileReply onFrame onWord
     onPoint onCheck cut cutSearch cutReply lastWhere multiplier step reduced bound gap total divided spin round certificateOf itemsAt follows onItem onItems onCertificate verdict
     judge judgeReply fits fitsStart next iterate sumsOf limited sound admits callOn call start lentCall frameLine clipZ

@@ -175,7 +175,8 @@ module _ (file s ms : List ℕ) (q : Reply) (s′ ms′ : List ℕ) (h : loadedA
         go (gives t) f = absurd (let z : _≡_ {A = ℕ} 0 1 = cc (ap (λ r. r .values) (sym g ∙ ap (λ r. r .reply) f)) in omega arith)
 
     module _ (n m e : ℕ) (g : q ≡ numbered (Accepted n m e)) where
-      pub admission-sized : (a : Answer Sizes) → a ≡ admitsBy (sizesAs n m e) (take e ms′) l wanted lent p (firstState e z y) (take n x) → admissionAs a s′ ms′ ≡ admission file l wanted lent p z y x s ms
+      pub admission-sized : (a : Answer Sizes) → a ≡ admitsBy (sizesAs n m e) (take e ms′) l wanted lent p (firstState e z y) (take n x)
+          → admissionAs a s′ ms′ ≡ admission file l wanted lent p z y x s ms
       unfolding laid replyOf admission
       admission-sized a w = go (roomy file s ms) laid-is
         where
@@ -218,7 +219,8 @@ module _ (t : Table) (l : List ℤ) (wanted : ℕ) (lent : Lengths) (r : Run) wh
   admits-by = ap (λ a. then a (λ u. gives (sizesOf t))) (frame-law t l _)
       ∙ then-must (sizesOf t) (frameRefusal (t .bits) l) (leb wanted roundLimit) (fits (needs t) lent) (isRunning (r .progress .status)) (soundRun t r)
 
-  pub admits-refused : (k : ℕ) → admitsBy (sizesOf t) (edges (t .checks)) l wanted lent (r .progress) (stateIn t (r .buffers)) (sumsIn t (r .buffers)) ≡ refused k → admits t l wanted lent r ≡ refused k
+  pub admits-refused : (k : ℕ) → admitsBy (sizesOf t) (edges (t .checks)) l wanted lent (r .progress) (stateIn t (r .buffers)) (sumsIn t (r .buffers)) ≡ refused k
+      → admits t l wanted lent r ≡ refused k
   admits-refused k e = then-refused (sizesOf t) (admits t l wanted lent r) k (admits-by ∙ e)
 
   -- every test held

@@ -161,7 +161,9 @@ pub fn admit(
     starts: &mut [u16],
     members: &mut [u16],
 ) -> Admitted
-    ensures { λ r. ⌜ AdmitBecomes (admissionLent (now (code .entry)) (now (frame .entry)) wanted lent (progressOf run) (now (copies .entry)) (now (offsets .entry)) (now (sums .entry))) r starts members ⌝ }
+    ensures { λ r. ⌜ AdmitBecomes
+        (admissionLent (now (code .entry)) (now (frame .entry)) wanted lent (progressOf run) (now (copies .entry)) (now (offsets .entry)) (now (sums .entry)))
+        r starts members ⌝ }
 {
     let answer = table::load(code, starts, members);
     match answer {

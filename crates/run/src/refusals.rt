@@ -72,7 +72,8 @@ pub(crate) fn admit_sized(
 ) -> Admitted
     requires { ⌜ (checks ≤ maxChecks) × (edges ≤ length (now members)) × EdgesOf bits (take edges (now members)) ⌝ }
     ensures { λ r. ⌜ admittedOf r
-        ≡ admitsLent (sizesAs bits checks edges) (take edges (now (members .entry))) (now (frame .entry)) wanted lent (progressOf run) (now (copies .entry)) (now (offsets .entry)) (now (sums .entry)) ⌝ }
+        ≡ admitsLent (sizesAs bits checks edges) (take edges (now (members .entry))) (now (frame .entry)) wanted lent (progressOf run)
+        (now (copies .entry)) (now (offsets .entry)) (now (sums .entry)) ⌝ }
 {
     let k = inputs::frame(frame, bits);
     if k != 0 {

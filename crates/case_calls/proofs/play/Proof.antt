@@ -54,13 +54,17 @@ loop-again c =
     )
 
 loop-less-2 : tie.Need-loop-less-2 Inv-loop μ-loop
-loop-less-2 c = omega (arith, reading (c .before .before .before .before .before .before .before .before .before .before .before) .loop-test .taken)
+loop-less-2 c =
+    let after-next : tie.After-next Inv-loop μ-loop = search in
+    omega (arith, reading (after-next) .loop-test .taken)
 
 loop-again-2 : tie.Need-loop-again-2 Inv-loop μ-loop
 loop-again-2 c =
-    let inv = reading (c .before .before .before .before .before .before .before .before .before .before .before) .before .loop .inv in
-    let inputs = c .before .before .before .before .before .before .before .before .before .before .before .next .kept in
-    let state = c .before .before .before .on-state .kept in (
+    let after-on-state : tie.After-on-state Inv-loop μ-loop = search in
+    let after-next : tie.After-next Inv-loop μ-loop = search in
+    let inv = reading (after-next) .before .loop .inv in
+    let inputs = after-next .next .kept in
+    let state = after-on-state .on-state .kept in (
       inputs .1 .0 ∙ inv .0,
       inputs .1 .1 .0 ∙ inv .1,
       inv .2,
@@ -74,13 +78,19 @@ loop-again-2 c =
     )
 
 slice-aggregate-on-state : tie.Need-slice-aggregate-on-state Inv-loop μ-loop
-slice-aggregate-on-state c = search (needs, reading (c .before .before .before .before .before) .before .loop .inv)
+slice-aggregate-on-state c =
+    let after-next : tie.After-next Inv-loop μ-loop = search in
+    search (needs, reading (after-next) .before .loop .inv)
 
 slice-aggregate-on-state-2 : tie.Need-slice-aggregate-on-state-2 Inv-loop μ-loop
-slice-aggregate-on-state-2 c = search (needs, reading (c .before .before .before .before .before .before) .before .loop .inv)
+slice-aggregate-on-state-2 c =
+    let after-next : tie.After-next Inv-loop μ-loop = search in
+    search (needs, reading (after-next) .before .loop .inv)
 
 slice-aggregate-on-state-3 : tie.Need-slice-aggregate-on-state-3 Inv-loop μ-loop
-slice-aggregate-on-state-3 c = search (needs, reading (c .before .before .before .before .before .before .before) .before .loop .inv)
+slice-aggregate-on-state-3 c =
+    let after-next : tie.After-next Inv-loop μ-loop = search in
+    search (needs, reading (after-next) .before .loop .inv)
 
 pub play-spec : {M : Type 1} → statement M
 play-spec =

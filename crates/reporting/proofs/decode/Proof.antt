@@ -9,16 +9,22 @@ use Rattle.reporting.proofs.decode.Tie as tie
 returns : tie.Need-returns
 unfolding lentWith
 returns c =
-    let args = c .before .before .before .before .before .before .before .before .before .before .before .before .before .before .args in
+    let after-start : tie.After-start = search in
+    let start : tie.Start = search in
+    let args = start .args in
     ran-refused (args .code .now) (args .frame .now) (lentWith (args .word .now) (args .certificate .now)) (omega arith) (omega arith) (omega arith)
-    (c .before .before .before .before .before .before .before .start .result) _ (c .before .before .before .before .before .before .before .start .ensures) _ (c .fresh .result) (c .before .before .started .given .1) (c .fresh .ensures)
+    (after-start .start .result) _ (after-start .start .ensures) _ (c .fresh .result) (c .before .before .started .given .1) (c .fresh .ensures)
 
 returns-2 : tie.Need-returns-2
 unfolding lentWith
 returns-2 c =
-    let args = c .before .before .before .before .before .before .before .before .before .before .before .before .before .before .before .before .before .before .before .before .before .before .before .before .before .before .before .before .before .before .before .before .args in
+    let after-rounds : tie.After-rounds = search in
+    let after-started2 : tie.After-started2 = search in
+    let after-start : tie.After-start = search in
+    let start : tie.Start = search in
+    let args = start .args in
     ran-started (args .code .now) (args .frame .now) (lentWith (args .word .now) (args .certificate .now)) (omega arith) (omega arith) (omega arith)
-    (c .before .before .before .before .before .before .before .before .before .before .before .before .before .before .before .before .before .before .before .before .before .before .before .before .before .start .result) _ (c .before .before .before .before .before .before .before .before .before .before .before .before .before .before .before .before .before .before .before .before .before .before .before .before .before .start .ensures) _ _ (c .before .before .before .before .before .before .before .before .before .before .before .before .before .before .before .before .before .before .before .before .started2 .given .1) (c .before .before .before .before .before .before .before .before .before .before .rounds .ensures)
+    (after-start .start .result) _ (after-start .start .ensures) _ _ (after-started2 .started2 .given .1) (after-rounds .rounds .ensures)
 
 pub decode-spec : {M : Type 1} → statement M
 decode-spec =

@@ -22,12 +22,21 @@ abbrev μ-loop : tie.MeasureT-loop
 μ-loop starts members spins j₀ a₀ j a = length starts - j
 
 -- there is a check j
-check : (c : tie.In-loop Inv-loop μ-loop) → c .before .loop .j < length (checksFrom (c .before .before .before .before .args .starts .now) (c .before .before .before .before .args .members .now))
-check c = omega (arith, c .loop-test .taken, starts-long _ _ _ (c .before .before .before .before .pre))
+check : (c : tie.In-loop Inv-loop μ-loop)
+    → let start = c .before .before .before .before in c .before .loop .j < length (checksFrom (start .args .starts .now) (start .args .members .now))
+check c =
+    let start : tie.Start Inv-loop μ-loop = search in
+    omega (arith, c .loop-test .taken, starts-long _ _ _ (start .pre))
 
 -- its members
-part : (c : tie.In-loop Inv-loop μ-loop) → take (getD (c .before .before .before .before .args .starts .now) (c .before .loop .j + 1) 0 - c .before .loop .a) (drop (c .before .loop .a) (c .before .before .before .before .args .members .now)) ≡ getD (checksFrom (c .before .before .before .before .args .starts .now) (c .before .before .before .before .args .members .now)) (c .before .loop .j) []
-part c = ap (λ a. take (getD (c .before .before .before .before .args .starts .now) (c .before .loop .j + 1) 0 - a) (drop a (c .before .before .before .before .args .members .now))) (c .before .loop .inv .2) ∙ part-is _ _ _ (c .before .before .before .before .pre) (c .before .loop .j) (check c)
+part : (c : tie.In-loop Inv-loop μ-loop)
+    → let start = c .before .before .before .before in
+    take (getD (start .args .starts .now) (c .before .loop .j + 1) 0 - c .before .loop .a) (drop (c .before .loop .a) (start .args .members .now))
+    ≡ getD (checksFrom (start .args .starts .now) (start .args .members .now)) (c .before .loop .j) []
+part c =
+    let start : tie.Start Inv-loop μ-loop = search in
+    ap (λ a. take (getD (start .args .starts .now) (c .before .loop .j + 1) 0 - a) (drop a (start .args .members .now))) (c .before .loop .inv .2)
+    ∙ part-is _ _ _ (start .pre) (c .before .loop .j) (check c)
 
 loop-holds : tie.Need-loop-holds Inv-loop μ-loop
 loop-holds c = (omega (arith, starts-long _ _ _ (c .before .before .pre)), refl, sym (start-is _ _ _ (c .before .before .pre) 0 (omega arith)))
@@ -39,8 +48,11 @@ mul-is-odd : tie.Need-mul-is-odd Inv-loop μ-loop
 mul-is-odd c = omega (arith, c .shared-slice-known3 .given (c .before .before .loop .j), c .before .before .loop .inv .2)
 
 -- from its start to its end
-ordered : (c : tie.In-loop Inv-loop μ-loop) → c .before .loop .a ≤ getD (c .before .before .before .before .args .starts .now) (c .before .loop .j + 1) 0
-ordered c = subst (λ a. a ≤ getD (c .before .before .before .before .args .starts .now) (c .before .loop .j + 1) 0) (sym (c .before .loop .inv .2)) (part-in _ _ _ (c .before .before .before .before .pre) (c .before .loop .j) (check c) .0)
+ordered : (c : tie.In-loop Inv-loop μ-loop)
+    → let start = c .before .before .before .before in c .before .loop .a ≤ getD (start .args .starts .now) (c .before .loop .j + 1) 0
+ordered c =
+    let start : tie.Start Inv-loop μ-loop = search in
+    subst (λ a. a ≤ getD (start .args .starts .now) (c .before .loop .j + 1) 0) (sym (c .before .loop .inv .2)) (part-in _ _ _ (start .pre) (c .before .loop .j) (check c) .0)
 
 sub-is-odd : tie.Need-sub-is-odd Inv-loop μ-loop
 sub-is-odd c = ordered (c .before)
@@ -49,27 +61,39 @@ part-is-odd-start : tie.Need-part-is-odd-start Inv-loop μ-loop
 part-is-odd-start c = ordered (c .before)
 
 part-is-odd-end : tie.Need-part-is-odd-end Inv-loop μ-loop
-part-is-odd-end c = part-in _ _ _ (c .before .before .before .before .before .pre) (c .before .before .loop .j) (check (c .before)) .1
+part-is-odd-end c =
+    let start : tie.Start Inv-loop μ-loop = search in
+    part-in _ _ _ (start .pre) (c .before .before .loop .j) (check (c .before)) .1
 
 is-odd-requires : tie.Need-is-odd-requires Inv-loop μ-loop
-is-odd-requires c κs = subst (Below (length (c .before .before .before .before .before .before .args .spins .now))) (sym (part (c .before .before))) (part-below _ _ _ (c .before .before .before .before .before .before .pre) (c .before .before .before .loop .j) (check (c .before .before)))
+is-odd-requires c κs =
+    let turn : tie.At-loop Inv-loop μ-loop = search in
+    let start : tie.Start Inv-loop μ-loop = search in
+    subst (Below (length (start .args .spins .now))) (sym (part (c .before .before))) (part-below _ _ _ (start .pre) (turn .loop .j) (check (c .before .before)))
 
 returns : tie.Need-returns Inv-loop μ-loop
 returns c =
-    let here = c .before .before .before .before in
-    let even = meets-odd (negatives (c .before .before .before .before .before .before .before .before .args .spins .now)) (checksFrom (c .before .before .before .before .before .before .before .before .args .starts .now) (c .before .before .before .before .before .before .before .before .args .members .now)) (c .before .before .before .before .before .loop .j) (check here) (part here) in
-    sym (c .before .before .before .before .before .loop .inv .1 ∙ even (sym (c .before .is-odd .ensures) ∙ c .if1 .taken))
+    let inner : tie.In-loop Inv-loop μ-loop = search in
+    let turn : tie.At-loop Inv-loop μ-loop = search in
+    let start : tie.Start Inv-loop μ-loop = search in
+    let here = inner in
+    let even = meets-odd (negatives (start .args .spins .now)) (checksFrom (start .args .starts .now) (start .args .members .now)) (turn .loop .j) (check here) (part here) in
+    sym (turn .loop .inv .1 ∙ even (sym (c .before .is-odd .ensures) ∙ c .if1 .taken))
 
 loop-again : tie.Need-loop-again Inv-loop μ-loop
 loop-again c =
-    let here = c .before .before .before .before in
-    let next = meets-even (negatives (c .before .before .before .before .before .before .before .before .args .spins .now)) (checksFrom (c .before .before .before .before .before .before .before .before .args .starts .now) (c .before .before .before .before .before .before .before .before .args .members .now)) (c .before .before .before .before .before .loop .j) (check here) (part here) in
-    (omega arith, c .before .before .before .before .before .loop .inv .1 ∙ next (sym (c .before .is-odd .ensures) ∙ c .if1 .left), refl)
+    let inner : tie.In-loop Inv-loop μ-loop = search in
+    let turn : tie.At-loop Inv-loop μ-loop = search in
+    let start : tie.Start Inv-loop μ-loop = search in
+    let here = inner in
+    let next = meets-even (negatives (start .args .spins .now)) (checksFrom (start .args .starts .now) (start .args .members .now)) (turn .loop .j) (check here) (part here) in
+    (omega arith, turn .loop .inv .1 ∙ next (sym (c .before .is-odd .ensures) ∙ c .if1 .left), refl)
 
 returns-2 : tie.Need-returns-2 Inv-loop μ-loop
 returns-2 c =
-    sym (c .before .loop .inv .1 ∙ meets-end (negatives (c .before .before .before .before .args .spins .now)) (checksFrom (c .before .before .before .before .args .starts .now) (c .before .before .before .before .args .members .now)) (c .before .loop .j)
-    (omega (arith, c .loop-test .left, starts-long _ _ _ (c .before .before .before .before .pre))))
+    let start : tie.Start Inv-loop μ-loop = search in
+    sym (c .before .loop .inv .1 ∙ meets-end (negatives (start .args .spins .now)) (checksFrom (start .args .starts .now) (start .args .members .now)) (c .before .loop .j)
+    (omega (arith, c .loop-test .left, starts-long _ _ _ (start .pre))))
 
 pub all-even-spec : {M : Type 1} → statement M
 all-even-spec =

@@ -12,16 +12,24 @@ use Rattle.decoder.proofs.candidate.is_odd.Statement.{statement}
 use Rattle.decoder.proofs.candidate.is_odd.Tie as tie
 
 is-odd-of-requires : tie.Need-is-odd-of-requires
-is-odd-of-requires c κs = subst (Below (length (c .before .before .before .args .spins .now))) (sym (take-exact 6 (c .before .before .before .args .members .now) (omega arith))) (c .before .before .before .pre)
+is-odd-of-requires c κs =
+    let start : tie.Start = search in
+    subst (Below (length (start .args .spins .now))) (sym (take-exact 6 (start .args .members .now) (omega arith))) (start .pre)
 
 returns : tie.Need-returns
-returns c = c .is-odd-of .ensures ∙ ap (λ ms. odd (bitsAt (negatives (c .before .before .before .before .args .spins .now)) ms)) (take-exact 6 (c .before .before .before .before .args .members .now) (omega arith))
+returns c =
+    let start : tie.Start = search in
+    c .is-odd-of .ensures ∙ ap (λ ms. odd (bitsAt (negatives (start .args .spins .now)) ms)) (take-exact 6 (start .args .members .now) (omega arith))
 
 is-odd-of-requires-2 : tie.Need-is-odd-of-requires-2
-is-odd-of-requires-2 c κs = subst (Below (length (c .before .before .before .before .args .spins .now))) (sym (take-exact 8 (c .before .before .before .before .args .members .now) (omega arith))) (c .before .before .before .before .pre)
+is-odd-of-requires-2 c κs =
+    let start : tie.Start = search in
+    subst (Below (length (start .args .spins .now))) (sym (take-exact 8 (start .args .members .now) (omega arith))) (start .pre)
 
 returns-2 : tie.Need-returns-2
-returns-2 c = c .is-odd-of2 .ensures ∙ ap (λ ms. odd (bitsAt (negatives (c .before .before .before .before .before .args .spins .now)) ms)) (take-exact 8 (c .before .before .before .before .before .args .members .now) (omega arith))
+returns-2 c =
+    let start : tie.Start = search in
+    c .is-odd-of2 .ensures ∙ ap (λ ms. odd (bitsAt (negatives (start .args .spins .now)) ms)) (take-exact 8 (start .args .members .now) (omega arith))
 
 pub is-odd-spec : {M : Type 1} → statement M
 is-odd-spec =

@@ -18,40 +18,64 @@ abbrev μ-loop : tie.MeasureT-loop
 μ-loop frame starts members degrees wanted s₀ z₀ y₀ x₀ b₀ m₀ at₀ k₀ s z y x b m at k = k
 
 loop-holds : tie.Need-loop-holds Inv-loop μ-loop
-loop-holds c = going-first _ (c .before .before .before .before .before .pre .1)
+loop-holds c =
+    let start : tie.Start Inv-loop μ-loop = search in
+    going-first _ (start .pre .1)
 
 do-round-requires : tie.Need-do-round-requires Inv-loop μ-loop
 do-round-requires c κs =
-    (c .before .before .before .before .before .before .before .before .before .before .before .before .before .pre .0, going-ready (c .before .before .before .before .before .before .before .loop .inv) (c .before .before .before .before .before .before .loop-test .taken))
+    let inner : tie.In-loop Inv-loop μ-loop = search in
+    let turn : tie.At-loop Inv-loop μ-loop = search in
+    let start : tie.Start Inv-loop μ-loop = search in
+    (start .pre .0, going-ready (turn .loop .inv) (inner .loop-test .taken))
 
 left-requires : tie.Need-left-requires Inv-loop μ-loop
-left-requires c κs = c .before .before .before .before .before .before .before .before .before .before .before .before .before .before .before .loop-test .taken
+left-requires c κs =
+    let inner : tie.In-loop Inv-loop μ-loop = search in
+    inner .loop-test .taken
 
 loop-less : tie.Need-loop-less Inv-loop μ-loop
 loop-less c =
-    left-less (statusOf (c .before .before .before .before .before .before .before .before .before .do-round .result .status)) _ _ (c .before .before .before .before .before .before .before .before .before .before .before .before .before .before .before .before .loop-test .taken) (c .left .ensures)
+    let after-do-round : tie.After-do-round Inv-loop μ-loop = search in
+    let inner : tie.In-loop Inv-loop μ-loop = search in
+    left-less (statusOf (after-do-round .do-round .result .status)) _ _ (inner .loop-test .taken) (c .left .ensures)
 
 loop-again : tie.Need-loop-again Inv-loop μ-loop
 loop-again c =
-    going-next _ _ _ _ _ _ _ _ (c .before .before .before .before .before .before .before .before .before .before .before .before .before .before .before .before .before .loop .inv) (c .before .before .before .before .before .before .before .before .before .before .before .before .before .before .before .before .loop-test .taken) (c .before .before .before .before .before .before .before .before .before .do-round .ensures) _ (c .left .ensures)
+    let after-do-round : tie.After-do-round Inv-loop μ-loop = search in
+    let inner : tie.In-loop Inv-loop μ-loop = search in
+    let turn : tie.At-loop Inv-loop μ-loop = search in
+    going-next _ _ _ _ _ _ _ _ (turn .loop .inv) (inner .loop-test .taken) (after-do-round .do-round .ensures) _ (c .left .ensures)
 
 same-length : tie.Need-same-length Inv-loop μ-loop
-same-length c = ap (λ n. n spins) (c .before .loop .inv .sizes ∙ sym (c .before .before .before .before .before .before .before .pre .1 .sizes))
+same-length c =
+    let start : tie.Start Inv-loop μ-loop = search in
+    ap (λ n. n spins) (c .before .loop .inv .sizes ∙ sym (start .pre .1 .sizes))
 
 same-length-2 : tie.Need-same-length-2 Inv-loop μ-loop
-same-length-2 c = ap (λ n. n copies) (c .before .loop .inv .sizes ∙ sym (c .before .before .before .before .before .before .before .pre .1 .sizes))
+same-length-2 c =
+    let start : tie.Start Inv-loop μ-loop = search in
+    ap (λ n. n copies) (c .before .loop .inv .sizes ∙ sym (start .pre .1 .sizes))
 
 same-length-3 : tie.Need-same-length-3 Inv-loop μ-loop
-same-length-3 c = ap (λ n. n offsets) (c .before .loop .inv .sizes ∙ sym (c .before .before .before .before .before .before .before .pre .1 .sizes))
+same-length-3 c =
+    let start : tie.Start Inv-loop μ-loop = search in
+    ap (λ n. n offsets) (c .before .loop .inv .sizes ∙ sym (start .pre .1 .sizes))
 
 same-length-4 : tie.Need-same-length-4 Inv-loop μ-loop
-same-length-4 c = ap (λ n. n sums) (c .before .loop .inv .sizes ∙ sym (c .before .before .before .before .before .before .before .pre .1 .sizes))
+same-length-4 c =
+    let start : tie.Start Inv-loop μ-loop = search in
+    ap (λ n. n sums) (c .before .loop .inv .sizes ∙ sym (start .pre .1 .sizes))
 
 same-length-5 : tie.Need-same-length-5 Inv-loop μ-loop
-same-length-5 c = ap (λ n. n multipliers) (c .before .loop .inv .sizes ∙ sym (c .before .before .before .before .before .before .before .pre .1 .sizes))
+same-length-5 c =
+    let start : tie.Start Inv-loop μ-loop = search in
+    ap (λ n. n multipliers) (c .before .loop .inv .sizes ∙ sym (start .pre .1 .sizes))
 
 same-length-6 : tie.Need-same-length-6 Inv-loop μ-loop
-same-length-6 c = ap (λ n. n masks) (c .before .loop .inv .sizes ∙ sym (c .before .before .before .before .before .before .before .pre .1 .sizes))
+same-length-6 c =
+    let start : tie.Start Inv-loop μ-loop = search in
+    ap (λ n. n masks) (c .before .loop .inv .sizes ∙ sym (start .pre .1 .sizes))
 
 returns : tie.Need-returns Inv-loop μ-loop
 returns c = going-last _ _ _ _ _ _ _ (omega arith) (c .before .loop .inv)

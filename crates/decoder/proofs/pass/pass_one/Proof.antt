@@ -10,21 +10,30 @@ use Rattle.decoder.proofs.pass.pass_one.Tie as tie
 
 step-requires : tie.Need-step-requires
 unfolding part
-step-requires c κs = c .before .before .before .before .before .before .before .pre .step
+step-requires c κs =
+    let start : tie.Start = search in
+    start .pre .step
 
 store-requires : tie.Need-store-requires
-store-requires c κs = c .before .before .before .before .before .before .before .before .before .before .before .before .pre .multiplierThere
+store-requires c κs =
+    let start : tie.Start = search in
+    start .pre .multiplierThere
 
 store-requires-2 : tie.Need-store-requires-2
-store-requires-2 c κs = c .before .before .before .before .before .before .before .before .before .before .before .before .before .before .before .before .pre .maskThere
+store-requires-2 c κs =
+    let start : tie.Start = search in
+    start .pre .maskThere
 
 returns : tie.Need-returns
 unfolding onePassed part splice
 returns c =
-    let a = c .before .before .before .before .before .before .before .before .before .before .before .before .before .before .before .before .before .before .before .args in
+    let after-store : tie.After-store = search in
+    let after-step : tie.After-step = search in
+    let start : tie.Start = search in
+    let a = start .args in
     let came = passedTo (a .copies .now) (a .offsets .now) (a .sums .now) (a .multipliers .now) (a .masks .now) in
-    passed-eq refl refl refl (c .before .before .before .before .before .before .store .ensures) (c .before .before .store2 .ensures)
-    ∙ ap (λ (t : Stepped). placed (a .j) (a .a) (a .e) t came) (c .before .before .before .before .before .before .before .before .before .before .before .step .ensures)
+    passed-eq refl refl refl (after-store .store .ensures) (c .before .before .store2 .ensures)
+    ∙ ap (λ (t : Stepped). placed (a .j) (a .a) (a .e) t came) (after-step .step .ensures)
 
 pub pass-one-spec : {M : Type 1} → statement M
 pass-one-spec =

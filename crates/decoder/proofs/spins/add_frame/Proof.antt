@@ -31,32 +31,46 @@ inside : (c : tie.In-loop Inv-loop μ-loop) → c .before .loop .i < length (c .
 inside c = omega (arith, c .loop-test .taken, c .before .before .pre .0)
 
 -- the number and the sum at i, as they were read
-number : (c : tie.After-total-arg Inv-loop μ-loop) → toZ w16 (ofZ w16 (at (c .before .before .before .args .frame .now) (c .before .before .loop .i))) ≡ at (c .before .before .before .args .frame .now) (c .before .before .loop .i)
-number c = toZ-ofZ (fit w16 (at (c .before .before .before .args .frame .now) (c .before .before .loop .i)) (c .total-arg .given))
+number : (c : tie.After-total-arg Inv-loop μ-loop)
+    → let start = c .before .before .before in toZ w16 (ofZ w16 (at (start .args .frame .now) (c .before .before .loop .i))) ≡ at (start .args .frame .now) (c .before .before .loop .i)
+number c =
+    let start : tie.Start Inv-loop μ-loop = search in
+    toZ-ofZ (fit w16 (at (start .args .frame .now) (c .before .before .loop .i)) (c .total-arg .given))
 
-sum : (c : tie.After-total-arg2 Inv-loop μ-loop) → toZ w32 (ofZ w32 (at (c .before .before .before .loop .sums) (c .before .before .before .loop .i))) ≡ at (c .before .before .before .before .args .sums .now) (c .before .before .before .loop .i)
-sum c = toZ-ofZ (fit w32 (at (c .before .before .before .loop .sums) (c .before .before .before .loop .i)) (c .total-arg2 .given)) ∙ ap (λ l. at l (c .before .before .before .loop .i)) (c .before .before .before .loop .inv .1)
-    ∙ fill-at (c .before .before .before .loop .i) (totalsOf (c .before .before .before .before .args .frame .now) (c .before .before .before .before .args .sums .now)) (c .before .before .before .before .args .sums .now) (pos 0)
+sum : (c : tie.After-total-arg2 Inv-loop μ-loop)
+    → let start = c .before .before .before .before in let turn = c .before .before .before in toZ w32 (ofZ w32 (at (turn .loop .sums) (turn .loop .i))) ≡ at (start .args .sums .now) (turn .loop .i)
+sum c =
+    let turn : tie.At-loop Inv-loop μ-loop = search in
+    let start : tie.Start Inv-loop μ-loop = search in
+    toZ-ofZ (fit w32 (at (turn .loop .sums) (turn .loop .i)) (c .total-arg2 .given)) ∙ ap (λ l. at l (turn .loop .i)) (turn .loop .inv .1)
+    ∙ fill-at (turn .loop .i) (totalsOf (start .args .frame .now) (start .args .sums .now)) (start .args .sums .now) (pos 0)
 
 total-requires : tie.Need-total-requires Inv-loop μ-loop
-total-requires c κs = (
-  subst (Within frameLimit) (sym (number (c .before))) (within-at frameLimit (c .before .before .before .before .args .frame .now) (c .before .before .before .before .pre .1) (c .before .before .before .loop .i)),
-  subst (Within sumLimit) (sym (sum (c))) (within-at sumLimit (c .before .before .before .before .args .sums .now) (c .before .before .before .before .pre .2) (c .before .before .before .loop .i)),
-)
+total-requires c κs =
+    let turn : tie.At-loop Inv-loop μ-loop = search in
+    let start : tie.Start Inv-loop μ-loop = search in (
+      subst (Within frameLimit) (sym (number (c .before))) (within-at frameLimit (start .args .frame .now) (start .pre .1) (turn .loop .i)),
+      subst (Within sumLimit) (sym (sum (c))) (within-at sumLimit (start .args .sums .now) (start .pre .2) (turn .loop .i)),
+    )
 
 loop-less : tie.Need-loop-less Inv-loop μ-loop
-loop-less c = omega (arith, inside (c .before .before .before))
+loop-less c =
+    let inner : tie.In-loop Inv-loop μ-loop = search in
+    omega (arith, inside (inner))
 
 loop-again : tie.Need-loop-again Inv-loop μ-loop
 loop-again c =
-    let l = c .before .before .before .before .before .args .frame .now in
-    let x = c .before .before .before .before .before .args .sums .now in
-    let i = c .before .before .before .before .loop .i in
-    let here = inside (c .before .before .before) in (
+    let inner : tie.In-loop Inv-loop μ-loop = search in
+    let turn : tie.At-loop Inv-loop μ-loop = search in
+    let start : tie.Start Inv-loop μ-loop = search in
+    let l = start .args .frame .now in
+    let x = start .args .sums .now in
+    let i = turn .loop .i in
+    let here = inside (inner) in (
       omega (arith, here),
-      fill-more i (totalsOf l x) x (c .before .before .before .before .loop .sums) _ (pos 0) (omega (arith, here, first-length (length x) (λ i. at l i +ℤ at x i)))
+      fill-more i (totalsOf l x) x (turn .loop .sums) _ (pos 0) (omega (arith, here, first-length (length x) (λ i. at l i +ℤ at x i)))
           (toZ-ofZ (fit w32 (c .total .result) (c .total .ok)) ∙ c .total .ensures ∙ ap₂ _+ℤ_ (number (c .before .before)) (sum (c .before)) ∙ sym (first-at (length x) (λ i. at l i +ℤ at x i) i here))
-          (c .before .before .before .before .loop .inv .1),
+          (turn .loop .inv .1),
     )
 
 same-length : tie.Need-same-length Inv-loop μ-loop

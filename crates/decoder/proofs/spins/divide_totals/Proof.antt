@@ -52,7 +52,8 @@ loop-again c =
     let read = toZ-ofZ (fit w32 (at (args .totals .now) (loop .i)) (c .before .before .quotient-of-arg .given)) in (
       omega (arith, here),
       fill-more (loop .i) (firstOf n f) (args .spins .now) (loop .spins) _ (pos 0) (omega (arith, here, first-length n f))
-          (toZ-ofZ (fit w32 (c .quotient-of .result) (c .quotient-of .ok)) ∙ c .quotient-of .ensures ∙ ap (λ t. divided t (getD (args .degrees .now) (loop .i) 0)) read ∙ sym (first-at n f (loop .i) here))
+          (toZ-ofZ (fit w32 (c .quotient-of .result) (c .quotient-of .ok)) ∙ c .quotient-of .ensures ∙ ap (λ t. divided t (getD (args .degrees .now) (loop .i) 0)) read
+          ∙ sym (first-at n f (loop .i) here))
           (loop .inv .1),
     )
 

@@ -15,13 +15,23 @@ add-frame-requires : tie.Need-add-frame-requires
 add-frame-requires c κs = (c .before .before .pre .size ∙ sym (c .before .before .pre .sumsLong), c .before .before .pre .frame, c .before .before .pre .sums)
 
 divide-totals-requires : tie.Need-divide-totals-requires
-divide-totals-requires c κs = subst (λ t. TotalsFit (length (c .before .before .before .before .before .before .args .spins .now)) t (c .before .before .before .before .before .before .args .degrees .now)) (sym (c .before .before .before .add-frame .ensures)) (totals-fit (c .before .before .before .before .before .before .pre))
+divide-totals-requires c κs =
+    let after-add-frame : tie.After-add-frame = search in
+    let start : tie.Start = search in
+    subst (λ t. TotalsFit (length (start .args .spins .now)) t (start .args .degrees .now)) (sym (after-add-frame .add-frame .ensures)) (totals-fit (start .pre))
 
 returns : tie.Need-returns
-returns c = record {
-  spins = c .before .clip-all .ensures ∙ ap (clips unit) (c .before .before .before .before .before .before .before .divide-totals .ensures ∙ ap (λ t. firstOf (length (c .before .before .before .before .before .before .before .before .before .before .before .before .before .before .args .spins .now)) (quotientAt t (c .before .before .before .before .before .before .before .before .before .before .before .before .before .before .args .degrees .now))) (c .before .before .before .before .before .before .before .before .before .before .before .add-frame .ensures)) ∙ spins-are (c .before .before .before .before .before .before .before .before .before .before .before .before .before .before .pre);
-  sums = c .before .before .before .before .clear .ensures ∙ ap zeros (c .before .before .before .before .before .before .before .before .before .before .before .add-frame .kept .1 .0 ∙ c .before .before .before .before .before .before .before .before .before .before .before .before .before .before .pre .sumsLong);
-}
+returns c =
+    let after-clear : tie.After-clear = search in
+    let after-divide-totals : tie.After-divide-totals = search in
+    let after-add-frame : tie.After-add-frame = search in
+    let start : tie.Start = search in
+    record {
+      spins = c .before .clip-all .ensures
+          ∙ ap (clips unit) (after-divide-totals .divide-totals .ensures
+          ∙ ap (λ t. firstOf (length (start .args .spins .now)) (quotientAt t (start .args .degrees .now))) (after-add-frame .add-frame .ensures)) ∙ spins-are (start .pre);
+      sums = after-clear .clear .ensures ∙ ap zeros (after-add-frame .add-frame .kept .1 .0 ∙ start .pre .sumsLong);
+    }
 
 pub find-spins-spec : {M : Type 1} → statement M
 find-spins-spec =

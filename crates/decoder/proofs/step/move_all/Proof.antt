@@ -28,76 +28,131 @@ long : (c : tie.At-loop Inv-loop μ-loop) → length (c .loop .offsets) ≡ leng
 long c = moving-long (c .before .before .pre) (c .loop .inv) .1
 
 -- there is a member i
-here : (c : tie.In-loop Inv-loop μ-loop) → c .before .loop .i < length (c .before .before .before .args .offsets .now)
+here : (c : tie.In-loop Inv-loop μ-loop)
+    → let start = c .before .before .before in c .before .loop .i < length (start .args .offsets .now)
 here c = omega (arith, long (c .before), c .loop-test)
 
 mul-v : tie.Need-mul-v Inv-loop μ-loop
 mul-v c = omega (arith, here c)
 
 holds-requires : tie.Need-holds-requires Inv-loop μ-loop
-holds-requires c κs = omega (arith, here (c .before), c .before .before .before .before .pre .few)
+holds-requires c κs =
+    let start : tie.Start Inv-loop μ-loop = search in
+    omega (arith, here (c .before), start .pre .few)
 
 -- the value that is moved, and as it was read
 abbrev valueAt : tie.At-loop Inv-loop μ-loop → ℤ
 valueAt l = at (l .before .before .args .offsets .now) (l .loop .i)
 
 value : (c : tie.After-v Inv-loop μ-loop) → toZ w32 (ofZ w32 (at (c .before .before .loop .offsets) (c .before .before .loop .i))) ≡ valueAt (c .before .before)
-value c = toZ-ofZ (fit w32 (at (c .before .before .loop .offsets) (c .before .before .loop .i)) (c .v .given)) ∙ moving-at (c .before .before .before .before .pre) (c .before .before .loop .inv)
+value c =
+    let start : tie.Start Inv-loop μ-loop = search in
+    toZ-ofZ (fit w32 (at (c .before .before .loop .offsets) (c .before .before .loop .i)) (c .v .given)) ∙ moving-at (start .pre) (c .before .before .loop .inv)
 
 small : (c : tie.At-loop Inv-loop μ-loop) → Within valueLimit (valueAt c)
 small c = within-at valueLimit (c .before .before .args .offsets .now) (c .before .before .pre .small) (c .loop .i)
 
 moved-requires : tie.Need-moved-requires Inv-loop μ-loop
-moved-requires c κs = (subst (Within valueLimit) (sym (value (c .before))) (small (c .before .before .before)), c .before .before .before .before .before .pre .bounded)
+moved-requires c κs =
+    let turn : tie.At-loop Inv-loop μ-loop = search in
+    let start : tie.Start Inv-loop μ-loop = search in
+    (subst (Within valueLimit) (sym (value (c .before))) (small (turn)), start .pre .bounded)
 
 -- where it goes to, and its offset, as they were read
-copy : (c : tie.After-moved Inv-loop μ-loop) → toZ w32 (ofZ w32 (c .moved .result)) ≡ move unit (c .before .before .before .before .before .before .args .b) (c .before .holds .result) (valueAt (c .before .before .before .before))
-copy c = toZ-ofZ (fit w32 (c .moved .result) (c .moved .ok)) ∙ c .moved .ensures ∙ ap (move unit (c .before .before .before .before .before .before .args .b) (c .before .holds .result)) (value (c .before .before))
+copy : (c : tie.After-moved Inv-loop μ-loop)
+    → let start = c .before .before .before .before .before .before in let turn = c .before .before .before .before in
+    toZ w32 (ofZ w32 (c .moved .result)) ≡ move unit (start .args .b) (c .before .holds .result) (valueAt (turn))
+copy c =
+    let start : tie.Start Inv-loop μ-loop = search in
+    toZ-ofZ (fit w32 (c .moved .result) (c .moved .ok)) ∙ c .moved .ensures ∙ ap (move unit (start .args .b) (c .before .holds .result)) (value (c .before .before))
 
 sub-y : tie.Need-sub-y Inv-loop μ-loop
-sub-y c = subst (SFits w32) (sym (ap₂ _-ℤ_ (value (c .before .before)) (copy c))) (offset-fits _ _ (small (c .before .before .before .before)) (clip-within unit _))
+sub-y c =
+    let turn : tie.At-loop Inv-loop μ-loop = search in
+    subst (SFits w32) (sym (ap₂ _-ℤ_ (value (c .before .before)) (copy c))) (offset-fits _ _ (small (turn)) (clip-within unit _))
 
-offset : (c : tie.After-moved Inv-loop μ-loop) → toZ w32 (ofZ w32 (toZ w32 (ofZ w32 (at (c .before .before .before .before .loop .offsets) (c .before .before .before .before .loop .i))) -ℤ toZ w32 (ofZ w32 (c .moved .result)))) ≡ valueAt (c .before .before .before .before) -ℤ toZ w32 (ofZ w32 (c .moved .result))
+offset : (c : tie.After-moved Inv-loop μ-loop)
+    → let turn = c .before .before .before .before in
+    toZ w32 (ofZ w32 (toZ w32 (ofZ w32 (at (turn .loop .offsets) (turn .loop .i))) -ℤ toZ w32 (ofZ w32 (c .moved .result)))) ≡ valueAt (turn) -ℤ toZ w32 (ofZ w32 (c .moved .result))
 offset c = toZ-ofZ (sub-y c) ∙ ap (λ v. v -ℤ toZ w32 (ofZ w32 (c .moved .result))) (value (c .before .before))
 
 store-signed-requires : tie.Need-store-signed-requires Inv-loop μ-loop
-store-signed-requires c κs = omega (arith, moving-long (c .before .before .before .before .before .before .before .pre) (c .before .before .before .before .before .loop .inv) .0, here (c .before .before .before .before))
+store-signed-requires c κs =
+    let inner : tie.In-loop Inv-loop μ-loop = search in
+    let turn : tie.At-loop Inv-loop μ-loop = search in
+    let start : tie.Start Inv-loop μ-loop = search in
+    omega (arith, moving-long (start .pre) (turn .loop .inv) .0, here (inner))
 
 store-signed-requires-2 : tie.Need-store-signed-requires-2 Inv-loop μ-loop
-store-signed-requires-2 c κs = omega (arith, long (c .before .before .before .before .before .before .before .before), here (c .before .before .before .before .before .before .before))
+store-signed-requires-2 c κs =
+    let inner : tie.In-loop Inv-loop μ-loop = search in
+    let turn : tie.At-loop Inv-loop μ-loop = search in
+    omega (arith, long (turn), here (inner))
 
 shared-slice-read-add-at : tie.Need-shared-slice-read-add-at Inv-loop μ-loop
-shared-slice-read-add-at c = omega (arith, here (c .before .before .before .before .before .before .before .before .before .before .before), c .before .before .before .before .before .before .before .before .before .before .before .before .before .before .pre .membersLong)
+shared-slice-read-add-at c =
+    let inner : tie.In-loop Inv-loop μ-loop = search in
+    let start : tie.Start Inv-loop μ-loop = search in
+    omega (arith, here (inner), start .pre .membersLong)
 
 sub-add-at : tie.Need-sub-add-at Inv-loop μ-loop
-sub-add-at c = weight-fits (c .before .before .before .before .before .before .before .before .before .before .before .before .before .before .pre) (c .before .before .before .before .before .before .before .before .before .before .before .before .loop .inv) (here (c .before .before .before .before .before .before .before .before .before .before .before)) (c .before .before .before .before .before .before .before .before .before .holds .ensures) (copy (c .before .before .before .before .before .before .before .before)) (offset (c .before .before .before .before .before .before .before .before))
+sub-add-at c =
+    let after-moved : tie.After-moved Inv-loop μ-loop = search in
+    let after-holds : tie.After-holds Inv-loop μ-loop = search in
+    let inner : tie.In-loop Inv-loop μ-loop = search in
+    let turn : tie.At-loop Inv-loop μ-loop = search in
+    let start : tie.Start Inv-loop μ-loop = search in
+    weight-fits (start .pre) (turn .loop .inv) (here (inner)) (after-holds .holds .ensures) (copy (after-moved)) (offset (after-moved))
 
 add-at-requires : tie.Need-add-at-requires Inv-loop μ-loop
-add-at-requires c κs = (
-  inside (c .before .before .before .before .before .before .before .before .before .before .before .before .before .before .pre) (c .before .before .before .before .before .before .before .before .before .before .before .before .loop .inv) (here (c .before .before .before .before .before .before .before .before .before .before .before)) (c .before .before .before .before .before .before .before .before .before .holds .ensures) (copy (c .before .before .before .before .before .before .before .before)) (offset (c .before .before .before .before .before .before .before .before)),
-  subst (λ w. SFits w32 (at (c .before .before .before .before .before .before .before .before .before .before .before .before .loop .sums) (getD (c .before .before .before .before .before .before .before .before .before .before .before .before .before .before .args .members .now) (c .before .before .before .before .before .before .before .before .before .before .before .before .loop .i) 0) +ℤ w)) (sym (toZ-ofZ (sub-add-at c)))
-      (sum-fits (c .before .before .before .before .before .before .before .before .before .before .before .before .before .before .pre) (c .before .before .before .before .before .before .before .before .before .before .before .before .loop .inv) (here (c .before .before .before .before .before .before .before .before .before .before .before)) (c .before .before .before .before .before .before .before .before .before .holds .ensures) (copy (c .before .before .before .before .before .before .before .before)) (offset (c .before .before .before .before .before .before .before .before))),
-)
+add-at-requires c κs =
+    let after-moved : tie.After-moved Inv-loop μ-loop = search in
+    let after-holds : tie.After-holds Inv-loop μ-loop = search in
+    let inner : tie.In-loop Inv-loop μ-loop = search in
+    let turn : tie.At-loop Inv-loop μ-loop = search in
+    let start : tie.Start Inv-loop μ-loop = search in (
+      inside (start .pre) (turn .loop .inv) (here (inner)) (after-holds .holds .ensures) (copy (after-moved)) (offset (after-moved)),
+      subst (λ w. SFits w32 (at (turn .loop .sums) (getD (start .args .members .now) (turn .loop .i) 0) +ℤ w)) (sym (toZ-ofZ (sub-add-at c)))
+          (sum-fits (start .pre) (turn .loop .inv) (here (inner)) (after-holds .holds .ensures) (copy (after-moved)) (offset (after-moved))),
+    )
 
 loop-less : tie.Need-loop-less Inv-loop μ-loop
-loop-less c = omega (arith, here (c .before .before .before .before .before .before .before .before .before .before .before .before .before))
+loop-less c =
+    let inner : tie.In-loop Inv-loop μ-loop = search in
+    omega (arith, here (inner))
 
 loop-again : tie.Need-loop-again Inv-loop μ-loop
-loop-again c = moving-next (c .before .before .before .before .before .before .before .before .before .before .before .before .before .before .before .before .pre) (c .before .before .before .before .before .before .before .before .before .before .before .before .before .before .loop .inv) (here (c .before .before .before .before .before .before .before .before .before .before .before .before .before)) (c .before .before .before .before .before .before .before .before .before .before .before .holds .ensures) (copy (c .before .before .before .before .before .before .before .before .before .before)) (offset (c .before .before .before .before .before .before .before .before .before .before))
-    (c .before .before .before .before .before .before .before .before .store-signed .ensures) (c .before .before .before .before .before .store-signed2 .ensures)
-    (c .before .add-at .ensures ∙ ap (λ w. set (c .before .before .before .before .before .before .before .before .before .before .before .before .before .before .loop .sums) (getD (c .before .before .before .before .before .before .before .before .before .before .before .before .before .before .before .before .args .members .now) (c .before .before .before .before .before .before .before .before .before .before .before .before .before .before .loop .i) 0) (at (c .before .before .before .before .before .before .before .before .before .before .before .before .before .before .loop .sums) (getD (c .before .before .before .before .before .before .before .before .before .before .before .before .before .before .before .before .args .members .now) (c .before .before .before .before .before .before .before .before .before .before .before .before .before .before .loop .i) 0) +ℤ w)) (toZ-ofZ (sub-add-at (c .before .before))))
+loop-again c =
+    let after-store-signed2 : tie.After-store-signed2 Inv-loop μ-loop = search in
+    let after-store-signed : tie.After-store-signed Inv-loop μ-loop = search in
+    let after-moved : tie.After-moved Inv-loop μ-loop = search in
+    let after-holds : tie.After-holds Inv-loop μ-loop = search in
+    let inner : tie.In-loop Inv-loop μ-loop = search in
+    let turn : tie.At-loop Inv-loop μ-loop = search in
+    let start : tie.Start Inv-loop μ-loop = search in
+    moving-next (start .pre) (turn .loop .inv) (here (inner)) (after-holds .holds .ensures) (copy (after-moved)) (offset (after-moved))
+    (after-store-signed .store-signed .ensures) (after-store-signed2 .store-signed2 .ensures)
+    (c .before .add-at .ensures
+    ∙ ap (λ w. set (turn .loop .sums) (getD (start .args .members .now) (turn .loop .i) 0) (at (turn .loop .sums) (getD (start .args .members .now) (turn .loop .i) 0) +ℤ w))
+    (toZ-ofZ (sub-add-at (c .before .before))))
 
 same-length : tie.Need-same-length Inv-loop μ-loop
-same-length c = omega (arith, moving-long (c .before .before .before .pre) (c .before .loop .inv) .0, c .before .before .before .pre .copiesLong)
+same-length c =
+    let start : tie.Start Inv-loop μ-loop = search in
+    omega (arith, moving-long (start .pre) (c .before .loop .inv) .0, start .pre .copiesLong)
 
 same-length-2 : tie.Need-same-length-2 Inv-loop μ-loop
 same-length-2 c = long (c .before)
 
 same-length-3 : tie.Need-same-length-3 Inv-loop μ-loop
-same-length-3 c = moving-long (c .before .before .before .pre) (c .before .loop .inv) .2
+same-length-3 c =
+    let start : tie.Start Inv-loop μ-loop = search in
+    moving-long (start .pre) (c .before .loop .inv) .2
 
 returns : tie.Need-returns Inv-loop μ-loop
-returns c = moving-last (c .before .before .before .pre) (c .before .loop .inv) (omega (arith, long (c .before), c .loop-test))
+returns c =
+    let start : tie.Start Inv-loop μ-loop = search in
+    moving-last (start .pre) (c .before .loop .inv) (omega (arith, long (c .before), c .loop-test))
 
 pub move-all-spec : {M : Type 1} → statement M
 move-all-spec =

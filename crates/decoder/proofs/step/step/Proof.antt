@@ -8,23 +8,29 @@ use Rattle.decoder.proofs.step.step.Tie as tie
 
 step-of-requires : tie.Need-step-of-requires
 step-of-requires c κs =
-    let a = c .before .before .before .before .before .before .args in
-    part-asks 6 (a .spins .now) (a .members .now) (a .copies .now) (a .offsets .now) (a .sums .now) (omega arith) (c .before .before .before .before .before .before .pre)
+    let start : tie.Start = search in
+    let a = start .args in
+    part-asks 6 (a .spins .now) (a .members .now) (a .copies .now) (a .offsets .now) (a .sums .now) (omega arith) (start .pre)
 
 returns : tie.Need-returns
 returns c =
-    let a = c .before .before .before .before .before .before .before .before .before .before .args in
-    part-left 6 (a .spins .now) (a .members .now) (a .copies .now) (a .offsets .now) (a .sums .now) (omega arith) (c .before .before .before .before .before .before .before .before .before .before .pre) _ _ _ _ _ (c .before .before .before .step-of .ensures)
+    let after-step-of : tie.After-step-of = search in
+    let start : tie.Start = search in
+    let a = start .args in
+    part-left 6 (a .spins .now) (a .members .now) (a .copies .now) (a .offsets .now) (a .sums .now) (omega arith) (start .pre) _ _ _ _ _ (after-step-of .step-of .ensures)
 
 step-of-requires-2 : tie.Need-step-of-requires-2
 step-of-requires-2 c κs =
-    let a = c .before .before .before .before .before .before .before .args in
-    part-asks 8 (a .spins .now) (a .members .now) (a .copies .now) (a .offsets .now) (a .sums .now) (omega arith) (c .before .before .before .before .before .before .before .pre)
+    let start : tie.Start = search in
+    let a = start .args in
+    part-asks 8 (a .spins .now) (a .members .now) (a .copies .now) (a .offsets .now) (a .sums .now) (omega arith) (start .pre)
 
 returns-2 : tie.Need-returns-2
 returns-2 c =
-    let a = c .before .before .before .before .before .before .before .before .before .before .before .args in
-    part-left 8 (a .spins .now) (a .members .now) (a .copies .now) (a .offsets .now) (a .sums .now) (omega arith) (c .before .before .before .before .before .before .before .before .before .before .before .pre) _ _ _ _ _ (c .before .before .before .step-of2 .ensures)
+    let after-step-of2 : tie.After-step-of2 = search in
+    let start : tie.Start = search in
+    let a = start .args in
+    part-left 8 (a .spins .now) (a .members .now) (a .copies .now) (a .offsets .now) (a .sums .now) (omega arith) (start .pre) _ _ _ _ _ (after-step-of2 .step-of2 .ensures)
 
 pub step-spec : {M : Type 1} → statement M
 step-spec =

@@ -11,22 +11,36 @@ use Rattle.decoder.proofs.step.step_of.Tie as tie
 
 multiplier-for-requires : tie.Need-multiplier-for-requires
 multiplier-for-requires c κs f =
-    let a = c .before .before .before .before .before .before .before .before .before .before .args in
-    subst (Rising _) (sym (toZ-ofZ (fit w32 (c .before .before .before .see .result .top) search)))
-    (multiplier-asks (a .spins .now) (a .members .now) (a .copies .now) (a .offsets .now) (a .sums .now) _ (c .before .before .before .before .before .before .before .before .before .before .pre) (c .before .before .before .before .before .before .before .add-spins .ensures) _ _
-    (c .before .before .before .see .result .mask) (c .before .before .before .see .result .top) (c .before .before .before .see .ensures) f)
+    let after-see : tie.After-see = search in
+    let after-add-spins : tie.After-add-spins = search in
+    let start : tie.Start = search in
+    let a = start .args in
+    subst (Rising _) (sym (toZ-ofZ (fit w32 (after-see .see .result .top) search)))
+    (multiplier-asks (a .spins .now) (a .members .now) (a .copies .now) (a .offsets .now) (a .sums .now) _ (start .pre) (after-add-spins .add-spins .ensures) _ _
+    (after-see .see .result .mask) (after-see .see .result .top) (after-see .see .ensures) f)
 
 move-all-requires : tie.Need-move-all-requires
 move-all-requires c κs =
-    let a = c .before .before .before .before .before .before .before .before .before .before .before .before .before .before .args in
-    move-asks (a .spins .now) (a .members .now) (a .copies .now) (a .offsets .now) (a .sums .now) _ (c .before .before .before .before .before .before .before .before .before .before .before .before .before .before .pre) (c .before .before .before .before .before .before .before .before .before .before .before .add-spins .ensures) _ _ (c .before .before .before .before .before .before .before .see .result .mask) (c .before .before .before .before .before .before .before .see .result .top) (c .before .before .before .before .before .before .before .see .ensures)
-    (c .before .before .before .multiplier-for .result) (c .before .before .before .multiplier-for .ensures)
+    let after-multiplier-for : tie.After-multiplier-for = search in
+    let after-see : tie.After-see = search in
+    let after-add-spins : tie.After-add-spins = search in
+    let start : tie.Start = search in
+    let a = start .args in
+    move-asks (a .spins .now) (a .members .now) (a .copies .now) (a .offsets .now) (a .sums .now) _ (start .pre) (after-add-spins .add-spins .ensures) _ _
+    (after-see .see .result .mask) (after-see .see .result .top) (after-see .see .ensures)
+    (after-multiplier-for .multiplier-for .result) (after-multiplier-for .multiplier-for .ensures)
 
 returns : tie.Need-returns
 returns c =
-    let a = c .before .before .before .before .before .before .before .before .before .before .before .before .before .before .before .before .before .before .args in
-    step-left (a .spins .now) (a .members .now) (a .copies .now) (a .offsets .now) (a .sums .now) _ (c .before .before .before .before .before .before .before .before .before .before .before .before .before .before .before .before .before .before .pre) (c .before .before .before .before .before .before .before .before .before .before .before .before .before .before .before .add-spins .ensures) _ _ (c .before .before .before .before .before .before .before .before .before .before .before .see .result .mask) (c .before .before .before .before .before .before .before .before .before .before .before .see .result .top) (c .before .before .before .before .before .before .before .before .before .before .before .see .ensures)
-    (c .before .before .before .before .before .before .before .multiplier-for .result) (c .before .before .before .before .before .before .before .multiplier-for .ensures) _ _ _ (c .before .before .before .move-all .ensures)
+    let after-move-all : tie.After-move-all = search in
+    let after-multiplier-for : tie.After-multiplier-for = search in
+    let after-see : tie.After-see = search in
+    let after-add-spins : tie.After-add-spins = search in
+    let start : tie.Start = search in
+    let a = start .args in
+    step-left (a .spins .now) (a .members .now) (a .copies .now) (a .offsets .now) (a .sums .now) _ (start .pre) (after-add-spins .add-spins .ensures) _ _
+    (after-see .see .result .mask) (after-see .see .result .top) (after-see .see .ensures)
+    (after-multiplier-for .multiplier-for .result) (after-multiplier-for .multiplier-for .ensures) _ _ _ (after-move-all .move-all .ensures)
 
 pub step-of-spec : {M : Type 1} → statement M
 step-of-spec =

@@ -33,30 +33,50 @@ cast-all-within : tie.Need-cast-all-within
 cast-all-within c = search needs
 
 -- the limit is the product itself
-limit-is : (c : tie.Else2) → toZ w32 (offsetPerRound * c .before .before .before .before .args .rounds) ≡ pos (offsetPerRound * c .before .before .before .before .args .rounds)
+limit-is : (c : tie.Else2)
+    → let start = c .before .before .before .before in toZ w32 (offsetPerRound * start .args .rounds) ≡ pos (offsetPerRound * start .args .rounds)
 limit-is c = toZ-pos w32 (cast-all-within c .sfits)
 
 all-within-requires-2 : tie.Need-all-within-requires-2
 all-within-requires-2 c κs = rw (limit-is c) (simp lin (omega arithZ))
 
 -- what both tests have said
-copies-within : (c : tie.Else2) → eachWithin unit (c .before .before .before .before .args .copies .now) ≡ true
+copies-within : (c : tie.Else2)
+    → let start = c .before .before .before .before in eachWithin unit (start .args .copies .now) ≡ true
 copies-within c = sym (c .before .all-within .ensures) ∙ not-false _ (c .if2 .left)
 
-offsets-are : (c : tie.After-all-within2) → c .all-within2 .result ≡ eachWithin (offsetPerRound * c .before .before .before .before .before .args .rounds) (c .before .before .before .before .before .args .offsets .now)
-offsets-are c = c .all-within2 .ensures ∙ ap (λ z. eachWithin (natAbs z) (c .before .before .before .before .before .args .offsets .now)) (limit-is (c .before))
+offsets-are : (c : tie.After-all-within2)
+    → let start = c .before .before .before .before .before in c .all-within2 .result ≡ eachWithin (offsetPerRound * start .args .rounds) (start .args .offsets .now)
+offsets-are c =
+    let start : tie.Start = search in
+    c .all-within2 .ensures ∙ ap (λ z. eachWithin (natAbs z) (start .args .offsets .now)) (limit-is (c .before))
 
 returns-3 : tie.Need-returns-3
-returns-3 c = sound-offsets _ _ _ _ _ _ (early (c .before .before .before .before)) (copies-within (c .before .before)) (sym (offsets-are (c .before)) ∙ not-true _ (c .if3 .taken))
+returns-3 c =
+    let after-all-within : tie.After-all-within = search in
+    sound-offsets _ _ _ _ _ _ (early (after-all-within .before)) (copies-within (c .before .before)) (sym (offsets-are (c .before)) ∙ not-true _ (c .if3 .taken))
 
-offsets-within : (c : tie.Else3) → eachWithin (offsetPerRound * c .before .before .before .before .before .before .args .rounds) (c .before .before .before .before .before .before .args .offsets .now) ≡ true
+offsets-within : (c : tie.Else3)
+    → let start = c .before .before .before .before .before .before in eachWithin (offsetPerRound * start .args .rounds) (start .args .offsets .now) ≡ true
 offsets-within c = sym (offsets-are (c .before)) ∙ not-false _ (c .if3 .left)
 
 are-true-requires : tie.Need-are-true-requires
-are-true-requires c κs = (c .before .before .before .before .before .before .pre, (each-all unit (c .before .before .before .before .before .before .args .copies .now) (copies-within (c .before .before)), offsets-small (c .before .before .before .before .before .before .args .rounds) (c .before .before .before .before .before .before .args .offsets .now) (early (c .before .before .before .before)) (offsets-within c)))
+are-true-requires c κs =
+    let after-all-within : tie.After-all-within = search in
+    let start : tie.Start = search in (
+      start .pre,
+      (
+        each-all unit (start .args .copies .now) (copies-within (c .before .before)),
+        offsets-small (start .args .rounds) (start .args .offsets .now)
+            (early (after-all-within .before)) (offsets-within c),
+      ),
+    )
 
 returns-4 : tie.Need-returns-4
-returns-4 c = c .are-true .ensures ∙ sound-sums _ _ _ _ _ _ (early (c .before .before .before .before .before)) (copies-within (c .before .before .before)) (offsets-within (c .before))
+returns-4 c =
+    let else2 : tie.Else2 = search in
+    let after-all-within : tie.After-all-within = search in
+    c .are-true .ensures ∙ sound-sums _ _ _ _ _ _ (early (after-all-within .before)) (copies-within (else2)) (offsets-within (c .before))
 
 pub is-sound-spec : {M : Type 1} → statement M
 is-sound-spec =

@@ -22,15 +22,28 @@ abbrev μ-loop : tie.MeasureT-loop
 μ-loop xs ys i₀ i = length xs - i
 
 -- what the test of the two numbers at i has answered
-answer : (c : tie.After-equal Inv-loop μ-loop) → c .equal .result ≡ isZero (at (c .before .before .before .before .before .args .xs .now) (c .before .before .before .before .loop .i) -ℤ at (c .before .before .before .before .before .args .ys .now) (c .before .before .before .before .loop .i))
-answer c = c .equal .ensures ∙ ap₂ (λ x y. isZero (x -ℤ y)) (toZ-ofZ (fit w32 (at (c .before .before .before .before .before .args .xs .now) (c .before .before .before .before .loop .i)) (c .before .before .equal-arg .given)))
-    (toZ-ofZ (fit w32 (at (c .before .before .before .before .before .args .ys .now) (c .before .before .before .before .loop .i)) (c .before .equal-arg2 .given)))
+answer : (c : tie.After-equal Inv-loop μ-loop)
+    → let start = c .before .before .before .before .before in let turn = c .before .before .before .before in
+    c .equal .result ≡ isZero (at (start .args .xs .now) (turn .loop .i) -ℤ at (start .args .ys .now) (turn .loop .i))
+answer c =
+    let turn : tie.At-loop Inv-loop μ-loop = search in
+    let start : tie.Start Inv-loop μ-loop = search in
+    c .equal .ensures ∙ ap₂ (λ x y. isZero (x -ℤ y)) (toZ-ofZ (fit w32 (at (start .args .xs .now) (turn .loop .i)) (c .before .before .equal-arg .given)))
+    (toZ-ofZ (fit w32 (at (start .args .ys .now) (turn .loop .i)) (c .before .equal-arg2 .given)))
 
 returns : tie.Need-returns Inv-loop μ-loop
-returns c = same-not _ _ _ (c .before .before .before .before .before .loop .inv .1) (c .before .before .before .before .loop-test .taken) (omega (arith, c .before .before .before .before .before .before .pre)) (sym (answer (c .before)) ∙ not-true _ (c .if1 .taken))
+returns c =
+    let inner : tie.In-loop Inv-loop μ-loop = search in
+    let turn : tie.At-loop Inv-loop μ-loop = search in
+    let start : tie.Start Inv-loop μ-loop = search in
+    same-not _ _ _ (turn .loop .inv .1) (inner .loop-test .taken) (omega (arith, start .pre)) (sym (answer (c .before)) ∙ not-true _ (c .if1 .taken))
 
 loop-again : tie.Need-loop-again Inv-loop μ-loop
-loop-again c = (omega arith, same-more _ _ _ (c .before .before .before .before .before .loop .inv .1) (c .before .before .before .before .loop-test .taken) (omega (arith, c .before .before .before .before .before .before .pre)) (sym (answer (c .before)) ∙ not-false _ (c .if1 .left)))
+loop-again c =
+    let inner : tie.In-loop Inv-loop μ-loop = search in
+    let turn : tie.At-loop Inv-loop μ-loop = search in
+    let start : tie.Start Inv-loop μ-loop = search in
+    (omega arith, same-more _ _ _ (turn .loop .inv .1) (inner .loop-test .taken) (omega (arith, start .pre)) (sym (answer (c .before)) ∙ not-false _ (c .if1 .left)))
 
 returns-2 : tie.Need-returns-2 Inv-loop μ-loop
 returns-2 c = same-all _ _ _ (c .before .loop .inv .1) (c .before .before .pre) (c .loop-test .left)

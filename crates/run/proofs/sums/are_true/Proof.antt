@@ -12,16 +12,25 @@ add-edges-requires : tie.Need-add-edges-requires
 add-edges-requires c κs = edges-fit (c .before .before .pre .0) (c .before .before .pre .1 .0) (c .before .before .pre .1 .1)
 
 array-share-prefix-found : tie.Need-array-share-prefix-found
-array-share-prefix-found c = part-there (c .before .before .before .before .pre .0) (c .before .add-edges .ensures) _
+array-share-prefix-found c =
+    let start : tie.Start = search in
+    part-there (start .pre .0) (c .before .add-edges .ensures) _
 
 slice-aggregate-all-same : tie.Need-slice-aggregate-all-same
-slice-aggregate-all-same c = part-long (c .before .before .before .before .before .pre .0) (c .before .before .add-edges .ensures) _
+slice-aggregate-all-same c =
+    let start : tie.Start = search in
+    part-long (start .pre .0) (c .before .before .add-edges .ensures) _
 
 all-same-requires : tie.Need-all-same-requires
-all-same-requires c κs = part-long (c .before .before .before .before .before .pre .0) (c .before .before .add-edges .ensures) _
+all-same-requires c κs =
+    let start : tie.Start = search in
+    part-long (start .pre .0) (c .before .before .add-edges .ensures) _
 
 returns : tie.Need-returns
-returns c = c .all-same .ensures ∙ ap (same (c .before .before .before .before .before .before .args .sums .now)) (part-true (c .before .before .before .before .before .before .pre .0) (c .before .before .before .add-edges .ensures) _)
+returns c =
+    let after-add-edges : tie.After-add-edges = search in
+    let start : tie.Start = search in
+    c .all-same .ensures ∙ ap (same (start .args .sums .now)) (part-true (start .pre .0) (after-add-edges .add-edges .ensures) _)
 
 pub are-true-spec : {M : Type 1} → statement M
 are-true-spec =
