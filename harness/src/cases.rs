@@ -20,7 +20,7 @@ pub struct Run {
     pub frame: Vec<i16>,
     pub record: Record,
     pub state: State,
-    /// What is lent to a start, if the list begins with one; only copies, offsets and sums count.
+    /// What is lent to a start, if the list begins with one; only the lengths of `StartBuffers` count.
     pub start: Option<Lengths>,
     pub calls: Vec<(u32, Lengths)>,
 }

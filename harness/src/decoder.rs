@@ -1,6 +1,6 @@
 //! What every decoder here answers, and the trait through which they are compared.
 
-pub use jugnayap::calls::{Buffers, Called, Record, Sizes, Verdict};
+pub use jugnayap::calls::{Buffers, Called, Record, Sizes, StartBuffers, Verdict};
 pub use jugnayap::Refusal;
 
 pub trait Decoder: Sync {
@@ -10,12 +10,6 @@ pub trait Decoder: Sync {
     fn search_cut(&self, code: &[u8], spins: &[i32], check: usize) -> Result<Option<u32>, Refusal>;
     fn judge(&self, code: &[u8], frame: &[i16], word: &[u8], certificate: &[u8]) -> Result<Verdict, Refusal>;
     fn agreement(&self, code: &[u8], frame: &[i16], word: &[u8]) -> Result<i64, Refusal>;
-    fn start(
-        &self,
-        code: &[u8],
-        copies: &mut [i32],
-        offsets: &mut [i32],
-        sums: &mut [i32],
-    ) -> Result<Record, Refusal>;
+    fn start(&self, code: &[u8], lent: StartBuffers) -> Result<Record, Refusal>;
     fn rounds(&self, code: &[u8], frame: &[i16], record: Record, wanted: u32, lent: Buffers) -> Called;
 }

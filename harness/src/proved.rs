@@ -1,6 +1,6 @@
 //! The proved decoder, by the calls of `jugnayap`. An answer that the C header does not allow is a panic.
 
-use crate::decoder::{Buffers, Called, Decoder, Record, Refusal, Sizes, Verdict};
+use crate::decoder::{Buffers, Called, Decoder, Record, Refusal, Sizes, StartBuffers, Verdict};
 use jugnayap::calls;
 
 pub struct Proved;
@@ -26,14 +26,8 @@ impl Decoder for Proved {
         calls::agreement(code, frame, word)
     }
 
-    fn start(
-        &self,
-        code: &[u8],
-        copies: &mut [i32],
-        offsets: &mut [i32],
-        sums: &mut [i32],
-    ) -> Result<Record, Refusal> {
-        calls::start(code, copies, offsets, sums)
+    fn start(&self, code: &[u8], lent: StartBuffers) -> Result<Record, Refusal> {
+        calls::start(code, lent)
     }
 
     fn rounds(&self, code: &[u8], frame: &[i16], record: Record, wanted: u32, lent: Buffers) -> Called {

@@ -93,9 +93,8 @@ fn same_run(
     wide.sums.lent_mut()[..bits].copy_from_slice(&narrow.sums.lent()[..bits]);
     let mut record = Record { rounds: done, status: Record::RUNNING };
     for (code, state) in [(&pair.code, &mut narrow), (&pair.wider, &mut wide)] {
-        let lent = state.lend_all();
         if done == 0 {
-            assert_eq!(decoder.start(code, lent.copies, lent.offsets, lent.sums), Ok(Record::FRESH));
+            assert_eq!(decoder.start(code, state.lend_all().for_start()), Ok(Record::FRESH));
         }
     }
     for &wanted in calls {
@@ -243,8 +242,7 @@ fn all_but_one() {
         let code = laid_out(&three_bits(), &[in_a_row(0, before, 1), in_a_row(0, after, 0)].concat());
         for decoder in ALL {
             let mut state = State::random(&mut Rng::new(7), &Shape::of(&code).unwrap());
-            let lent = state.lend_all();
-            let record = decoder.start(&code, lent.copies, lent.offsets, lent.sums).unwrap();
+            let record = decoder.start(&code, state.lend_all().for_start()).unwrap();
             let called = decoder.rounds(&code, &[4000, 4000, -2000], record, 1_024, state.lend_all());
             assert_eq!(called.record, Record { rounds: 3, status: Record::CERTIFIED });
             let alone = |number: u32| (0..=before + after).map(move |k| if k == before { number } else { 0 });

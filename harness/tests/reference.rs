@@ -13,8 +13,7 @@ fn fresh(code: &[u8]) -> State {
 /// Starts a run and asks for one round at a time.
 fn after(decoder: &dyn Decoder, code: &[u8], frame: &[i16], rounds: u32) -> (Record, State) {
     let mut state = fresh(code);
-    let lent = state.lend_all();
-    let mut record = decoder.start(code, lent.copies, lent.offsets, lent.sums).unwrap();
+    let mut record = decoder.start(code, state.lend_all().for_start()).unwrap();
     for _ in 0..rounds {
         let called = decoder.rounds(code, frame, record, 1, state.lend_all());
         assert_eq!(called.refusal, None);

@@ -1,6 +1,6 @@
 //! Worked refusals at their edges, and their order, on every decoder.
 
-use harness::decoder::{Called, Record, Refusal, Sizes, Verdict};
+use harness::decoder::{Called, Decoder, Record, Refusal, Sizes, StartBuffers, Verdict};
 use harness::gen::code::{bytes_of, three_bits};
 use harness::gen::state::{Lengths, Shape, State};
 use harness::independent::table::Table;
@@ -304,17 +304,22 @@ fn sums() {
     }
 }
 
+/// A start that is lent so many sevens as copies, offsets and sums: its answer, and what it leaves.
+fn start(decoder: &dyn Decoder, code: &[u8], lent: [usize; 3]) -> (Result<Record, Refusal>, [[i32; 5]; 3]) {
+    let mut left = [[7; 5]; 3];
+    let [copies, offsets, sums] = &mut left;
+    let [z, y, s] = lent;
+    let lent = StartBuffers { copies: &mut copies[..z], offsets: &mut offsets[..y], sums: &mut sums[..s] };
+    (decoder.start(code, lent), left)
+}
+
 #[test]
 fn starts() {
     for decoder in ALL {
-        let (mut copies, mut offsets, mut sums) = ([7; 4], [7; 4], [7; 4]);
-        for [z, y, s] in [[2, 3, 3], [4, 2, 4], [3, 4, 2], [0, 0, 0]] {
-            let start = decoder.start(&three_bits(), &mut copies[..z], &mut offsets[..y], &mut sums[..s]);
-            assert_eq!((start, copies, offsets, sums), (Err(Refusal::BUFFER), [7; 4], [7; 4], [7; 4]));
+        for short in [[2, 3, 3], [4, 2, 4], [3, 4, 2], [0, 0, 0]] {
+            assert_eq!(start(decoder, &three_bits(), short), (Err(Refusal::BUFFER), [[7; 5]; 3]));
         }
-        let start = decoder.start(&three_bits(), &mut copies, &mut offsets, &mut sums);
-        let zeroed = [0, 0, 0, 7];
-        assert_eq!((start, copies, offsets, sums), (Ok(Record::FRESH), zeroed, zeroed, zeroed));
+        assert_eq!(start(decoder, &three_bits(), [4, 4, 4]), (Ok(Record::FRESH), [[0, 0, 0, 7, 7]; 3]));
     }
 }
 
@@ -322,15 +327,10 @@ fn starts() {
 #[test]
 fn starts_of_other_lengths() {
     for decoder in ALL {
-        let (mut copies, mut offsets, mut sums) = ([7; 5], [7; 5], [7; 4]);
-        let mut start = |z, y, s| {
-            let answer = decoder.start(&chain(), &mut copies[..z], &mut offsets[..y], &mut sums[..s]);
-            (answer, copies, offsets, sums)
-        };
-        for [z, y, s] in [[3, 5, 4], [5, 3, 4], [5, 5, 2]] {
-            assert_eq!(start(z, y, s), (Err(Refusal::BUFFER), [7; 5], [7; 5], [7; 4]));
+        for short in [[3, 5, 4], [5, 3, 4], [5, 5, 2]] {
+            assert_eq!(start(decoder, &chain(), short), (Err(Refusal::BUFFER), [[7; 5]; 3]));
         }
-        let zeroed = [0, 0, 0, 0, 7];
-        assert_eq!(start(4, 4, 3), (Ok(Record::FRESH), zeroed, zeroed, [0, 0, 0, 7]));
+        let left = [[0, 0, 0, 0, 7], [0, 0, 0, 0, 7], [0, 0, 0, 7, 7]];
+        assert_eq!(start(decoder, &chain(), [4, 4, 3]), (Ok(Record::FRESH), left));
     }
 }

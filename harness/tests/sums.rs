@@ -44,8 +44,7 @@ fn true_after_every_call() {
         let (code, table, frame) = any_input(&mut rng);
         let mut state = State::random(&mut rng, &Shape::of_table(&table));
         let past = state.sums.lent()[table.bits..].to_vec();
-        let lent = state.lend_all();
-        let mut record = decoder.start(&code, lent.copies, lent.offsets, lent.sums).unwrap();
+        let mut record = decoder.start(&code, state.lend_all().for_start()).unwrap();
         assert!(state.sums.lent()[..table.bits].iter().all(|&sum| sum == 0));
         while record.status == Record::RUNNING {
             let wanted = if record.rounds < 8 { 1 } else { rng.between(0, 60) as u32 };

@@ -20,8 +20,7 @@ fn each(series: u64, cases: u64) -> impl Iterator<Item = (&'static dyn Decoder, 
 /// Record and buffers of a run from its start, after each of these calls for rounds.
 fn run(decoder: &dyn Decoder, code: &[u8], frame: &[i16], calls: &[u32]) -> Vec<(Record, State)> {
     let mut state = State::zeroed(&Shape::of(code).unwrap());
-    let lent = state.lend_all();
-    let mut record = decoder.start(code, lent.copies, lent.offsets, lent.sums).unwrap();
+    let mut record = decoder.start(code, state.lend_all().for_start()).unwrap();
     let call = |&wanted: &u32| {
         record = decoder.rounds(code, frame, record, wanted, state.lend_all()).record;
         (record, state.clone())

@@ -110,6 +110,26 @@ macro_rules! lent {
 }
 each_buffer!(lent);
 
+// Written out: a macro that picks these from the table is longer.
+/// The buffers lent to a start, each as long as its field says, or longer, where `bits` and `edges` are the
+/// code's. A start zeroes the first elements of each, as many as its field says.
+#[derive(Debug)]
+pub struct StartBuffers<'a> {
+    /// At least `edges` elements.
+    pub copies: &'a mut [i32],
+    /// At least `edges` elements.
+    pub offsets: &'a mut [i32],
+    /// At least `bits` elements.
+    pub sums: &'a mut [i32],
+}
+
+impl Buffers<'_> {
+    /// Those of a start, lent anew.
+    pub fn for_start(&mut self) -> StartBuffers<'_> {
+        StartBuffers { copies: self.copies, offsets: self.offsets, sums: self.sums }
+    }
+}
+
 /// The answer of a call: `value` at number 0. A refusal has zeros beside its number (`rest_zero`).
 fn answer<T>(number: u32, rest_zero: bool, value: T) -> Result<T, Refusal> {
     if number == 0 {
@@ -184,23 +204,18 @@ pub fn agreement(code: &[u8], frame: &[i16], word: &[u8]) -> Result<i64, Refusal
     answer(raw.number, raw.agreement == 0, raw.agreement)
 }
 
-/// Starts a run: zeroes the first E copies and offsets and the first n sums. Refusals: 1 to 7, 41.
-pub fn start(
-    code: &[u8],
-    copies: &mut [i32],
-    offsets: &mut [i32],
-    sums: &mut [i32],
-) -> Result<Record, Refusal> {
+/// Starts a run: zeroes the buffers lent as far as [`StartBuffers`] says. Refusals: 1 to 7, 41.
+pub fn start(code: &[u8], lent: StartBuffers) -> Result<Record, Refusal> {
     let raw = unsafe {
         ffi::jugnayap_start(
             code.as_ptr(),
             code.len(),
-            copies.as_mut_ptr(),
-            copies.len(),
-            offsets.as_mut_ptr(),
-            offsets.len(),
-            sums.as_mut_ptr(),
-            sums.len(),
+            lent.copies.as_mut_ptr(),
+            lent.copies.len(),
+            lent.offsets.as_mut_ptr(),
+            lent.offsets.len(),
+            lent.sums.as_mut_ptr(),
+            lent.sums.len(),
         )
     };
     answer(raw.number, raw.run == Record { rounds: 0, status: 0 }, raw.run)

@@ -100,9 +100,8 @@ impl<'c> Run<'c> {
     /// Starts again, in the same buffers.
     pub fn restart(&mut self) {
         self.buffers.clear();
-        let Owned { copies, offsets, sums, .. } = &mut self.buffers;
-        self.record =
-            calls::start(self.code.file(), copies, offsets, sums).expect("an accepted code, and its lengths");
+        self.record = calls::start(self.code.file(), self.buffers.lend().for_start())
+            .expect("an accepted code, and its lengths");
     }
 
     /// Does the rounds wanted, 0 to 1,024, or fewer if the run ends. Refusals: 8, 9, 17, 42.

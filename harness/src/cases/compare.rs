@@ -51,8 +51,7 @@ struct Side<'a> {
 
 impl Side<'_> {
     fn start(&mut self, run: &Run, lengths: &Lengths) -> Answer {
-        let lent = self.state.lend(lengths);
-        let answer = self.decoder.start(&run.code, lent.copies, lent.offsets, lent.sums);
+        let answer = self.decoder.start(&run.code, self.state.lend(lengths).for_start());
         self.record = answer.unwrap_or(self.record);
         Answer::Start(answer)
     }

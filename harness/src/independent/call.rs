@@ -3,25 +3,20 @@
 use super::input::test_frame;
 use super::limits::{certificate_length, OFFSET_STEP, ROUND_LIMIT, SIZE_LIMIT, UNIT};
 use super::table::{place, Table};
-use crate::decoder::{Buffers, Called, Record, Refusal};
+use crate::decoder::{Buffers, Called, Record, Refusal, StartBuffers};
 
 /// Does rounds on an admitted call and answers the new record.
 pub type Rounds = fn(&Table, &[i16], Record, u32, Buffers) -> Record;
 
-pub fn start(
-    code: &[u8],
-    copies: &mut [i32],
-    offsets: &mut [i32],
-    sums: &mut [i32],
-) -> Result<Record, Refusal> {
+pub fn start(code: &[u8], lent: StartBuffers) -> Result<Record, Refusal> {
     let table = Table::parse(code)?;
     let (bits, edges) = (table.bits, table.edges());
-    if copies.len() < edges || offsets.len() < edges || sums.len() < bits {
+    if lent.copies.len() < edges || lent.offsets.len() < edges || lent.sums.len() < bits {
         return Err(Refusal::BUFFER);
     }
-    copies[..edges].fill(0);
-    offsets[..edges].fill(0);
-    sums[..bits].fill(0);
+    lent.copies[..edges].fill(0);
+    lent.offsets[..edges].fill(0);
+    lent.sums[..bits].fill(0);
     Ok(Record::FRESH)
 }
 

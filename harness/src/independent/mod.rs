@@ -16,7 +16,7 @@ pub mod table;
 #[cfg(test)]
 mod tests;
 
-use crate::decoder::{Buffers, Called, Decoder, Record, Refusal, Sizes, Verdict};
+use crate::decoder::{Buffers, Called, Decoder, Record, Refusal, Sizes, StartBuffers, Verdict};
 
 pub struct Independent;
 pub struct Plain;
@@ -50,14 +50,8 @@ macro_rules! decoder {
                 input::agreement_of(code, frame, word)
             }
 
-            fn start(
-                &self,
-                code: &[u8],
-                copies: &mut [i32],
-                offsets: &mut [i32],
-                sums: &mut [i32],
-            ) -> Result<Record, Refusal> {
-                call::start(code, copies, offsets, sums)
+            fn start(&self, code: &[u8], lent: StartBuffers) -> Result<Record, Refusal> {
+                call::start(code, lent)
             }
 
             fn rounds(

@@ -1,6 +1,6 @@
 //! Calls on plain slices: what the types that own their buffers never hand in.
 
-use jugnayap::calls::{rounds, start, Buffers, Called, Record};
+use jugnayap::calls::{rounds, start, Buffers, Called, Record, StartBuffers};
 use jugnayap::{Code, Refusal};
 
 const FRAME: [i16; 3] = [4000, 4000, -2000];
@@ -55,12 +55,14 @@ impl Left {
 
 #[test]
 fn start_wants_a_sum_for_each_bit() {
-    let (mut copies, mut offsets, mut sums) = ([7; 4], [7; 4], [7; 4]);
-    let refused = start(three().file(), &mut copies, &mut offsets, &mut sums[..2]);
-    assert_eq!(refused, Err(Refusal::BUFFER));
-    assert_eq!([copies, offsets, sums], [[7; 4]; 3]);
-    assert_eq!(start(three().file(), &mut copies, &mut offsets, &mut sums), Ok(Record::FRESH));
-    assert_eq!([copies, offsets, sums], [[0, 0, 0, 7]; 3]);
+    let mut left = [[7; 4]; 3];
+    let mut call = |lent: usize| {
+        let [copies, offsets, sums] = &mut left;
+        let answer = start(three().file(), StartBuffers { copies, offsets, sums: &mut sums[..lent] });
+        (answer, left)
+    };
+    assert_eq!(call(2), (Err(Refusal::BUFFER), [[7; 4]; 3]));
+    assert_eq!(call(4), (Ok(Record::FRESH), [[0, 0, 0, 7]; 3]));
 }
 
 #[test]
