@@ -23,14 +23,9 @@ pub record SpinsFit (n : ℕ) (l : List ℤ) (ds : List ℕ) (x : List ℤ) : Ty
 abbrev pub totalsOf : List ℤ → List ℤ → List ℤ
 totalsOf l x = firstOf (length x) (λ i. at l i +ℤ at x i)
 
--- what dividing n totals t by the degrees ds asks
-pub record TotalsFit (n : ℕ) (t : List ℤ) (ds : List ℕ) : Type 0 where
-  pub totals : n ≤ length t
-  pub degrees : n ≤ length ds
-
--- bit i's total over its degree, from the lists of both
-unfoldable pub quotientAt : List ℤ → List ℕ → ℕ → ℤ
-quotientAt t ds i = divided (at t i) (getD ds i 0)
+-- each total over its bit's degree
+unfoldable pub quotientsOver : List ℕ → List ℤ → List ℤ
+quotientsOver ds ts = firstOf (length ts) (λ i. divided (at ts i) (getD ds i 0))
 
 -- the n spins, and zeros for what the pass adds to the sums
 pub record Spun (n : ℕ) (l : List ℤ) (ds : List ℕ) (x s' x' : List ℤ) : Type 0 where

@@ -1,6 +1,6 @@
 // The candidate of a round (document 01, "One round", step 4): whether there is one, and whether it meets all checks.
-use super::common::DEGREE_6;
-use super::common::DEGREE_8;
+use limits::common::DEGREE_6;
+use limits::common::DEGREE_8;
 use spin::all_decided;
 ghost use mathlib.Core.Path.{_≡_};
 ghost use lib.ListN.{length};

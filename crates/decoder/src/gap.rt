@@ -1,6 +1,6 @@
 // The gap of a round's multipliers, scale 1 (document 01, "Certificates"): reduced numbers, bound and agreement.
-use super::common::DEGREE_6;
 use limits::MAX_BITS;
+use limits::common::DEGREE_6;
 ghost use mathlib.Core.Path.{_≡_};
 ghost use mathlib.Core.List.{[]};
 ghost use Prim.Native.Nat.{_+_, _*_, _≤_, _%_};

@@ -1,6 +1,5 @@
 // A call for rounds (document 01, "One round").
 mod candidate;
-mod common;
 mod degrees;
 mod gap;
 mod iterate;

@@ -2,14 +2,16 @@
 use run::clear::clear;
 use spin::clip_all;
 use spin::quotient_of;
+use spin::totals::common_degree;
+use spin::totals::divide_all;
 ghost use mathlib.Core.Path.{_≡_};
+ghost use Prim.Native.Nat.{_≤_};
 ghost use lib.ListN.{length};
 ghost use lib.IntN.{_+ℤ_};
 ghost use Rattle.integers.specs.Linear.{Within};
 ghost use Rattle.integers.specs.Sum.{AllWithin};
 ghost use Rattle.rules.specs.Limits.{frameLimit, sumLimit};
-ghost use Rattle.rules.specs.Round.{firstOf};
-ghost use Rattle.decoder.specs.Spins.{SpinsFit, totalsOf, TotalsFit, quotientAt, Spun};
+ghost use Rattle.decoder.specs.Spins.{SpinsFit, totalsOf, quotientsOver, Spun};
 
 fn total(number: i16, sum: i32) -> i32
     requires { ⌜ Within frameLimit number × Within sumLimit sum ⌝ }
@@ -18,28 +20,42 @@ fn total(number: i16, sum: i32) -> i32
     number as i32 + sum
 }
 
-// "Each bit's total is its frame number plus the sum of z - y over its edges": in the sum's place.
-pub(crate) fn add_frame(frame: &[i16], sums: &mut [i32])
-    requires { ⌜ (length (now frame) ≡ length (now sums)) × AllWithin frameLimit (now frame) × AllWithin sumLimit (now sums) ⌝ }
-    ensures { λ _. ⌜ now (sums .exit) ≡ totalsOf (now (frame .entry)) (now (sums .entry)) ⌝ }
+// "Each bit's total is its frame number plus the sum of z - y over its edges": in the spin's place.
+pub(crate) fn add_frame(frame: &[i16], sums: &[i32], spins: &mut [i32])
+    requires { ⌜ (length (now frame) ≡ length (now spins)) × (length (now sums) ≡ length (now spins)) × AllWithin frameLimit (now frame) × AllWithin sumLimit (now sums) ⌝ }
+    ensures { λ _. ⌜ now (spins .exit) ≡ totalsOf (now (frame .entry)) (now (sums .entry)) ⌝ }
 {
     let mut i: usize = 0;
     while i < frame.len() {
-        sums[i] = total(frame[i], sums[i]);
+        spins[i] = total(frame[i], sums[i]);
         i += 1;
     }
 }
 
-// Each bit's total divided by its number of edges.
-pub(crate) fn divide_totals(totals: &[i32], degrees: &[u16], spins: &mut [i32])
-    requires { ⌜ TotalsFit (length (now spins)) (now totals) (now degrees) ⌝ }
-    ensures { λ _. ⌜ now (spins .exit) ≡ firstOf (length (now (spins .entry))) (quotientAt (now (totals .entry)) (now (degrees .entry))) ⌝ }
+// Each total over its own bit's degree.
+fn divide_each(degrees: &[u16], spins: &mut [i32])
+    requires { ⌜ length (now spins) ≤ length (now degrees) ⌝ }
+    ensures { λ _. ⌜ now (spins .exit) ≡ quotientsOver (now (degrees .entry)) (now (spins .entry)) ⌝ }
 {
     let mut i: usize = 0;
     while i < spins.len() {
-        spins[i] = quotient_of(totals[i], degrees[i]);
+        spins[i] = quotient_of(spins[i], degrees[i]);
         i += 1;
     }
+}
+
+// Each bit's total divided by its number of edges, in its place.
+pub(crate) fn divide_totals(degrees: &[u16], spins: &mut [i32])
+    requires { ⌜ length (now spins) ≤ length (now degrees) ⌝ }
+    ensures { λ _. ⌜ now (spins .exit) ≡ quotientsOver (now (degrees .entry)) (now (spins .entry)) ⌝ }
+{
+    let n = spins.len();
+    let d = common_degree(&degrees[..n]);
+    if d == 0 {
+        divide_each(degrees, spins);
+        return;
+    }
+    divide_all(spins, d);
 }
 
 // The spins of all bits. The sums are read, and zeroed for what the pass over the checks adds to them.
@@ -47,8 +63,8 @@ pub(crate) fn find_spins(frame: &[i16], degrees: &[u16], sums: &mut [i32], spins
     requires { ⌜ SpinsFit (length (now spins)) (now frame) (now degrees) (now sums) ⌝ }
     ensures { λ _. ⌜ Spun (length (now (spins .entry))) (now (frame .entry)) (now (degrees .entry)) (now (sums .entry)) (now (spins .exit)) (now (sums .exit)) ⌝ }
 {
-    add_frame(frame, sums);
-    divide_totals(sums, degrees, spins);
+    add_frame(frame, sums, spins);
     clear(sums);
+    divide_totals(degrees, spins);
     clip_all(spins);
 }

@@ -1,9 +1,9 @@
 // One check in a round: its cut, its multiplier, its new copies and its new offsets.
-use super::common::DEGREE_6;
-use super::common::DEGREE_8;
 use super::mask::holds;
 use super::multiplier::least_multiplier;
 use super::store::store_signed;
+use limits::common::DEGREE_6;
+use limits::common::DEGREE_8;
 use spin::clip;
 ghost use mathlib.Core.Path.{_≡_};
 ghost use Prim.Native.Nat.{_≤_, _<_};

@@ -1,4 +1,5 @@
 // The limits of document 01, as in rules' Limits: their one place in the code. No function runs here.
+pub mod common;
 pub mod refusals;
 
 // U: spin +U is bit 0, spin −U is bit 1

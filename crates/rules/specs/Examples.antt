@@ -1,5 +1,5 @@
--- Further worked examples, by computation: document 01's cuts, the division, empty checks, multipliers at another scale, the three-frame report, a list of calls with its twin, and which refusal comes first
--- where several apply. Assumes nothing.
+-- Further worked examples, by computation: document 01's cuts, the division, empty checks, multipliers at another scale, the three-frame report, a list of calls with its twin,
+-- and which refusal comes first where several apply. Assumes nothing.
 use mathlib.Core.Path.{_≡_, refl}
 use mathlib.Core.List.{List, [], _∷_, _++_}
 use Prim.Native.Nat.{ℕ, zero, suc, _+_, _/_, _%_}

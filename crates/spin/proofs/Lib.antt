@@ -1,2 +1,3 @@
 pub mod SpinLaws
 pub mod DecidedLaws
+pub mod TotalsLaws

@@ -1,1 +1,3 @@
 pub mod Spin
+pub mod Totals
+pub mod Examples

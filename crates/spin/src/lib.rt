@@ -1,5 +1,7 @@
 // A bit's spin from its total, and whether all spins are decided (document 01, "One round", steps 1
 // and 4).
+pub mod totals;
+
 use limits::UNIT;
 ghost use mathlib.Core.Path.{_≡_};
 ghost use mathlib.Core.Bool.{not, _&&_};

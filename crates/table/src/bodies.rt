@@ -4,15 +4,13 @@ use super::contents::count_at;
 use super::numbers::between;
 use super::numbers::both;
 use super::numbers::u16_at;
+use limits::common::DEGREE_6;
 ghost use mathlib.Core.Path.{_≡_};
 ghost use Prim.Native.Nat.{_+_, _*_, _≤_, _<_};
 ghost use lib.ListN.{length};
 ghost use Rattle.rules.specs.Limits.{maxChecks, contentsEnd, fileLength};
 ghost use Rattle.rules.specs.Bytes.{u16Limit, u16At};
 ghost use Rattle.rules.specs.CodeFile.{contents, totalCount, numbersAt, bodies, ascends, membersRight};
-
-// The degree whose loop is compiled by itself: with a known count it needs no counting.
-const COMMON_DEGREE: usize = 6;
 
 // The k-th member of the bodies from byte `at` on.
 pub(crate) fn member_at(code: &[u8], at: usize, k: usize) -> usize
@@ -44,8 +42,8 @@ pub(crate) fn ascending(code: &[u8], at: usize, d: usize, n: usize) -> bool
     requires { ⌜ at + 2 * d ≤ length (now code) ⌝ }
     ensures { λ r. ⌜ r ≡ ascends n 0 (numbersAt (now (code .entry)) at d) ⌝ }
 {
-    if d == COMMON_DEGREE {
-        return ascending_of(code, at, COMMON_DEGREE, n);
+    if d == DEGREE_6 {
+        return ascending_of(code, at, DEGREE_6, n);
     }
     ascending_of(code, at, d, n)
 }
