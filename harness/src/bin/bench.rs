@@ -22,6 +22,8 @@ const GAIN: f64 = 3_000.0;
 const DEVIATION: f64 = 2_200.0;
 const FRAMES: usize = 24;
 const REPETITIONS: usize = 15;
+/// Nanoseconds of work before the first measurement: a processor that was idle is slow at first.
+const WARM_UP: f64 = 5e8;
 /// Edges times rounds of one measurement in the growth table.
 const GROWTH_WORK: usize = 2_000_000;
 const GROWTH_ROUNDS: u32 = 32;
@@ -137,6 +139,15 @@ fn heading(what: &str) {
     println!("\n{what:44} {:>12} {:>12} {:>8}", "proved", "independent", "ratio");
 }
 
+fn warm_up(bench: &Bench) {
+    let begun = cpu_nanoseconds();
+    while cpu_nanoseconds() - begun < WARM_UP {
+        for decoder in DECODERS {
+            bench.run_all(decoder, GROWTH_ROUNDS);
+        }
+    }
+}
+
 fn rounds_and_frames(bench: &Bench) {
     let edges = bench.shape.edges as f64;
     let frames = bench.frames.len() as f64;
@@ -201,6 +212,7 @@ fn main() -> ExitCode {
             println!("(3, 6)-regular, n {}, E {}, seed {SEED}", bench.shape.bits, bench.shape.edges);
             println!("frames gaussian-like, gain {GAIN}, deviation {DEVIATION}, clipped to 8191");
             println!("processor time, medians of {REPETITIONS} repetitions taken in turns");
+            warm_up(&bench);
             rounds_and_frames(&bench);
             judging(&bench);
             growth();
