@@ -1,6 +1,6 @@
 // The degrees of (3,6)- and (4,8)-regular codes. Their loops over a check and their divisions by a bit's
-// degree are compiled by themselves: a loop of known length needs no counting, and a division by a known
-// number none of the processor's. No answer depends on these numbers.
+// degree are compiled by themselves: a loop of known length needs no counting, and products do for a
+// division by a known number. No answer depends on these numbers.
 pub const DEGREE_3: u16 = 3;
 
 pub const DEGREE_4: u16 = 4;

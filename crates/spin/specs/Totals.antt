@@ -1,5 +1,4 @@
 -- All bits of one degree, and their totals divided by it (document 01, "One round", step 1). Definitions only. Assumes nothing.
-use mathlib.Core.Path.{_≡_, refl}
 use mathlib.Core.Bool.{Bool, true, cond, _&&_}
 use mathlib.Core.List.{List, [], _∷_}
 use Prim.Native.Nat.{ℕ}
@@ -9,6 +8,7 @@ use lib.IntN.{ℤ}
 use Rattle.rules.specs.Table.{at}
 use Rattle.rules.specs.Round.{divided, firstOf}
 
+-- whether each degree is d
 abbrev pub allAre : ℕ → List ℕ → Bool
 allAre d [] = true
 allAre d (x ∷ xs) = eqb x d && allAre d xs

@@ -13,7 +13,7 @@ use Rattle.rules.specs.Limits.{frameLimit, sumLimit}
 use Rattle.rules.specs.Table.{at}
 use Rattle.rules.proofs.Optimal.{within-at}
 use Rattle.rules.proofs.RoundSizes.{first-length, first-at}
-use Rattle.rules.proofs.FillLaws.{fill, fill-none, fill-length, fill-at, fill-more, fill-all}
+use Rattle.rules.proofs.FillLaws.{fill, fill-none, fill-length, fill-more, fill-all}
 use Rattle.decoder.specs.Spins.{totalsOf}
 use Rattle.decoder.proofs.spins.add_frame.Statement.{statement}
 use Rattle.decoder.proofs.spins.add_frame.Tie as tie

@@ -1,5 +1,5 @@
 -- `find_spins` meets its contract: the totals, the division and the clip make the spins. Assumes nothing.
-use mathlib.Core.Path.{sym, _∙_, ap}
+use mathlib.Core.Path.{_∙_, ap}
 use native.Mathlib.Omega.{arith}
 use borrow.Author.Needs.{needs}
 use Rattle.rules.specs.Limits.{unit}
