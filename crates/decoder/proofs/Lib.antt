@@ -3,6 +3,8 @@ pub mod IterateLaws
 pub mod RoundSpinsLaws
 pub mod PlaceLaws
 pub mod SpinsLaws
+pub mod PartLaws
+pub mod DivideLaws
 pub mod PerformLaws
 pub mod CallLaws
 pub mod MaskLaws

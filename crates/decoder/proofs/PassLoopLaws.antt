@@ -1,11 +1,11 @@
 -- The pass's loop: where it stands after j checks, what it hands to the next, and what it leaves. Assumes nothing.
 use mathlib.Core.Path.{_≡_, sym, _∙_, ap, ap₂, subst}
-use mathlib.Core.List.{List, [], _++_, append-assoc}
+use mathlib.Core.List.{List, [], _++_}
 use Prim.Native.Nat.{ℕ, _+_, _-_, _≤_, _<_}
 use native.Mathlib.Nat.{add-sub-of-le}
 use native.Mathlib.Omega.{arith}
-use lib.ListN.{length, getD, take, drop, length-drop, take-append-drop}
-use lib.Seq.{length-take-le, take-add, drop-drop, take-at, drop-at}
+use lib.ListN.{length, getD, take, drop, take-append-drop}
+use lib.Seq.{drop-drop}
 use lib.IntN.{ℤ}
 use Rattle.integers.specs.Sum.{AllWithin}
 use Rattle.rules.specs.Limits.{unit, offsetLimit, weightLimit, maxDegree}
@@ -19,27 +19,15 @@ use Rattle.rules.specs.Scatter.{scatter, Room, Added}
 use Rattle.rules.proofs.Optimal.{within-at}
 use Rattle.rules.proofs.Steps.{minus-within, minus-length, minus-drop, minus-take}
 use Rattle.rules.proofs.SumLaws.{room-first, added-none, added-all, added-part}
-use Rattle.rules.proofs.FillLaws.{fill, fill-none, fill-length, fill-rest, fill-more, fill-is, fill-all}
+use Rattle.rules.proofs.FillLaws.{fill, fill-none, fill-length, fill-rest, fill-more, fill-all}
 use Rattle.table.specs.Layout.{checksFrom, edgesBefore}
 use Rattle.decoder.specs.Stepped.{Stepped, summed, steppedBy, steppedOn, stepped}
 use Rattle.decoder.specs.Passed.{Passed, passedTo, passed, PassFits}
-use Rattle.decoder.specs.Parts.{part, splice, placed, onePassed, OneFits}
+use Rattle.decoder.specs.Parts.{part, placed, onePassed, OneFits}
+use Rattle.decoder.proofs.PartLaws.{fill-part, part-length}
 use Rattle.decoder.proofs.StepListLaws.{values-take}
 use Rattle.table.proofs.LayoutLaws.{before-all, before-most, members-long, start-is, starts-long, start-next, part-is, part-degree, part-below}
 use Rattle.decoder.proofs.PassLaws.{stepAt, copies-at, offsets-at, multiplier-at, mask-at}
-
--- the part from a to e, which is what ts has there
-fill-part : {A : Type 0} (a e : ℕ) (ts xs now p : List A) → length ts ≡ length xs → a ≤ e → e ≤ length xs
-    → p ≡ part a e ts → now ≡ fill a ts xs → splice a e p now ≡ fill e ts xs
-unfolding part splice
-fill-part a e ts xs now p same h k w q =
-    let front : length (take a ts) ≡ a = length-take-le a ts (omega arith) in
-    let back : a + (e - a) ≡ e = omega arith in
-    ap (λ x. take a x ++ (p ++ drop (e - a) (drop a x))) (q ∙ fill-is a ts xs (omega arith) (omega arith))
-    ∙ ap₂ (λ x r. x ++ (p ++ drop (e - a) r)) (take-at (take a ts) (drop a xs) a front) (drop-at (take a ts) (drop a xs) a front)
-    ∙ sym (append-assoc (take a ts) p (drop (e - a) (drop a xs)))
-    ∙ ap₂ _++_ (ap (λ x. take a ts ++ x) w ∙ sym (take-add a (e - a) ts) ∙ ap (λ n. take n ts) back) (drop-drop (e - a) a xs ∙ ap (λ n. drop n xs) back)
-    ∙ sym (fill-is e ts xs (omega arith) k)
 
 -- z − y of each edge
 abbrev weightsIn : Passed → List ℤ
@@ -56,10 +44,6 @@ pub record Passing (f : ℕ → ℤ) (ss ms : List ℕ) (q₀ q : Passed) (j : �
 
 pub passed-eq : {a a' b b' x x' : List ℤ} {c c' d d' : List ℕ} → a ≡ a' → b ≡ b' → x ≡ x' → c ≡ c' → d ≡ d' → passedTo a b x c d ≡ passedTo a' b' x' c' d'
 passed-eq p q x r s = λ i. passedTo (p i) (q i) (x i) (r i) (s i)
-
-part-length : {A : Type 0} (a e : ℕ) (l : List A) → e ≤ length l → length (part a e l) ≡ e - a
-unfolding part
-part-length a e l h = length-take-le (e - a) (drop a l) (omega (arith, length-drop a l))
 
 module _ {n : ℕ} {ss ms : List ℕ} {s z y x : List ℤ} {bs ks : List ℕ} (fits : PassFits n ss ms s z y x bs ks) where
   abbrev cs : List (List ℕ)

@@ -1,11 +1,11 @@
 -- One check's step as the code takes it: from the mask of the cut to the multiplier, and to what the step leaves. Assumes nothing.
 use mathlib.Core.Path.{_≡_, refl, sym, _∙_, ap, ap₂, subst}
-use mathlib.Core.List.{List, _++_, append-nil}
+use mathlib.Core.List.{List, _++_}
 use mathlib.Core.Option.{some, none}
 use Prim.Native.Nat.{ℕ, _≤_}
 use native.Mathlib.Decide.{ℕ-discrete}
 use native.Mathlib.Omega.{arith}
-use lib.ListN.{length, take, drop, drop-of-length-le}
+use lib.ListN.{length, take, drop}
 use lib.IntN.{ℤ}
 use Rattle.integers.specs.Sum.{AllWithin}
 use Rattle.rules.specs.Limits.{unit, offsetLimit, stepLimit, valueLimit, maxDegree}
@@ -31,6 +31,7 @@ use Rattle.decoder.specs.Lifted.{Rising, LeastAt, MultiplierOf}
 use Rattle.decoder.specs.Stepped.{Stepped, steppedTo, summed, steppedBy, steppedOn, stepped, newCopies, StepFits, MoveFits, Moved}
 use Rattle.decoder.proofs.MaskLaws.{set-alike}
 use Rattle.decoder.proofs.MultiplierLaws.{heights-length, heights-few, rising, least-is}
+use Rattle.decoder.proofs.PartLaws.{none-after}
 use Rattle.decoder.proofs.StepListLaws.{values-length}
 
 stepped-eq : {a a' b b' x x' : List ℤ} {c c' d d' : ℕ} → a ≡ a' → b ≡ b' → x ≡ x' → c ≡ c' → d ≡ d' → steppedTo a b x c d ≡ steppedTo a' b' x' c' d'
@@ -172,8 +173,5 @@ module _ (n : ℕ) (s : List ℤ) (ms : List ℕ) (z y x : List ℤ) (e : length
 
   pub part-left : (z' y' x' : List ℤ) (b m : ℕ) → steppedTo z' y' x' b m ≡ stepped (at s) (take n ms) (take n y) x
       → steppedTo (z' ++ drop n z) (y' ++ drop n y) x' b m ≡ stepped (at s) ms y x
-  part-left z' y' x' b m h = stepped-eq (none-after z' z (f .copiesLong)) (none-after y' y (f .offsetsLong)) refl refl refl ∙ h
+  part-left z' y' x' b m h = stepped-eq (none-after n z' z (f .copiesLong ∙ e)) (none-after n y' y (f .offsetsLong ∙ e)) refl refl refl ∙ h
       ∙ ap₂ (λ l o. stepped (at s) l o x) all-members all-offsets
-    where
-      none-after : (u l : List ℤ) → length l ≡ length ms → u ++ drop n l ≡ u
-      none-after u l k = ap (λ r. u ++ r) (drop-of-length-le l {i = n} (omega arith)) ∙ append-nil u

@@ -1,6 +1,7 @@
 // A call for rounds (document 01, "One round").
 mod candidate;
 mod degrees;
+mod divide;
 mod gap;
 mod iterate;
 mod mask;

@@ -1,17 +1,14 @@
 // The spins of a round (document 01, "One round", step 1).
+use super::divide::divide_totals;
 use run::clear::clear;
 use spin::clip_all;
-use spin::quotient_of;
-use spin::totals::common_degree;
-use spin::totals::divide_all;
 ghost use mathlib.Core.Path.{_≡_};
-ghost use Prim.Native.Nat.{_≤_};
 ghost use lib.ListN.{length};
 ghost use lib.IntN.{_+ℤ_};
 ghost use Rattle.integers.specs.Linear.{Within};
 ghost use Rattle.integers.specs.Sum.{AllWithin};
 ghost use Rattle.rules.specs.Limits.{frameLimit, sumLimit};
-ghost use Rattle.decoder.specs.Spins.{SpinsFit, totalsOf, quotientsOver, Spun};
+ghost use Rattle.decoder.specs.Spins.{SpinsFit, totalsOf, Spun};
 
 fn total(number: i16, sum: i32) -> i32
     requires { ⌜ Within frameLimit number × Within sumLimit sum ⌝ }
@@ -30,32 +27,6 @@ pub(crate) fn add_frame(frame: &[i16], sums: &[i32], spins: &mut [i32])
         spins[i] = total(frame[i], sums[i]);
         i += 1;
     }
-}
-
-// Each total over its own bit's degree.
-fn divide_each(degrees: &[u16], spins: &mut [i32])
-    requires { ⌜ length (now spins) ≤ length (now degrees) ⌝ }
-    ensures { λ _. ⌜ now (spins .exit) ≡ quotientsOver (now (degrees .entry)) (now (spins .entry)) ⌝ }
-{
-    let mut i: usize = 0;
-    while i < spins.len() {
-        spins[i] = quotient_of(spins[i], degrees[i]);
-        i += 1;
-    }
-}
-
-// Each bit's total divided by its number of edges, in its place.
-pub(crate) fn divide_totals(degrees: &[u16], spins: &mut [i32])
-    requires { ⌜ length (now spins) ≤ length (now degrees) ⌝ }
-    ensures { λ _. ⌜ now (spins .exit) ≡ quotientsOver (now (degrees .entry)) (now (spins .entry)) ⌝ }
-{
-    let n = spins.len();
-    let d = common_degree(&degrees[..n]);
-    if d == 0 {
-        divide_each(degrees, spins);
-        return;
-    }
-    divide_all(spins, d);
 }
 
 // The spins of all bits. The sums are read, and zeroed for what the pass over the checks adds to them.

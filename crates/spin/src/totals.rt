@@ -1,6 +1,6 @@
-// All totals of a round divided, where all bits have one degree: a division by a known number takes several
-// totals at once.
+// Totals of bits that have one degree, divided: a division by a known number takes several totals at once.
 use super::quotient_of;
+use limits::common::DEGREE_2;
 use limits::common::DEGREE_3;
 use limits::common::DEGREE_4;
 ghost use mathlib.Core.Path.{_≡_};
@@ -60,6 +60,10 @@ fn divide_by(totals: &mut [i32], d: u16)
 pub fn divide_all(totals: &mut [i32], d: u16)
     ensures { λ _. ⌜ now (totals .exit) ≡ quotients d (now (totals .entry)) ⌝ }
 {
+    if d == DEGREE_2 {
+        divide_by(totals, DEGREE_2);
+        return;
+    }
     if d == DEGREE_3 {
         divide_by(totals, DEGREE_3);
         return;

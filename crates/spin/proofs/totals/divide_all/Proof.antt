@@ -15,6 +15,11 @@ returns-2 c =
     let start : tie.Start = search in
     c .before .divide-by2 .ensures ∙ ap (λ d. quotients d (start .args .totals .now)) (sym (c .before .before .before .if2 .taken))
 
+returns-3 : tie.Need-returns-3
+returns-3 c =
+    let start : tie.Start = search in
+    c .before .divide-by3 .ensures ∙ ap (λ d. quotients d (start .args .totals .now)) (sym (c .before .before .before .if3 .taken))
+
 pub divide-all-spec : {M : Type 1} → statement M
 divide-all-spec =
     tie.close
@@ -25,6 +30,9 @@ divide-all-spec =
     (λ c κs. search needs)
     (λ c. search needs)
     returns-2
+    (λ c κs. search needs)
+    (λ c. search needs)
+    returns-3
     (λ c κs. search needs)
     (λ c. search needs)
     (λ c. search needs))

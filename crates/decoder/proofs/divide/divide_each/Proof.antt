@@ -11,20 +11,20 @@ use Rattle.rules.specs.Table.{at}
 use Rattle.rules.specs.Round.{divided}
 use Rattle.rules.proofs.FillLaws.{fill, fill-none, fill-length, fill-at, fill-more, fill-all}
 use Rattle.decoder.specs.Spins.{quotientsOver}
-use Rattle.decoder.proofs.SpinsLaws.{over-length, over-at}
-use Rattle.decoder.proofs.spins.divide_each.Statement.{statement}
-use Rattle.decoder.proofs.spins.divide_each.Tie as tie
+use Rattle.decoder.proofs.DivideLaws.{over-length, over-at}
+use Rattle.decoder.proofs.divide.divide_each.Statement.{statement}
+use Rattle.decoder.proofs.divide.divide_each.Tie as tie
 
 abbrev Inv-loop : tie.InvT-loop
-Inv-loop degrees spins₀ i₀ spins i = (i ≤ length spins₀) × (spins ≡ fill i (quotientsOver degrees spins₀) spins₀)
+Inv-loop degrees totals₀ i₀ totals i = (i ≤ length totals₀) × (totals ≡ fill i (quotientsOver degrees totals₀) totals₀)
 
 abbrev μ-loop : tie.MeasureT-loop
-μ-loop degrees spins₀ i₀ spins i = length spins₀ - i
+μ-loop degrees totals₀ i₀ totals i = length totals₀ - i
 
-long : (c : tie.At-loop Inv-loop μ-loop) → length (c .loop .spins) ≡ length (c .before .before .args .spins .now)
+long : (c : tie.At-loop Inv-loop μ-loop) → length (c .loop .totals) ≡ length (c .before .before .args .totals .now)
 long c = ap length (c .loop .inv .1) ∙ fill-length (c .loop .i) _ _
 
-old : (c : tie.At-loop Inv-loop μ-loop) → at (c .loop .spins) (c .loop .i) ≡ at (c .before .before .args .spins .now) (c .loop .i)
+old : (c : tie.At-loop Inv-loop μ-loop) → at (c .loop .totals) (c .loop .i) ≡ at (c .before .before .args .totals .now) (c .loop .i)
 old c = ap (λ l. at l (c .loop .i)) (c .loop .inv .1) ∙ fill-at (c .loop .i) _ _ (pos 0)
 
 shared-slice-read-quotient-of : tie.Need-shared-slice-read-quotient-of Inv-loop μ-loop
@@ -35,11 +35,11 @@ shared-slice-read-quotient-of c =
 loop-again : tie.Need-loop-again Inv-loop μ-loop
 loop-again c =
     let here : tie.At-loop Inv-loop μ-loop = search in
-    let ts = here .before .before .args .spins .now in
+    let ts = here .before .before .args .totals .now in
     let ds = here .before .before .args .degrees .now in
     let d = getD ds (here .loop .i) 0 in
     let inside : here .loop .i < length ts = omega (arith, long here) in
-    let read = toZ-ofZ (fit w32 (at (here .loop .spins) (here .loop .i)) (c .before .before .quotient-of-arg .given)) ∙ old here in (
+    let read = toZ-ofZ (fit w32 (at (here .loop .totals) (here .loop .i)) (c .before .before .quotient-of-arg .given)) ∙ old here in (
       omega arith,
       fill-more (here .loop .i) _ _ _ _ (pos 0) (omega (arith, over-length ds ts))
           (toZ-ofZ (fit w32 (c .quotient-of .result) (c .quotient-of .ok)) ∙ c .quotient-of .ensures ∙ ap (λ t. divided t d) read ∙ sym (over-at ds ts (here .loop .i) inside))
@@ -49,7 +49,7 @@ loop-again c =
 returns : tie.Need-returns Inv-loop μ-loop
 returns c =
     let here = c .before in
-    here .loop .inv .1 ∙ fill-all (here .loop .i) _ _ (over-length (here .before .before .args .degrees .now) (here .before .before .args .spins .now)) (omega (arith, long here))
+    here .loop .inv .1 ∙ fill-all (here .loop .i) _ _ (over-length (here .before .before .args .degrees .now) (here .before .before .args .totals .now)) (omega (arith, long here))
 
 pub divide-each-spec : {M : Type 1} → statement M
 divide-each-spec =
