@@ -13,6 +13,7 @@ use Rattle.rules.specs.Table.{at}
 use Rattle.rules.specs.Step.{clips}
 use Rattle.rules.specs.Round.{divided, firstOf}
 use Rattle.rules.proofs.RoundSizes.{first-length, first-at}
+use Rattle.spin.specs.Totals.{quotientsBy}
 use Rattle.decoder.specs.Spins.{SpinsFit, totalsOf, quotientsOver}
 use Rattle.decoder.proofs.PlaceLaws.{first-same, clips-first}
 
@@ -24,7 +25,7 @@ module _ {n : ℕ} {l : List ℤ} {ds : List ℕ} {x : List ℤ} (fit : SpinsFit
   totals-long = first-length (length x) _ ∙ fit .sumsLong
 
   pub spins-are : clips unit (quotientsOver ds (totalsOf l x)) ≡ firstOf n (λ i. clipZ unit (divided (at l i +ℤ at x i) (getD ds i 0)))
-  unfolding quotientsOver
+  unfolding quotientsBy
   spins-are = clips-first unit (length (totalsOf l x)) _
       ∙ ap (λ k. firstOf k (λ i. clipZ unit (divided (at (totalsOf l x) i) (getD ds i 0)))) totals-long
       ∙ first-same n _ _ (λ i h. ap (λ t. clipZ unit (divided t (getD ds i 0))) (first-at (length x) (λ i. at l i +ℤ at x i) i (subst (λ k. i < k) (sym (fit .sumsLong)) h)))

@@ -10,6 +10,7 @@ use Rattle.rules.specs.Limits.{unit, frameLimit, sumLimit}
 use Rattle.rules.specs.Table.{at}
 use Rattle.rules.specs.Round.{divided, firstOf}
 use Rattle.rules.specs.Buffers.{zeros}
+use Rattle.spin.specs.Totals.{quotientsBy}
 
 -- n bits with frame l, their degrees ds and their sums x
 pub record SpinsFit (n : ℕ) (l : List ℤ) (ds : List ℕ) (x : List ℤ) : Type 0 where
@@ -24,8 +25,8 @@ abbrev pub totalsOf : List ℤ → List ℤ → List ℤ
 totalsOf l x = firstOf (length x) (λ i. at l i +ℤ at x i)
 
 -- each total over its bit's degree
-unfoldable pub quotientsOver : List ℕ → List ℤ → List ℤ
-quotientsOver ds ts = firstOf (length ts) (λ i. divided (at ts i) (getD ds i 0))
+abbrev pub quotientsOver : List ℕ → List ℤ → List ℤ
+quotientsOver ds = quotientsBy (λ i. getD ds i 0)
 
 -- the n spins, and zeros for what the pass adds to the sums
 pub record Spun (n : ℕ) (l : List ℤ) (ds : List ℕ) (x s' x' : List ℤ) : Type 0 where

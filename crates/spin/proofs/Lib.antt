@@ -1,3 +1,3 @@
 pub mod SpinLaws
-pub mod DecidedLaws
+pub mod EveryLaws
 pub mod TotalsLaws

@@ -1,3 +1,4 @@
+pub mod Every
 pub mod Spin
 pub mod Totals
 pub mod Examples

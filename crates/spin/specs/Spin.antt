@@ -1,11 +1,12 @@
 -- What the code's division of a total asks and says, and whether a round has a candidate (document 01, "One round", steps 1 and 4). Definitions only.
 -- Assumes nothing.
-use mathlib.Core.Bool.{Bool, true, cond, not, _&&_}
-use mathlib.Core.List.{List, [], _∷_}
+use mathlib.Core.Bool.{Bool, cond, not}
+use mathlib.Core.List.{List}
 use lib.IntN.{ℤ, pos, _+ℤ_}
 use lib.Signed.{_≤ℤ_, ltZ}
 use Rattle.integers.specs.Linear.{Within}
 use Rattle.rules.specs.Round.{isZero}
+use Rattle.spin.specs.Every.{every}
 
 -- a number of edges, as the code holds it
 pub record Degree (d : ℤ) : Type 0 where
@@ -22,5 +23,4 @@ lacks r d = cond (ltZ (r +ℤ r) d) (pos 0) (pos 1)
 
 -- "If no spin is 0"
 abbrev pub noZero : List ℤ → Bool
-noZero [] = true
-noZero (s ∷ ss) = not (isZero s) && noZero ss
+noZero = every (λ s. not (isZero s))

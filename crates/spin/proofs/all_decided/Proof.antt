@@ -1,9 +1,10 @@
 -- `all_decided` meets its contract: what is found and the spins from i on decide. Assumes nothing.
 use mathlib.Core.Path.{_≡_, refl, sym, _∙_, ap}
-use mathlib.Core.Bool.{not, _&&_, and-true, and-assoc}
-use Prim.Native.Nat.{_+_, _-_, _≤_}
+use mathlib.Core.Bool.{not, _&&_}
+use Prim.Native.Nat.{_-_, _≤_}
 use native.Mathlib.Omega.{arith}
 use lib.ListN.{length, drop}
+use lib.IntN.{pos}
 use mir.Syntax.{w32}
 use mir.Facts.{toZ-ofZ}
 use borrow.Author.Needs.{needs}
@@ -11,7 +12,7 @@ use Rattle.integers.specs.Machine.{fit}
 use Rattle.rules.specs.Table.{at}
 use Rattle.rules.specs.Round.{isZero}
 use Rattle.spin.specs.Spin.{noZero}
-use Rattle.spin.proofs.DecidedLaws.{no-zero-more, no-zero-end}
+use Rattle.spin.proofs.EveryLaws.{every-more, every-end}
 use Rattle.spin.proofs.all_decided.Statement.{statement}
 use Rattle.spin.proofs.all_decided.Tie as tie
 
@@ -25,18 +26,14 @@ loop-again : tie.Need-loop-again Inv-loop μ-loop
 loop-again c =
     let s = c .before .before .before .before .args .spins .now in
     let l = c .before .before .before .loop in
-    let rest = noZero (drop (l .i + 1) s) in
-    let read = toZ-ofZ (fit w32 (at s (l .i)) (c .before .decided-arg .given)) in (
-      omega arith,
-      l .inv .1 ∙ ap (λ b. l .all && b) (no-zero-more s (l .i) (omega arith)) ∙ sym (and-assoc (l .all) (not (isZero (at s (l .i)))) rest)
-          ∙ ap (λ b. b && rest) (sym (c .decided .ensures ∙ ap (λ z. l .all && not (isZero z)) read)),
-    )
+    let read = toZ-ofZ (fit w32 (at s (l .i)) (c .before .decided-arg .given)) in
+    (omega arith, every-more _ s (l .i) (l .all) (l .inv .1) (pos 0) _ (omega arith) (c .decided .ensures ∙ ap (λ z. l .all && not (isZero z)) read))
 
 returns : tie.Need-returns Inv-loop μ-loop
 returns c =
     let s = c .before .before .args .spins .now in
     let l = c .before .loop in
-    sym (l .inv .1 ∙ ap (λ b. l .all && b) (no-zero-end s (l .i) (omega arith)) ∙ and-true (l .all))
+    sym (every-end _ s (l .i) (l .all) (l .inv .1) (omega arith))
 
 pub all-decided-spec : {M : Type 1} → statement M
 all-decided-spec =

@@ -3,15 +3,14 @@ use mathlib.Core.Path.{_≡_, sym, _∙_, ap}
 use Prim.Native.Nat.{_-_, _<_, _≤_}
 use native.Mathlib.Omega.{arith}
 use lib.ListN.{length, getD}
-use lib.IntN.{pos}
 use mir.Syntax.{w32}
 use mir.Facts.{toZ-ofZ}
 use Rattle.integers.specs.Machine.{fit}
 use Rattle.rules.specs.Table.{at}
 use Rattle.rules.specs.Round.{divided}
-use Rattle.rules.proofs.FillLaws.{fill, fill-none, fill-length, fill-at, fill-more, fill-all}
+use Rattle.rules.proofs.FillLaws.{fill, fill-none, fill-length, fill-all}
+use Rattle.spin.proofs.TotalsLaws.{quotients-length, quotients-more}
 use Rattle.decoder.specs.Spins.{quotientsOver}
-use Rattle.decoder.proofs.DivideLaws.{over-length, over-at}
 use Rattle.decoder.proofs.divide.divide_each.Statement.{statement}
 use Rattle.decoder.proofs.divide.divide_each.Tie as tie
 
@@ -23,9 +22,6 @@ abbrev μ-loop : tie.MeasureT-loop
 
 long : (c : tie.At-loop Inv-loop μ-loop) → length (c .loop .totals) ≡ length (c .before .before .args .totals .now)
 long c = ap length (c .loop .inv .1) ∙ fill-length (c .loop .i) _ _
-
-old : (c : tie.At-loop Inv-loop μ-loop) → at (c .loop .totals) (c .loop .i) ≡ at (c .before .before .args .totals .now) (c .loop .i)
-old c = ap (λ l. at l (c .loop .i)) (c .loop .inv .1) ∙ fill-at (c .loop .i) _ _ (pos 0)
 
 shared-slice-read-quotient-of : tie.Need-shared-slice-read-quotient-of Inv-loop μ-loop
 shared-slice-read-quotient-of c =
@@ -39,17 +35,14 @@ loop-again c =
     let ds = here .before .before .args .degrees .now in
     let d = getD ds (here .loop .i) 0 in
     let inside : here .loop .i < length ts = omega (arith, long here) in
-    let read = toZ-ofZ (fit w32 (at (here .loop .totals) (here .loop .i)) (c .before .before .quotient-of-arg .given)) ∙ old here in (
-      omega arith,
-      fill-more (here .loop .i) _ _ _ _ (pos 0) (omega (arith, over-length ds ts))
-          (toZ-ofZ (fit w32 (c .quotient-of .result) (c .quotient-of .ok)) ∙ c .quotient-of .ensures ∙ ap (λ t. divided t d) read ∙ sym (over-at ds ts (here .loop .i) inside))
-          (here .loop .inv .1),
-    )
+    let read = toZ-ofZ (fit w32 (at (here .loop .totals) (here .loop .i)) (c .before .before .quotient-of-arg .given)) in
+    let made = toZ-ofZ (fit w32 (c .quotient-of .result) (c .quotient-of .ok)) ∙ c .quotient-of .ensures ∙ ap (λ t. divided t d) read in
+    (omega arith, quotients-more (λ i. getD ds i 0) ts _ (here .loop .i) _ inside made (here .loop .inv .1))
 
 returns : tie.Need-returns Inv-loop μ-loop
 returns c =
     let here = c .before in
-    here .loop .inv .1 ∙ fill-all (here .loop .i) _ _ (over-length (here .before .before .args .degrees .now) (here .before .before .args .totals .now)) (omega (arith, long here))
+    here .loop .inv .1 ∙ fill-all (here .loop .i) _ _ (quotients-length _ _) (omega (arith, long here))
 
 pub divide-each-spec : {M : Type 1} → statement M
 divide-each-spec =

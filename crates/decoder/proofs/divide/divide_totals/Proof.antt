@@ -4,10 +4,11 @@ use Prim.Native.Nat.{_-_, _≤_}
 use native.Mathlib.Omega.{arith}
 use lib.ListN.{length}
 use Rattle.rules.proofs.FillLaws.{fill, fill-none, fill-length, fill-all}
+use Rattle.spin.proofs.TotalsLaws.{quotients-length}
 use Rattle.decoder.specs.Spins.{quotientsOver}
 use Rattle.decoder.specs.Parts.{part, splice}
 use Rattle.decoder.proofs.PartLaws.{part-length, fill-coming, fill-part}
-use Rattle.decoder.proofs.DivideLaws.{over-length, over-part}
+use Rattle.decoder.proofs.DivideLaws.{over-part}
 use Rattle.decoder.proofs.divide.divide_totals.Statement.{statement}
 use Rattle.decoder.proofs.divide.divide_totals.Tie as tie
 
@@ -53,12 +54,12 @@ loop-again c =
     let e = found .block-end .result in
     let in-totals : e ≤ length ts = omega (arith, found .block-end .ensures) in
     let done = c .before .divide-block .ensures ∙ ap (quotientsOver (part a e ds)) (ap (part a e) (here .loop .inv .1) ∙ fill-coming a e (quotientsOver ds ts) ts) ∙ over-part ds ts a e in-totals in
-    (in-totals, fill-part a e (quotientsOver ds ts) ts (here .loop .totals) _ (over-length ds ts) (omega (arith, found .block-end .ensures)) in-totals done (here .loop .inv .1))
+    (in-totals, fill-part a e (quotientsOver ds ts) ts (here .loop .totals) _ (quotients-length _ ts) (omega (arith, found .block-end .ensures)) in-totals done (here .loop .inv .1))
 
 returns : tie.Need-returns Inv-loop μ-loop
 returns c =
     let here : tie.At-loop Inv-loop μ-loop = search in
-    here .loop .inv .1 ∙ fill-all (here .loop .a) _ _ (over-length _ _) (omega (arith, long here))
+    here .loop .inv .1 ∙ fill-all (here .loop .a) _ _ (quotients-length _ _) (omega (arith, long here))
 
 pub divide-totals-spec : {M : Type 1} → statement M
 divide-totals-spec =

@@ -1,13 +1,12 @@
 -- `all_are` meets its contract: what is found and the degrees from i on decide. Assumes nothing.
-use mathlib.Core.Path.{_≡_, refl, sym, _∙_, ap}
-use mathlib.Core.Bool.{_&&_, and-true, and-assoc}
-use Prim.Native.Nat.{_+_, _-_, _≤_}
+use mathlib.Core.Path.{_≡_, refl, sym}
+use mathlib.Core.Bool.{_&&_}
+use Prim.Native.Nat.{_-_, _≤_}
 use native.Mathlib.Omega.{arith}
-use lib.Dec.{eqb}
-use lib.ListN.{length, getD, drop}
+use lib.ListN.{length, drop}
 use borrow.Author.Needs.{needs}
 use Rattle.spin.specs.Totals.{allAre}
-use Rattle.spin.proofs.TotalsLaws.{all-are-more, all-are-end}
+use Rattle.spin.proofs.EveryLaws.{every-more, every-end}
 use Rattle.spin.proofs.totals.all_are.Statement.{statement}
 use Rattle.spin.proofs.totals.all_are.Tie as tie
 
@@ -22,19 +21,15 @@ loop-again c =
     let start : tie.Start Inv-loop μ-loop = search in
     let turn : tie.At-loop Inv-loop μ-loop = search in
     let ds = start .args .degrees .now in
-    let d = start .args .d in
     let l = turn .loop in
-    let rest = allAre d (drop (l .i + 1) ds) in (
-      omega arith,
-      l .inv .1 ∙ ap (λ b. l .all && b) (all-are-more d ds (l .i) (omega arith)) ∙ sym (and-assoc (l .all) (eqb (getD ds (l .i) 0) d) rest) ∙ ap (λ b. b && rest) (sym (c .same .ensures)),
-    )
+    (omega arith, every-more _ ds (l .i) (l .all) (l .inv .1) 0 _ (omega arith) (c .same .ensures))
 
 returns : tie.Need-returns Inv-loop μ-loop
 returns c =
     let start : tie.Start Inv-loop μ-loop = search in
     let turn : tie.At-loop Inv-loop μ-loop = search in
     let l = turn .loop in
-    sym (l .inv .1 ∙ ap (λ b. l .all && b) (all-are-end (start .args .d) (start .args .degrees .now) (l .i) (omega arith)) ∙ and-true (l .all))
+    sym (every-end _ (start .args .degrees .now) (l .i) (l .all) (l .inv .1) (omega arith))
 
 pub all-are-spec : {M : Type 1} → statement M
 all-are-spec =

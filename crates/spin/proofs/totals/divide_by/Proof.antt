@@ -3,16 +3,15 @@ use mathlib.Core.Path.{_≡_, sym, _∙_, ap}
 use Prim.Native.Nat.{_-_, _<_, _≤_}
 use native.Mathlib.Omega.{arith}
 use lib.ListN.{length}
-use lib.IntN.{pos}
 use mir.Syntax.{w32}
 use mir.Facts.{toZ-ofZ}
 use borrow.Author.Needs.{needs}
 use Rattle.integers.specs.Machine.{fit}
 use Rattle.rules.specs.Table.{at}
 use Rattle.rules.specs.Round.{divided}
-use Rattle.rules.proofs.FillLaws.{fill, fill-none, fill-length, fill-at, fill-more, fill-all}
+use Rattle.rules.proofs.FillLaws.{fill, fill-none, fill-length, fill-all}
 use Rattle.spin.specs.Totals.{quotients}
-use Rattle.spin.proofs.TotalsLaws.{quotients-length, quotients-at}
+use Rattle.spin.proofs.TotalsLaws.{quotients-length, quotients-more}
 use Rattle.spin.proofs.totals.divide_by.Statement.{statement}
 use Rattle.spin.proofs.totals.divide_by.Tie as tie
 
@@ -25,26 +24,20 @@ abbrev μ-loop : tie.MeasureT-loop
 long : (c : tie.At-loop Inv-loop μ-loop) → length (c .loop .totals) ≡ length (c .before .args .totals .now)
 long c = ap length (c .loop .inv .1) ∙ fill-length (c .loop .i) _ _
 
-old : (c : tie.At-loop Inv-loop μ-loop) → at (c .loop .totals) (c .loop .i) ≡ at (c .before .args .totals .now) (c .loop .i)
-old c = ap (λ l. at l (c .loop .i)) (c .loop .inv .1) ∙ fill-at (c .loop .i) _ _ (pos 0)
-
 loop-again : tie.Need-loop-again Inv-loop μ-loop
 loop-again c =
     let here : tie.At-loop Inv-loop μ-loop = search in
     let ts = here .before .args .totals .now in
     let d = here .before .args .d in
     let inside : here .loop .i < length ts = omega (arith, long here) in
-    let read = toZ-ofZ (fit w32 (at (here .loop .totals) (here .loop .i)) (c .before .quotient-of-arg .given)) ∙ old here in (
-      omega arith,
-      fill-more (here .loop .i) _ _ _ _ (pos 0) (omega (arith, quotients-length d ts))
-          (toZ-ofZ (fit w32 (c .quotient-of .result) (c .quotient-of .ok)) ∙ c .quotient-of .ensures ∙ ap (λ t. divided t d) read ∙ sym (quotients-at d ts (here .loop .i) inside))
-          (here .loop .inv .1),
-    )
+    let read = toZ-ofZ (fit w32 (at (here .loop .totals) (here .loop .i)) (c .before .quotient-of-arg .given)) in
+    let made = toZ-ofZ (fit w32 (c .quotient-of .result) (c .quotient-of .ok)) ∙ c .quotient-of .ensures ∙ ap (λ t. divided t d) read in
+    (omega arith, quotients-more (λ _. d) ts _ (here .loop .i) _ inside made (here .loop .inv .1))
 
 returns : tie.Need-returns Inv-loop μ-loop
 returns c =
     let here = c .before in
-    here .loop .inv .1 ∙ fill-all (here .loop .i) _ _ (quotients-length (here .before .args .d) (here .before .args .totals .now)) (omega (arith, long here))
+    here .loop .inv .1 ∙ fill-all (here .loop .i) _ _ (quotients-length _ _) (omega (arith, long here))
 
 pub divide-by-spec : {M : Type 1} → statement M
 divide-by-spec =
