@@ -62,7 +62,7 @@ static Buffers started(void)
 /* What a round shows. */
 typedef struct {
     int32_t spins[BITS], copies[EDGES], offsets[EDGES], sums[BITS];
-    uint32_t multiplier, mask;
+    uint32_t multiplier, mask, depth;
 } Shown;
 
 static void show(Buffers *b, const Shown *round)
@@ -73,6 +73,7 @@ static void show(Buffers *b, const Shown *round)
     memcpy(b->sums, round->sums, sizeof round->sums);
     b->multipliers[0] = round->multiplier;
     b->masks[0] = round->mask;
+    b->depths[0] = round->depth;
 }
 
 static void show_certified(Buffers *b, const Shown *round, const uint8_t *word, const uint8_t *certificate,
@@ -123,13 +124,14 @@ static JugnayapCalled rounds_on_nothing(const int16_t *frame, size_t frame_len, 
     return jugnayap_rounds(code, sizeof code, frame, frame_len, run, wanted EACH_BUFFER(LEND_NONE));
 }
 
-/* (4000, 4000, -2000), a round at a time: word 000 after round 3. */
+/* (4000, 4000, -2000), a round at a time: word 000 after round 3. In rounds 2 and 3 spin plus offset goes
+ * beyond U, and the depth is that of the clipped numbers. */
 static void three_rounds(void)
 {
     static const Shown shown[] = {
-        {{4000, 4000, -2000}, {2032, 2032, -32}, {1968, 1968, -1968}, {64, 64, 1936}, 1968, 4},
-        {{4064, 4064, -64}, {2698, 2698, 1302}, {3334, 3334, -3334}, {-636, -636, 4636}, 3334, 4},
-        {{3364, 3364, 2636}, {3365, 3365, 2635}, {3333, 3333, -3333}, {32, 32, 5968}, 3333, 4}};
+        {{4000, 4000, -2000}, {2032, 2032, -32}, {1968, 1968, -1968}, {64, 64, 1936}, 1968, 4, 5904},
+        {{4064, 4064, -64}, {2698, 2698, 1302}, {3334, 3334, -3334}, {-636, -636, 4636}, 3334, 4, 6128},
+        {{3364, 3364, 2636}, {3365, 3365, 2635}, {3333, 3333, -3333}, {32, 32, 5968}, 3333, 4, 4794}};
     static const uint8_t word[] = {0, 0, 0}, certificate[] = {1, 0, 1, 0, 0, 0, 0x05, 0x0D, 0, 0, 4, 0, 0, 0};
     const JugnayapRun first = {1, JUGNAYAP_RUNNING}, second = {2, JUGNAYAP_RUNNING},
                       third = {3, JUGNAYAP_CERTIFIED};
@@ -155,7 +157,7 @@ static void two_ones(void)
 {
     static const int16_t frame[BITS] = {-4000, -4000, -2000};
     static const Shown last = {
-        {-3364, -3364, 2636}, {-3365, -3365, 2635}, {-3333, -3333, -3333}, {-32, -32, 5968}, 3333, 7};
+        {-3364, -3364, 2636}, {-3365, -3365, 2635}, {-3333, -3333, -3333}, {-32, -32, 5968}, 3333, 7, 4794};
     static const uint8_t word[] = {1, 1, 0}, certificate[] = {1, 0, 1, 0, 0, 0, 0x05, 0x0D, 0, 0, 7, 0, 0, 0};
     Buffers b = started(), wanted = started();
     same_called("word 110", rounds(frame, fresh, ROUNDS, needed, &b),
@@ -168,7 +170,7 @@ static void two_ones(void)
 static void no_cut(void)
 {
     static const int16_t frame[BITS] = {10, 10, 10};
-    static const Shown last = {{10, 10, 10}, {10, 10, 10}, {0, 0, 0}, {10, 10, 10}, 0, 0};
+    static const Shown last = {{10, 10, 10}, {10, 10, 10}, {0, 0, 0}, {10, 10, 10}, 0, 0, 0};
     static const uint8_t word[] = {0, 0, 0}, certificate[] = {0, 0, 1, 0};
     Buffers b = started(), wanted = started();
     same_called("no cut", rounds(frame, fresh, 5, lent, &b),
@@ -182,6 +184,25 @@ static void no_cut(void)
     same_verdict("all bytes lent",
                  jugnayap_judge(code, sizeof code, frame, BITS, b.word, BITS, b.certificate, CERTIFICATE),
                  (JugnayapVerdict){.number = JUGNAYAP_REFUSED_CERTIFICATE_WRONG});
+}
+
+/* (1, 4096, 0) has a cut in round 1 and none in round 2, done by two calls or by one. */
+static void cut_once(void)
+{
+    static const int16_t frame[BITS] = {1, JUGNAYAP_UNIT, 0};
+    static const Shown shown[] = {{{1, 4096, 0}, {0, 4095, 1}, {1, 1, -1}, {-1, 4094, 2}, 1, 4, 1},
+                                  {{0, 4096, 2}, {1, 4096, 1}, {0, 1, 0}, {1, 4095, 1}, 0, 0, 0}};
+    const JugnayapRun first = {1, JUGNAYAP_RUNNING}, second = {2, JUGNAYAP_RUNNING};
+    Buffers b = started(), wanted = started();
+    same_called("cut", rounds(frame, fresh, 1, lent, &b), (JugnayapCalled){.run = first});
+    show(&wanted, &shown[0]);
+    same_buffers("cut", b, wanted);
+    same_called("cut no more", rounds(frame, first, 1, lent, &b), (JugnayapCalled){.run = second});
+    show(&wanted, &shown[1]);
+    same_buffers("cut no more", b, wanted);
+    b = started();
+    same_called("both rounds", rounds(frame, fresh, 2, lent, &b), (JugnayapCalled){.run = second});
+    same_buffers("both rounds", b, wanted);
 }
 
 /* A frame of zeros, from the start and resumed: all is 0, and word and certificate stay. */
@@ -237,6 +258,7 @@ static void refused_lengths(void)
 #define SHORT(element, name, need, first) \
     n.name--; \
     refused(#name " short", JUGNAYAP_REFUSED_BUFFER_SHORT, run, 1, n, started()); \
+    refused(#name " short, 0 rounds", JUGNAYAP_REFUSED_BUFFER_SHORT, fresh, 0, n, started()); \
     n.name++;
     EACH_BUFFER(SHORT)
     refused("nothing lent", JUGNAYAP_REFUSED_BUFFER_SHORT, run, 1, none, started());
@@ -306,6 +328,7 @@ int main(void)
     three_rounds();
     two_ones();
     no_cut();
+    cut_once();
     spent();
     refused_records();
     refused_lengths();

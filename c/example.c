@@ -13,7 +13,7 @@ static const int16_t frame[BITS] = {4000, 4000, -2000};
 /* The buffers of one run. */
 typedef struct {
     int32_t spins[BITS], copies[EDGES], offsets[EDGES], sums[BITS];
-    uint32_t multipliers[CHECKS], masks[CHECKS];
+    uint32_t multipliers[CHECKS], masks[CHECKS], depths[CHECKS];
     uint8_t word[BITS], certificate[CERTIFICATE];
 } Buffers;
 
@@ -21,7 +21,7 @@ static JugnayapCalled one_round(JugnayapRun run, Buffers *b)
 {
     return jugnayap_rounds(code, sizeof code, frame, BITS, run, 1, b->spins, BITS, b->copies, EDGES,
                            b->offsets, EDGES, b->sums, BITS, b->multipliers, CHECKS, b->masks, CHECKS,
-                           b->word, BITS, b->certificate, CERTIFICATE);
+                           b->depths, CHECKS, b->word, BITS, b->certificate, CERTIFICATE);
 }
 
 static void print_round(uint32_t round, const Buffers *b)
@@ -29,7 +29,8 @@ static void print_round(uint32_t round, const Buffers *b)
     printf("round %" PRIu32 " spins", round);
     for (int i = 0; i < BITS; i++)
         printf(" %" PRId32, b->spins[i]);
-    printf(" multiplier %" PRIu32 " mask %" PRIu32 " copies", b->multipliers[0], b->masks[0]);
+    printf(" multiplier %" PRIu32 " mask %" PRIu32 " depth %" PRIu32 " copies", b->multipliers[0], b->masks[0],
+           b->depths[0]);
     for (int i = 0; i < EDGES; i++)
         printf(" %" PRId32, b->copies[i]);
     printf("\n");

@@ -16,6 +16,9 @@ static const uint8_t hamming[] = {7, 0, 3, 0, 0, 0, 4, 0, 4, 0, 4, 0, 8, 0, 4, 0
 /* Three checks, of which only the second has members: bits 0, 1 and 2. */
 static const uint8_t shortened[] = {3, 0, 3, 0, 0, 0, 0, 0, 0, 0, 3, 0, 3, 0, 0, 0, 0, 0, 1, 0, 2, 0};
 
+/* One check on one bit. */
+static const uint8_t one[] = {1, 0, 1, 0, 0, 0, 1, 0, 0, 0};
+
 static const int16_t leaning[BITS] = {4000, 4000, -2000};
 static const int16_t too_large[BITS] = {4000, 4000, JUGNAYAP_MAX_FRAME + 1};
 
@@ -31,6 +34,7 @@ static void same_cut(const char *call, JugnayapCut got, JugnayapCut wanted)
 {
     SAME(number);
     SAME(mask);
+    SAME(depth);
 }
 
 static void same_agreement(const char *call, JugnayapAgreement got, JugnayapAgreement wanted)
@@ -54,9 +58,10 @@ static void tables(void)
 static void cuts(void)
 {
     int32_t spins[7] = {UNIT, UNIT, UNIT, UNIT, UNIT, -UNIT, UNIT};
-    const int32_t uncut[BITS] = {1365, 1365, -1366}, cut[BITS] = {1365, 1365, -1367};
+    const int32_t cut[BITS] = {1365, 1365, -1367};
     same_cut("check 2, whose third member leans",
-             jugnayap_search_cut(hamming, sizeof hamming, spins, 7, 2), (JugnayapCut){.mask = 4});
+             jugnayap_search_cut(hamming, sizeof hamming, spins, 7, 2),
+             (JugnayapCut){.mask = 4, .depth = 8192});
     same_cut("check 0, which is met", jugnayap_search_cut(hamming, sizeof hamming, spins, 7, 0),
              (JugnayapCut){.mask = 0});
     same_cut("check 3 of 3", jugnayap_search_cut(hamming, sizeof hamming, spins, 7, 3),
@@ -66,14 +71,32 @@ static void cuts(void)
     spins[6] = UNIT + 1;
     same_cut("spin 4097", jugnayap_search_cut(hamming, sizeof hamming, spins, 7, 2),
              (JugnayapCut){.number = JUGNAYAP_REFUSED_POINT_WRONG});
-    same_cut("1365 1365 -1366", jugnayap_search_cut(three, sizeof three, uncut, BITS, 0),
-             (JugnayapCut){.mask = 0});
-    same_cut("1365 1365 -1367", jugnayap_search_cut(three, sizeof three, cut, BITS, 0),
-             (JugnayapCut){.mask = 4});
     for (size_t check = 0; check < 3; check++)
         same_cut("checks without members on either side",
                  jugnayap_search_cut(shortened, sizeof shortened, cut, BITS, check),
-                 (JugnayapCut){.mask = check == 1 ? 4 : 0});
+                 (JugnayapCut){.mask = check == 1 ? 4 : 0, .depth = check == 1 ? 1 : 0});
+}
+
+/* Left sides of 2U, of one less and of more; two with two spins below 0, where the smallest changes sides; and
+ * 0. On one member the left side is U plus the spin, so that each depth is met. */
+static void depths(void)
+{
+    static const struct {
+        const char *call;
+        int32_t spins[BITS];
+        uint32_t mask, depth;
+    } cases[] = {{"1365 1365 -1366", {1365, 1365, -1366}, 0, 0},
+                 {"1365 1365 -1367", {1365, 1365, -1367}, 4, 1},
+                 {"0 0 0", {0, 0, 0}, 0, 0},
+                 {"-4000 -4000 100", {-4000, -4000, 100}, 7, 3804},
+                 {"-4000 4000 -100", {-4000, 4000, -100}, 1, 3804},
+                 {"-4096 -4096 -4096", {-UNIT, -UNIT, -UNIT}, 7, 8192}};
+    for (size_t i = 0; i < COUNT(cases); i++)
+        same_cut(cases[i].call, jugnayap_search_cut(three, sizeof three, cases[i].spins, BITS, 0),
+                 (JugnayapCut){.mask = cases[i].mask, .depth = cases[i].depth});
+    for (int32_t spin = -UNIT; spin <= UNIT; spin++)
+        same_cut("one member", jugnayap_search_cut(one, sizeof one, &spin, 1, 0),
+                 (JugnayapCut){.mask = spin < UNIT, .depth = (uint32_t)(UNIT - spin)});
 }
 
 /* One entry, scale 1, mask 4, on word 000. */
@@ -169,6 +192,7 @@ int main(void)
 {
     tables();
     cuts();
+    depths();
     verdicts();
     checks_without_members();
     large_gap();

@@ -1,6 +1,6 @@
 /* The numbers that the header states, held to what the library answers: its version, each limit at its last
- * number and one past it, the lengths, and the refusals that fields.c and buffers.c don't meet. Says what
- * differs; exit status 0 only if nothing does. */
+ * number and one past it, the lengths, what a round leaves of its cuts, and the refusals that fields.c and
+ * buffers.c don't meet. Says what differs; exit status 0 only if nothing does. */
 #include <string.h>
 
 #include "jugnayap.h"
@@ -194,18 +194,58 @@ static void written_length(void)
                  (JugnayapVerdict){.kind = JUGNAYAP_PASSED});
 }
 
-/* A second check without members: its multiplier and mask become 0, and no entry names it. */
+/* One check on one bit at -U: no cut is deeper. */
+static void deepest_cut(void)
+{
+    static const int16_t frame[1] = {-JUGNAYAP_MAX_FRAME};
+    static const int32_t spins[1] = {-JUGNAYAP_UNIT};
+    const Code code = code_of((Shape){1, 1, 1, 1});
+    same("deepest cut", "depth", 0, jugnayap_search_cut(code.bytes, code.length, spins, 1, 0).depth,
+         JUGNAYAP_MAX_DEPTH);
+    same_number("deepest cut", decoded(&code, frame, 1, 1, CERTIFICATE).number, 0);
+    same("deepest cut", "depths", 0, left.depths[0], JUGNAYAP_MAX_DEPTH);
+}
+
+/* Masks and depths, where other numbers stood, are the cut search's at copy plus offset, clipped. Each bit
+ * has one edge here, and the edge has the bit's number. */
+static void cuts_of_a_round(uint32_t wanted)
+{
+    const Code code = code_of(apart);
+    int16_t frame[900];
+    int32_t spins[900];
+    size_t cuts = 0;
+    for (size_t i = 0; i < COUNT(frame); i++)
+        frame[i] = (int16_t)((int)(i * i * 7919 % 16383) - JUGNAYAP_MAX_FRAME);
+    memset(left.masks, 0xFF, sizeof left.masks);
+    memset(left.depths, 0xFF, sizeof left.depths);
+    same("cuts", "rounds", 0, decoded(&code, frame, COUNT(frame), wanted, CERTIFICATE).run.rounds, wanted);
+    for (size_t i = 0; i < COUNT(spins); i++) {
+        const int32_t whole = left.copies[i] + left.offsets[i];
+        spins[i] = whole > JUGNAYAP_UNIT ? JUGNAYAP_UNIT : whole < -JUGNAYAP_UNIT ? -JUGNAYAP_UNIT : whole;
+    }
+    for (size_t i = 0; i < 300; i++) {
+        const JugnayapCut got = jugnayap_search_cut(code.bytes, code.length, spins, COUNT(spins), i);
+        same("cuts", "masks", i, left.masks[i], got.mask);
+        same("cuts", "depths", i, left.depths[i], got.depth);
+        cuts += got.depth != 0;
+    }
+    same("cuts", "some but not all", 0, 0 < cuts && cuts < 300, 1);
+}
+
+/* A second check without members: its multiplier, mask and depth become 0, and no entry names it. */
 static void check_without_members(void)
 {
     static const int16_t frame[3] = {4000, 4000, -2000};
     const Code code = code_of((Shape){3, 2, 3, 0});
-    left.multipliers[1] = left.masks[1] = 7;
+    left.multipliers[1] = left.masks[1] = left.depths[1] = 7;
     const JugnayapCalled got = decoded(&code, frame, 3, 3, CERTIFICATE);
     same("no members", "status", 0, got.run.status, JUGNAYAP_CERTIFIED);
     same("no members", "multipliers", 0, left.multipliers[0], 3333);
     same("no members", "multipliers", 1, left.multipliers[1], 0);
     same("no members", "masks", 0, left.masks[0], 4);
     same("no members", "masks", 1, left.masks[1], 0);
+    same("no members", "depths", 0, left.depths[0], 4794);
+    same("no members", "depths", 1, left.depths[1], 0);
     const size_t length = jugnayap_certificate_length(left.certificate);
     same("no members", "length", 0, (int64_t)length, JUGNAYAP_CERTIFICATE_LENGTH(1));
     same_verdict("no members",
@@ -258,6 +298,9 @@ int main(void)
     frames_and_points();
     rounds();
     written_length();
+    deepest_cut();
+    for (uint32_t wanted = 1; wanted <= 4; wanted++)
+        cuts_of_a_round(wanted);
     check_without_members();
     certificates();
     return account("header");

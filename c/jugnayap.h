@@ -38,9 +38,9 @@ extern "C" {
 
 /* The version of this header. jugnayap_version() is that of the library that the program runs with. */
 #define JUGNAYAP_VERSION_MAJOR 0
-#define JUGNAYAP_VERSION_MINOR 2
+#define JUGNAYAP_VERSION_MINOR 3
 #define JUGNAYAP_VERSION_PATCH 0
-#define JUGNAYAP_VERSION_STRING "0.2.0"
+#define JUGNAYAP_VERSION_STRING "0.3.0"
 #define JUGNAYAP_VERSION \
     (JUGNAYAP_VERSION_MAJOR * 10000 + JUGNAYAP_VERSION_MINOR * 100 + JUGNAYAP_VERSION_PATCH)
 
@@ -51,6 +51,7 @@ extern "C" {
 #define JUGNAYAP_MAX_EDGES 8192          /* E */
 #define JUGNAYAP_MAX_FRAME 8191          /* a frame number, from -8191 */
 #define JUGNAYAP_MAX_ROUNDS 1024         /* of a run */
+#define JUGNAYAP_MAX_DEPTH 8192          /* of a cut, from 1; 2U */
 #define JUGNAYAP_MAX_ENTRIES 4096        /* a certificate's q, from 0 */
 #define JUGNAYAP_MAX_SCALE 1023          /* its scale, from 1 */
 #define JUGNAYAP_MAX_MULTIPLIER 16777215 /* an entry's multiplier, from 1 */
@@ -110,7 +111,8 @@ typedef struct {
 
 typedef struct {
     uint32_t number;
-    uint32_t mask; /* the violated set, or 0 for no cut */
+    uint32_t mask;  /* the violated set, or 0 for no cut */
+    uint32_t depth; /* by how much its inequality falls short, or 0 for no cut */
 } JugnayapCut;
 
 /* JugnayapVerdict.kind */
@@ -152,8 +154,10 @@ uint32_t jugnayap_version(void);
 /* Checks a code. Refusals: the code's. */
 JugnayapTable jugnayap_check_table(const uint8_t *code, size_t code_len);
 
-/* The cut search: the violated odd set V of the check's members at these spins, as a mask, or none. None
- * is answered exactly if no odd V is violated; at most one ever is.
+/* The cut search: the violated odd set V of the check's members at these spins, as a mask, and its depth, or
+ * none. None is answered exactly if no odd V is violated; at most one ever is. V's inequality: the sum over V
+ * of (U + spin), plus the sum over the others of (U - spin), is at least 2U. The depth is by how much the
+ * inequality falls short: 2U less the left side, 1 to 8192.
  * Refusals: the code's, POINT_WRONG, ASKED_TOO_MUCH (check). */
 JugnayapCut jugnayap_search_cut(const uint8_t *code, size_t code_len,
                                 const int32_t *spins, size_t spins_len,
@@ -188,13 +192,16 @@ JugnayapCalled jugnayap_start(const uint8_t *code, size_t code_len,
  * all checks and has gap 0, or spent after JUGNAYAP_MAX_ROUNDS in all without one. `run` is the record after
  * the call, and its status the answer.
  *
- * Lengths needed: spins n; copies, offsets E; sums n; multipliers, masks m; word n; certificate
- * JUGNAYAP_CERTIFICATE_LENGTH(m). What is past them never changes.
+ * Lengths needed: spins n; copies, offsets E; sums n; multipliers, masks, depths m; word n;
+ * certificate JUGNAYAP_CERTIFICATE_LENGTH(m). What is past them never changes.
  *
  * A call that does a round leaves that of the last one: each bit's spin, each edge's copy and offset (in
- * the order of the bodies), each bit's sum, each check's multiplier and mask, both 0 for no cut. Only a call
- * that certifies writes word and certificate, the latter 4 + 10q bytes with q the cuts of the last round, in
- * check order, scale 1; what is past them stays. 0 rounds change nothing.
+ * the order of the bodies), each bit's sum, each check's multiplier, mask and depth, all 0 for no cut. Only a
+ * call that certifies writes word and certificate, the latter 4 + 10q bytes with q the cuts of the last round,
+ * in check order, scale 1; what is past them stays. 0 rounds change nothing.
+ *
+ * Mask and depth are the cut search's at copy plus offset of the check's edges, as the round leaves them,
+ * clipped to -U..U.
  *
  * A bit's sum is that of copy less offset over its edges; a round adds it to the bit's frame number. Each
  * call, also one for 0 rounds, compares the first n sums with copies and offsets before its rounds.
@@ -210,6 +217,7 @@ JugnayapCalled jugnayap_rounds(const uint8_t *code, size_t code_len,
                                int32_t *sums, size_t sums_len,
                                uint32_t *multipliers, size_t multipliers_len,
                                uint32_t *masks, size_t masks_len,
+                               uint32_t *depths, size_t depths_len,
                                uint8_t *word, size_t word_len,
                                uint8_t *certificate, size_t certificate_len);
 

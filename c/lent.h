@@ -15,6 +15,7 @@
     buffer(int32_t, sums, BITS, 60000000) \
     buffer(uint32_t, multipliers, CHECKS, 40000000) \
     buffer(uint32_t, masks, CHECKS, 50000000) \
+    buffer(uint32_t, depths, CHECKS, 70000000) \
     buffer(uint8_t, word, BITS, 100) \
     buffer(uint8_t, certificate, CERTIFICATE, 200)
 

@@ -26,6 +26,7 @@ KEPT = Buffers(spins=Kept("spin", 2100, i32, -7, -2**31),
                sums=Kept("sum", 2100, i32, -4321, 2**31 - 1),
                multipliers=Kept("multiplier", 2100, u32, 77, 2**32 - 1),
                masks=Kept("mask", 2100, u32, 88, 2**32 - 1),
+               depths=Kept("depth", 2100, u32, 99, 2**32 - 1),
                word=Kept("word", 2100, u8, 3, 255),
                certificate=Kept("certificate", 20600, u8, 170, 255))
 CAPACITY = Buffers(*(kept.capacity for kept in vars(KEPT).values()))

@@ -4,8 +4,12 @@ Document 01, 'Parity inequalities and the cut search' and step 2 of 'One round'.
 a check's members is a mask throughout: bit k stands for the k-th member, from 0.
 """
 
+from collections import namedtuple
+
 import table
 from table import UNIT
+
+Cut = namedtuple("Cut", "mask depth")       # a violated odd set, and how far short it falls
 
 
 def clip(value):
@@ -22,16 +26,22 @@ def left_side(spins, mask, unit=UNIT):
                for member, spin in enumerate(spins))
 
 
+def shortfall(spins, mask, unit=UNIT):
+    """2U less the left side: above 0 exactly if V's inequality is violated."""
+    return 2 * unit - left_side(spins, mask, unit)
+
+
 def is_violated(spins, mask, unit=UNIT):
-    return left_side(spins, mask, unit) < 2 * unit
+    return shortfall(spins, mask, unit) > 0
 
 
 def known_cut(spins):
-    """The violated odd set as a mask, or None, by the known method.
+    """The violated odd set and its depth, or None, by the known method.
 
     The negative spins are the set with the least left side of all.  If their number is even,
     the cheapest way to an odd set is to move the member nearest to 0; `min` takes the first
-    on a tie.  A check without members has no odd set, and so no cut.
+    on a tie.  A check without members has no odd set, and so no cut.  No member's part of a
+    left side is negative, so a depth is at most 2U.
     """
     if not spins:
         return None
@@ -39,7 +49,8 @@ def known_cut(spins):
     if mask.bit_count() % 2 == 0:
         nearest = min(range(len(spins)), key=lambda member: abs(spins[member]))
         mask ^= 1 << nearest
-    return mask if is_violated(spins, mask) else None
+    depth = shortfall(spins, mask)
+    return Cut(mask, depth) if depth > 0 else None
 
 
 def all_cuts(spins, unit=UNIT):

@@ -8,6 +8,7 @@ keep every multiplier at or below 8,388,608.
 import make_scripts as scripts
 import make_spoilt_scripts as spoilt
 from call_script import play
+from make_depth_scripts import depth_scripts
 from make_sum_scripts import sum_scripts
 from make_weak_scripts import weak_scripts
 from packing import lines
@@ -26,7 +27,7 @@ def call_script():
             + scripts.emptied_runs(rng) + scripts.mostly_empty(rng)
             + scripts.empty_checks_put_in() + spoilt.emptied_half_done(rng)
             + spoilt.emptied_edges() + spoilt.emptied_parts() + spoilt.emptied_files(rng)
-            + weak_scripts(Prng(20_07)) + sum_scripts(Prng(20_09)))
+            + weak_scripts(Prng(20_07)) + sum_scripts(Prng(20_09)) + depth_scripts(Prng(20_11)))
 
 
 def case_calls():

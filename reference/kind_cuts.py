@@ -10,7 +10,7 @@ from itertools import permutations, product
 import make_damage as damage
 import make_inputs as inputs
 import make_tables as tables
-from cut import cut_search, in_set
+from cut import Cut, cut_search
 from decoder import answer
 from make_tables import code_file
 from packing import block, counted, lines, u32
@@ -57,43 +57,14 @@ def telling_values():
             + [alone(spins) for spins in product((-UNIT, -1366, 0, 1365, UNIT), repeat=3)])
 
 
-def spins_with_slacks(mask, slacks):
-    """Each member's part of V's left side is its slack, from 0 (its own end) to 2U."""
-    return [slack - UNIT if in_set(mask, member) else UNIT - slack
-            for member, slack in enumerate(slacks)]
-
-
-def even_slacks(rng, degree, total):
-    return [total // degree + (member < total % degree) for member in range(degree)]
-
-
-def halved_slacks(rng, degree, total):
-    return rng.shuffled([total // 2, total - total // 2] + [0] * (degree - 2))
-
-
-def single_slack(rng, degree, total):
-    """Nearly all on one member, which so stands on the far side: the search must move it."""
-    return rng.shuffled([total - 1, 1] + [0] * (degree - 2))
-
-
-def random_slacks(rng, degree, total):
-    slacks = [0] * degree
-    while total > 0:
-        member = rng.between(0, degree - 1)
-        portion = min(total, 2 * UNIT - slacks[member], rng.between(1, 3000))
-        slacks[member] += portion
-        total -= portion
-    return slacks
-
-
 def edge_of_the_inequality(rng):
     """Left sides of 2U - 1, 2U and 2U + 1 at every degree from 2 on, in four ways."""
     cases = []
     for degree in range(2, 33):
         for total in (2 * UNIT - 1, 2 * UNIT, 2 * UNIT + 1):
-            for share in (even_slacks, halved_slacks, single_slack, random_slacks):
+            for share in inputs.SHARES:
                 mask = inputs.random_mask(rng, degree)
-                cases.append(placed(rng, spins_with_slacks(mask, share(rng, degree, total))))
+                cases.append(placed(rng, inputs.spins_with_slacks(mask, share(rng, degree, total))))
     return cases
 
 
@@ -105,8 +76,8 @@ def top_members(rng):
         odd = full if degree % 2 == 1 else full ^ 1
         for mask in (top, 1, top | 3, odd, full ^ top if degree % 2 == 0 else full ^ top ^ 2):
             for total in (0, 1, UNIT, 2 * UNIT - 1, 2 * UNIT):
-                slacks = random_slacks(rng, degree, total)
-                cases.append(alone(spins_with_slacks(mask, slacks)))
+                slacks = inputs.random_slacks(rng, degree, total)
+                cases.append(alone(inputs.spins_with_slacks(mask, slacks)))
     return cases
 
 
@@ -220,6 +191,40 @@ def mostly_empty(rng):
     return [CutCase(data, spins, number) for number in (0, 1024, 2047, 2048)]
 
 
+# --- depths ----------------------------------------------------------------------------------
+
+def chosen_depths(rng):
+    """Depths beside both ends and the middle, and one between, at every degree: shared out at
+    random, and all on one member.  Depth 1 stands in `edge_of_the_inequality`."""
+    cases = []
+    for degree in range(1, 33):
+        for depth in (2, UNIT - 1, UNIT + 1, 2 * UNIT - 2, 2 * UNIT - 1, 2 * UNIT,
+                      rng.between(3, 2 * UNIT - 3)):
+            total = 2 * UNIT - depth
+            cases += [alone(inputs.spins_with_slacks(inputs.random_mask(rng, degree), slacks))
+                      for slacks in (inputs.random_slacks(rng, degree, total),
+                                     rng.shuffled([total] + [0] * (degree - 1)))]
+    return cases
+
+
+def tied_depths(rng):
+    """Two members tied for the least size: an odd set of negative spins falls short by up to
+    twice that size, an even one never, whichever of the two changes sides."""
+    cases = []
+    for degree in (3, 4, 7, 16, 31, 32):
+        for size in (1, rng.between(2, 1364), 1365):
+            for depth in sorted({1, 2, 2 * size}):
+                slacks = [UNIT - size, UNIT - size, 2 * size - depth] + [0] * (degree - 3)
+                slacks, odd = rng.shuffled(slacks), inputs.random_mask(rng, degree)
+                cases += [alone(inputs.spins_with_slacks(mask, slacks))
+                          for mask in (odd, odd ^ 1 << rng.between(0, degree - 1))]
+    return cases
+
+
+def depth_records(rng):
+    return chosen_depths(rng) + tied_depths(rng)
+
+
 # --- the kind --------------------------------------------------------------------------------
 
 def cut_records():
@@ -227,13 +232,14 @@ def cut_records():
     return (document_examples() + telling_values() + edge_of_the_inequality(rng)
             + top_members(rng) + zeros_and_ties(rng) + bad_points(rng) + bad_check_numbers(rng)
             + damaged_files(rng) + random_points(rng, 320) + large_tables(rng)
-            + empty_checks(rng) + empty_checks_refused(rng) + mostly_empty(rng))
+            + empty_checks(rng) + empty_checks_refused(rng) + mostly_empty(rng)
+            + depth_records(Prng(20_10)))
 
 
 def cut_line(case):
     found = answer(cut_search, *case)
-    if isinstance(found, int):
-        return f"mask {found}"
+    if isinstance(found, Cut):
+        return f"mask {found.mask} depth {found.depth}"
     return "none" if found is None else found
 
 

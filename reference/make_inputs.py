@@ -11,6 +11,7 @@ import certificate
 import report
 import rounds
 from certificate import Entry, write_certificate
+from cut import in_set
 from make_tables import code_file
 from table import FRAME_LIMIT, UNIT, parse_code_file
 
@@ -130,6 +131,40 @@ def random_spins(rng, count):
     spins = [rng.choice([-1, 1]) * (UNIT - rng.between(0, 2)) for _ in range(count)]
     spins[rng.between(0, count - 1)] = rng.between(-8, 8)
     return spins
+
+
+# --- a check's spins by their slacks: the members' parts of an odd set's left side -------------
+
+def spins_with_slacks(mask, slacks):
+    """Each member's part of V's left side is its slack, from 0 (its own end) to 2U."""
+    return [slack - UNIT if in_set(mask, member) else UNIT - slack
+            for member, slack in enumerate(slacks)]
+
+
+def even_slacks(rng, degree, total):
+    return [total // degree + (member < total % degree) for member in range(degree)]
+
+
+def halved_slacks(rng, degree, total):
+    return rng.shuffled([total // 2, total - total // 2] + [0] * (degree - 2))
+
+
+def single_slack(rng, degree, total):
+    """Nearly all on one member, which so stands on the far side: the search must move it."""
+    return rng.shuffled([total - 1, 1] + [0] * (degree - 2))
+
+
+def random_slacks(rng, degree, total):
+    slacks = [0] * degree
+    while total > 0:
+        member = rng.between(0, degree - 1)
+        portion = min(total, 2 * UNIT - slacks[member], rng.between(1, 3000))
+        slacks[member] += portion
+        total -= portion
+    return slacks
+
+
+SHARES = [even_slacks, halved_slacks, single_slack, random_slacks]
 
 
 # --- certificates ----------------------------------------------------------------------------

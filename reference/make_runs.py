@@ -18,7 +18,8 @@ CallClaim = namedtuple("CallClaim", "number call arguments")
 Call = namedtuple("Call", "wanted short")           # short: a buffer lent one too short, or None
 
 BUFFER_NAMES = [field.name for field in fields(Buffers)]
-OTHER_NAMES = [name for name in BUFFER_NAMES if name != "sums"]     # see make_sum_scripts.py
+# Sums and depths have scripts of their own: make_sum_scripts.py, make_depth_scripts.py.
+OTHER_NAMES = [name for name in BUFFER_NAMES if name not in ("sums", "depths")]
 
 
 # --- call lists ------------------------------------------------------------------------------

@@ -21,6 +21,7 @@ GOOD_FRAME = [700, -20, 300, 40, -500, 60, 7]
 LONGEST_START = StartRun(CAPACITY.copies, CAPACITY.offsets, CAPACITY.sums)
 THREE_DONE = Fill(copy=0, offset=0, rounds=3)
 LATE_FRAME = [-35, -40, -33, 0, 33, -11, 12]          # certified after hundreds of rounds
+FAULTS = ["file", 8, 9, 17, 41, 42, 43]               # of a call for rounds, in their order
 
 
 # --- half-done runs --------------------------------------------------------------------------
@@ -126,10 +127,10 @@ def emptied_edges():
     return script + [Fill(status=CERTIFIED), *calls([0, 1], lengths)]
 
 
-def emptied_parts():
+def emptied_parts(names=OTHER_NAMES):
     """Each part one too short and exact: empty checks count in m, and in no other length."""
     script, lengths = fresh(HOLED, LATE_FRAME), exact(HOLED)
-    for name in OTHER_NAMES:
+    for name in names:
         needed = vars(lengths)[name]
         script += calls([1], changed(CAPACITY, **{name: needed - 1}))
         script += calls([1], changed(CAPACITY, **{name: needed}))
@@ -147,7 +148,7 @@ def emptied_files(rng):
 
 # --- refused starts and calls ----------------------------------------------------------------
 
-def short_parts():
+def short_parts(names=OTHER_NAMES):
     """Each part one too short, empty, exact and longer, for runs of every standing."""
     script = []
     for table in (tables.one_bit(), HAMMING, tables.one_wide_check(), tables.stacked_singles(32)):
@@ -156,7 +157,7 @@ def short_parts():
                      opening(table, [5] * n, Fill(rounds=1024))]
         for standing in standings:
             script += standing
-            for name in OTHER_NAMES:
+            for name in names:
                 needed = vars(lengths)[name]
                 script += calls([0], changed(CAPACITY, **{name: needed - 1}))
                 script += calls([2], changed(lengths, **{name: needed - 1}))
@@ -217,12 +218,12 @@ def damaged_file(rng, kind):
     return damage.damaged(HAMMING, {kind: rng.choice(damage.FAULTS[kind])}).data
 
 
-def faulty_call(rng, faults):
-    """A call for rounds with these faults and no others."""
+def faulty_call(rng, faults, names=OTHER_NAMES):
+    """A call for rounds with these faults and no others; 41 is for one of the names."""
     file = damaged_file(rng, rng.choice(damage.ORDER)) if "file" in faults else code_file(HAMMING)
     status = rng.choice([CERTIFIED, SPENT]) if 42 in faults else RUNNING
     wanted = rng.choice([1025, 2000, 2**32 - 1]) if 17 in faults else rng.between(0, 2)
-    name = rng.choice(OTHER_NAMES)
+    name = rng.choice(names)
     lent = changed(EXACT, **{name: vars(EXACT)[name] - 1}) if 41 in faults else EXACT
     fill = Fill(copy=UNIT + (43 in faults), offset=0, rounds=3, status=status)
     return filled(HAMMING, fill) + [
@@ -232,8 +233,7 @@ def faulty_call(rng, faults):
 
 def several_faults(rng):
     """Two or three faults in one call: the first in document 01's order must win."""
-    kinds = ["file", 8, 9, 17, 41, 42, 43]
-    chosen = [*combinations(kinds, 2), *combinations(kinds, 2), *combinations(kinds, 3)]
+    chosen = [*combinations(FAULTS, 2), *combinations(FAULTS, 2), *combinations(FAULTS, 3)]
     return [step for faults in chosen for step in faulty_call(rng, faults)]
 
 

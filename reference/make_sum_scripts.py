@@ -14,7 +14,8 @@ import make_weak_frames as weak
 from call_script import (CAPACITY, Fill, Program, Put, StartRun, UseCode, UseFrame, calls, changed,
                          exact, filled, fresh, longer, opening, play, put_right, put_state,
                          start_of)
-from make_spoilt_scripts import EXACT, FARTHEST, GOOD_FRAME, HAMMING, HOLED, LATE_FRAME, faulty_call
+from make_spoilt_scripts import (EXACT, FARTHEST, FAULTS, GOOD_FRAME, HAMMING, HOLED, LATE_FRAME,
+                                 faulty_call)
 from make_tables import code_file, true_sums
 from rounds import CERTIFIED, SPENT
 from table import UNIT, parse_code_file
@@ -194,8 +195,8 @@ def short_sums():
 def wrong_beside_others(rng):
     """A wrong sum beside one or two other faults, which are all named before it; and sums lent
     one too short, which are named before 42 and 43."""
-    kinds, script = ["file", 8, 9, 17, 41, 42, 43], []
-    for faults in [(), *combinations(kinds, 1), *combinations(kinds, 2)]:
+    script = []
+    for faults in [(), *combinations(FAULTS, 1), *combinations(FAULTS, 2)]:
         *steps, call = faulty_call(rng, faults)
         bit, value = rng.between(0, 6), rng.choice([1, *FARTHEST])
         script += steps + [Put("sums", bit, value), call]

@@ -18,7 +18,7 @@ MULTIPLIER_LIMIT = certificate.MULTIPLIER_LIMIT
 
 RUNNING, CERTIFIED, SPENT = "running", "certified", "spent"
 
-Round = namedtuple("Round", "spins copies offsets sums multipliers masks")
+Round = namedtuple("Round", "spins copies offsets sums multipliers masks depths")
 
 
 @dataclass
@@ -39,6 +39,7 @@ class Buffers:
     sums: list              # per bit, the sum of copy - offset over its edges
     multipliers: list
     masks: list
+    depths: list            # per check, how far short its cut falls; 0 for none
     word: list
     certificate: list
 
@@ -47,7 +48,8 @@ def buffer_lengths(code):
     """The shortest length of each lent buffer (refusal 41)."""
     checks = len(code.checks)
     return Buffers(spins=code.bits, copies=code.edges, offsets=code.edges, sums=code.bits,
-                   multipliers=checks, masks=checks, word=code.bits, certificate=4 + 10 * checks)
+                   multipliers=checks, masks=checks, depths=checks, word=code.bits,
+                   certificate=4 + 10 * checks)
 
 
 def divide_nearest(total, count):
@@ -73,32 +75,34 @@ def spins_of_bits(code, frame, sums):
 
 
 def settle_check(values):
-    """Step 2 on one check: copies, multiplier and mask.
+    """Step 2 on one check: copies, multiplier, mask and depth.
 
-    The cut search sees the clipped values, the multiplier search the unclipped ones.  A check
-    without members is settled like every other one that has no cut.
+    The cut search sees the clipped values, and so does the depth; the multiplier search sees
+    the unclipped ones.  A check without members is settled like every other one that has no
+    cut.
     """
     clipped = [cut.clip(value) for value in values]
-    mask = cut.known_cut(clipped)
-    if mask is None:
-        return clipped, 0, 0
-    multiplier = cut.least_multiplier(values, mask)
-    return cut.moved(values, mask, multiplier), multiplier, mask
+    found = cut.known_cut(clipped)
+    if found is None:
+        return clipped, 0, 0, 0
+    multiplier = cut.least_multiplier(values, found.mask)
+    return cut.moved(values, found.mask, multiplier), multiplier, found.mask, found.depth
 
 
 def one_round(code, frame, offsets, sums):
     """Steps 1 to 3 from E offsets and n sums, or refusal 44.  Of the copies a round needs
     nothing that the sums don't tell."""
     spins = spins_of_bits(code, frame, sums)
-    result = Round(spins, [], [], [], [], [])
+    result = Round(spins, [], [], [], [], [], [])
     for start, members in zip(code.starts, code.checks):
         values = [spins[bit] + offsets[start + k] for k, bit in enumerate(members)]
-        new_copies, multiplier, mask = settle_check(values)
+        new_copies, multiplier, mask, depth = settle_check(values)
         refuse_if(multiplier > MULTIPLIER_LIMIT, 44)
         result.copies.extend(new_copies)
         result.offsets.extend(value - copy for value, copy in zip(values, new_copies))
         result.multipliers.append(multiplier)
         result.masks.append(mask)
+        result.depths.append(depth)
     return result._replace(sums=sums_of_bits(code, result.copies, result.offsets))
 
 

@@ -9,6 +9,7 @@ import time
 import traceback
 
 import test_calls
+import test_depths
 import test_division
 import test_empty
 import test_examples
@@ -20,8 +21,8 @@ import test_search
 import test_sums
 from support import Account
 
-PARTS = [test_examples, test_division, test_search, test_optimal, test_calls, test_sums, test_empty,
-         test_refusals, test_kinds, test_mutants]
+PARTS = [test_examples, test_division, test_search, test_optimal, test_calls, test_sums,
+         test_depths, test_empty, test_refusals, test_kinds, test_mutants]
 
 
 def run_test(test, account):

@@ -42,7 +42,8 @@ def expect_equal(got, wanted, what):
 
 
 # What can be seen of one call in a list.
-Seen = namedtuple("Seen", "answer rounds_done status multipliers word certificate did_rounds")
+Seen = namedtuple("Seen", "answer rounds_done status multipliers depths word certificate "
+                          "did_rounds")
 
 
 class Run:
@@ -72,8 +73,9 @@ class Run:
         self.expect_tails_kept()
         certified = got == CERTIFIED
         count = self.lent.certificate[0] + 256 * self.lent.certificate[1]
+        checks = len(self.code.checks)
         return Seen(got, self.record.rounds_done, self.record.status,
-                    self.lent.multipliers[:len(self.code.checks)],
+                    self.lent.multipliers[:checks], self.lent.depths[:checks],
                     self.lent.word[:self.code.bits] if certified else None,
                     self.lent.certificate[:4 + 10 * count] if certified else None,
                     self.record.rounds_done > before)

@@ -18,13 +18,14 @@ from prng import Prng
 from rounds import CERTIFIED, RUNNING, SPENT, Record, Round
 from support import Run, expect, expect_equal
 from table import parse_code_file
+from test_search import greatest_shortfall
 
 
 # --- demand 3 --------------------------------------------------------------------------------
 
 def negation_changes_nothing_else(account):
-    """The same list on the frame negated under a codeword: same answers, rounds done and
-    multipliers at each place, and the word plus the codeword."""
+    """The same list on the frame negated under a codeword: same answers, rounds done,
+    multipliers and depths at each place, and the word plus the codeword."""
     account.announce("negated lists", "negated lists certified", "negated under ones",
                      "refused calls in lists", "lists on the negated frame")
     rng = Prng(51)
@@ -69,6 +70,7 @@ def expect_alike(seen, mirrored, codeword):
         expect_equal(other.did_rounds, one.did_rounds, "whether rounds were done")
         if one.did_rounds:
             expect_equal(other.multipliers, one.multipliers, "multipliers")
+            expect_equal(other.depths, one.depths, "depths")
         if one.word is not None:
             expect_equal(other.word, plus(one.word, codeword), "word plus codeword")
 
@@ -89,18 +91,19 @@ def other_lists_certify_too(account, rng, table, negated, codeword, first):
 # --- rounds from the definitions -------------------------------------------------------------
 
 def plain_check(values):
-    """Copies, multiplier and mask of one check: all odd sets are tried on the clipped values,
-    and the least multiplier is looked up among all whole numbers."""
-    violated = cut.all_cuts([cut.clip(value) for value in values])
+    """Copies, multiplier, mask and depth of one check: all odd sets are tried on the clipped
+    values, and the least multiplier is looked up among all whole numbers."""
+    clipped = [cut.clip(value) for value in values]
+    violated = cut.all_cuts(clipped)
     if not violated:
-        return [cut.clip(value) for value in values], 0, 0
+        return clipped, 0, 0, 0
     mask, = violated
 
     def copies(b):
         return [cut.clip(value + b if mask & 1 << k else value - b)
                 for k, value in enumerate(values)]
     least = bisect_left(range(1 << 24), True, key=lambda b: not cut.is_violated(copies(b), mask))
-    return copies(least), least, mask
+    return copies(least), least, mask, greatest_shortfall(clipped)
 
 
 def plain_nearest(fraction):
@@ -119,16 +122,17 @@ def plain_round(table, frame, copies, offsets):
         told = [z - y for z, y, owner in zip(copies, offsets, edges) if owner == bit]
         spins.append(cut.clip(plain_nearest(Fraction(frame[bit] + sum(told), len(told)))))
     values = [spins[bit] + offset for bit, offset in zip(edges, offsets)]
-    new_copies, multipliers, masks = [], [], []
+    new_copies, multipliers, masks, depths = [], [], [], []
     for members in checks:
         first = len(new_copies)
-        settled, multiplier, mask = plain_check(values[first:first + len(members)])
+        settled, multiplier, mask, depth = plain_check(values[first:first + len(members)])
         new_copies += settled
         multipliers.append(multiplier)
         masks.append(mask)
+        depths.append(depth)
     new_offsets = [value - copy for value, copy in zip(values, new_copies)]
     return Round(spins, new_copies, new_offsets, tables.true_sums(table, new_copies, new_offsets),
-                 multipliers, masks)
+                 multipliers, masks, depths)
 
 
 # --- resumed runs and what the buffers hold --------------------------------------------------
@@ -275,6 +279,7 @@ def refusal_44_in_mid_call(account):
         expect_equal((seen.answer, run.record), ("refused 44", Record(1, RUNNING)), "44")
         expect_equal(run.round_shown().copies, [2032, 2032, -32], "copies of the counted round")
         expect_equal(run.round_shown().multipliers, [1968], "multiplier of the counted round")
+        expect_equal(run.round_shown().depths, [5904], "depth of the counted round")
         expect_equal((run.lent.word, run.lent.certificate), (run.junk.word, run.junk.certificate),
                      "word and certificate")
         expect_equal(run.call(Call(1024, None)).rounds_done, 3, "the run goes on")

@@ -35,8 +35,8 @@ def renumbered(data, numbers):
 
 
 def runs_go_alike(account):
-    """Call for call: answer, record, word; spins, copies and offsets; multipliers and masks
-    spread; the certificate with new numbers."""
+    """Call for call: answer, record, word; spins, copies and offsets; multipliers, masks and
+    depths spread; the certificate with new numbers."""
     account.announce("pairs of runs", "rounds on pairs", "pairs certified with cuts",
                      "pairs spent", "pairs refused calls")
     rng = Prng(91)
@@ -45,7 +45,7 @@ def runs_go_alike(account):
         plain, other = Run(table, frame, rng), Run(holed, frame, rng)
         for call in calls + [Call(1024, None)]:
             one, two = plain.call(call), other.call(call)
-            expect_equal(two[:3] + two[4:5], one[:3] + one[4:5], f"{call} on {holed}")
+            expect_equal((*two[:3], two.word), (*one[:3], one.word), f"{call} on {holed}")
             if one.did_rounds:
                 expect_rounds_alike(plain, other, numbers)
             if one.answer == CERTIFIED:
@@ -60,9 +60,9 @@ def runs_go_alike(account):
 
 def expect_rounds_alike(plain, other, numbers):
     wanted, m = plain.round_shown(), len(other.code.checks)
-    expect_equal(other.round_shown(),
-                 wanted._replace(multipliers=spread(wanted.multipliers, numbers, m),
-                                 masks=spread(wanted.masks, numbers, m)), "round")
+    per_check = {name: spread(getattr(wanted, name), numbers, m)
+                 for name in ("multipliers", "masks", "depths")}
+    expect_equal(other.round_shown(), wanted._replace(**per_check), "round")
 
 
 def judged_alike(account):
@@ -92,14 +92,14 @@ def cuts_alike(account):
     rng = Prng(93)
     for table, holed, numbers in emptied_pairs(rng, 60):
         spins = inputs.random_spins(rng, table[0])
-        masks = [decoder.cut_search(code_file(table), spins, check)
-                 for check in range(len(numbers))]
+        cuts = [decoder.cut_search(code_file(table), spins, check)
+                for check in range(len(numbers))]
         found = [decoder.cut_search(code_file(holed), spins, check)
                  for check in range(len(holed[1]))]
-        expect_equal(found, [masks[numbers.index(check)] if check in numbers else None
+        expect_equal(found, [cuts[numbers.index(check)] if check in numbers else None
                              for check in range(len(holed[1]))], f"cuts of {holed} at {spins}")
-        account.add("pairs of searches with a cut", sum(mask is not None for mask in masks))
-        account.add("searches beside them", len(found) - len(masks))
+        account.add("pairs of searches with a cut", sum(one is not None for one in cuts))
+        account.add("searches beside them", len(found) - len(cuts))
 
 
 def named_empty_checks(account):

@@ -9,7 +9,7 @@ import decoder
 import make_inputs as inputs
 import make_tables as tables
 from certificate import BrokenCheck, Entry, Gap, write_certificate
-from cut import cut_search
+from cut import Cut, cut_search
 from prng import Prng
 from make_runs import Call
 from rounds import CERTIFIED, RUNNING, SPENT, buffer_lengths
@@ -42,27 +42,44 @@ def expect_ending(run, rounds_done, word, certificate_hex):
 def cut_examples():
     data = tables.code_file(tables.three_bits())
     expect_equal(cut_search(data, [1365, 1365, -1366], 0), None, "cut example without a cut")
-    expect_equal(cut_search(data, [1365, 1365, -1367], 0), 4, "cut example with mask 4")
+    expect_equal(cut_search(data, [1365, 1365, -1367], 0), Cut(4, 1), "cut example with mask 4")
+
+
+def depth_examples():
+    """Left sides added up by hand: one member, then three whose negative ones are an odd set,
+    then three of whom the nearest to 0 changes sides, then three with a 0, 1 or -1."""
+    for spins, found in [([-4096], Cut(1, 8192)), ([-4095], Cut(1, 8191)), ([0], Cut(1, 4096)),
+                         ([4094], Cut(1, 2)), ([4095], Cut(1, 1)), ([4096], None),
+                         ([4096, 4096, -4096], Cut(4, 8192)), ([-4096] * 3, Cut(7, 8192)),
+                         ([4096, 4096, -4095], Cut(4, 8191)), ([-1367, 1365, 1366], Cut(1, 2)),
+                         ([4000, 4000, 2000], Cut(4, 1904)), ([-4000, 2000, -4000], Cut(7, 1904)),
+                         ([2731, 1365, 2731], Cut(2, 1)), ([-2731, -1366, 2732], Cut(1, 1)),
+                         ([4096, 0, 4096], Cut(2, 4096)), ([1, 4096, -4096], Cut(4, 4097)),
+                         ([-1, 4096, -4096], Cut(4, 4095))]:
+        data = tables.code_file(tables.one_wide_check(len(spins)))
+        expect_equal(cut_search(data, spins, 0), found, f"cut of {spins}")
 
 
 def leaning_frame():
     """(4000, 4000, -2000): the received word breaks the check; three rounds mend it."""
     run = fresh(tables.three_bits(), [4000, 4000, -2000])
     expect_round(run, RUNNING, spins=[4000, 4000, -2000], multipliers=[1968], masks=[4],
-                 copies=[2032, 2032, -32], offsets=[1968, 1968, -1968], sums=[64, 64, 1936])
+                 copies=[2032, 2032, -32], offsets=[1968, 1968, -1968], sums=[64, 64, 1936],
+                 depths=[8192 - 96 - 96 - 2096])
+    # v is (6032, 6032, -2032), then (6698, 6698, -698): the first two are clipped to 4096
     expect_round(run, RUNNING, multipliers=[3334], copies=[2698, 2698, 1302], masks=[4],
-                 sums=[-636, -636, 4636])
+                 sums=[-636, -636, 4636], depths=[8192 - 2064])
     expect_round(run, CERTIFIED, spins=[3364, 3364, 2636], multipliers=[3333], masks=[4],
-                 sums=[32, 32, 5968])
+                 sums=[32, 32, 5968], depths=[8192 - 3398])
     expect_ending(run, 3, [0, 0, 0], "01 00 01 00 00 00 05 0D 00 00 04 00 00 00")
 
 
 def two_ones_frame():
     """(-4000, -4000, -2000), the first frame negated under 110."""
     run = fresh(tables.three_bits(), [-4000, -4000, -2000])
-    expect_round(run, RUNNING, multipliers=[1968], masks=[7])
-    expect_round(run, RUNNING, multipliers=[3334], masks=[7])
-    expect_round(run, CERTIFIED, multipliers=[3333], masks=[7])
+    expect_round(run, RUNNING, multipliers=[1968], masks=[7], depths=[5904])
+    expect_round(run, RUNNING, multipliers=[3334], masks=[7], depths=[6128])
+    expect_round(run, CERTIFIED, multipliers=[3333], masks=[7], depths=[4794])
     expect_ending(run, 3, [1, 1, 0], "01 00 01 00 00 00 05 0D 00 00 07 00 00 00")
 
 
@@ -78,8 +95,9 @@ def four_gaps():
 def one_bit_frame():
     """One check on one bit, frame (-5): the check alone decides, and the bound is -5."""
     run = fresh(tables.one_bit(), [-5])
-    expect_round(run, RUNNING, spins=[-5], multipliers=[4101], masks=[1], copies=[4096])
-    expect_round(run, CERTIFIED, spins=[4096], multipliers=[4101], masks=[1])
+    expect_round(run, RUNNING, spins=[-5], multipliers=[4101], masks=[1], copies=[4096],
+                 depths=[4101])
+    expect_round(run, CERTIFIED, spins=[4096], multipliers=[4101], masks=[1], depths=[4101])
     expect_ending(run, 2, [0], "01 00 01 00 00 00 05 10 00 00 01 00 00 00")
     bound = certificate.dual_bound(run.code, [-5], 1, [Entry(0, 4101, 1)])
     expect_equal(bound, -5, "bound of the one-bit frame")
@@ -147,7 +165,8 @@ def side_change_frame():
     96 + 96 + 6096 is 1904 short of 8192, which three members make up in 635 steps.
     """
     run = fresh(tables.three_bits(), [4000, 4000, 2000])
-    expect_round(run, CERTIFIED, multipliers=[635], masks=[4], copies=[3365, 3365, 2635])
+    expect_round(run, CERTIFIED, multipliers=[635], masks=[4], copies=[3365, 3365, 2635],
+                 depths=[1904])
     expect_ending(run, 1, [0, 0, 0], "01 00 01 00 00 00 7B 02 00 00 04 00 00 00")
 
 
@@ -166,13 +185,13 @@ def empty_check_frame():
     """(4000, 4000, -2000) once more, with an empty check before and after the one with members:
     the same rounds, and 0 for the others whatever stood there."""
     run = fresh((3, [[], [0, 1, 2], []]), [4000, 4000, -2000])
-    expect_round(run, RUNNING, multipliers=[0, 1968, 0], masks=[0, 4, 0],
+    expect_round(run, RUNNING, multipliers=[0, 1968, 0], masks=[0, 4, 0], depths=[0, 5904, 0],
                  copies=[2032, 2032, -32], offsets=[1968, 1968, -1968])
     expect_round(run, RUNNING, multipliers=[0, 3334, 0], masks=[0, 4, 0])
     expect_round(run, CERTIFIED, multipliers=[0, 3333, 0], masks=[0, 4, 0])
     expect_ending(run, 3, [0, 0, 0], "01 00 01 00 01 00 05 0D 00 00 04 00 00 00")
     expect_equal([cut_search(run.code_file, [1365, 1365, -1367], check) for check in range(3)],
-                 [None, 4, None], "cuts beside empty checks")
+                 [None, Cut(4, 1), None], "cuts beside empty checks")
 
 
 def empty_check_named():
@@ -185,6 +204,54 @@ def empty_check_named():
         expect_equal(decoder.answer(decoder.judge, data, frame, [0, 1, 1], written),
                      f"refused {number}", f"entry {multiplier} {mask} on an empty check")
 
+
+# --- depths ----------------------------------------------------------------------------------
+
+def deepest_frame():
+    """One check on one bit, frame (-8191): at spin -4096 the left side is 0, and so it is on
+    v = 4096 - 8192 one round later."""
+    run = fresh(tables.one_bit(), [-8191])
+    expect_round(run, RUNNING, spins=[-4096], multipliers=[8192], depths=[8192])
+    expect_round(run, CERTIFIED, spins=[4096], multipliers=[8192], depths=[8192])
+
+
+def gained_cut_frame():
+    """(-1000, 1000, 1000): 3 x 3096 is no cut; twice as far out, 3 x 2096 is."""
+    run = fresh(tables.three_bits(), [-1000, 1000, 1000])
+    expect_round(run, RUNNING, masks=[0], depths=[0])
+    expect_round(run, RUNNING, masks=[1], depths=[8192 - 3 * 2096])
+
+
+def lost_cut_frame():
+    """Two checks that share bit 1.  In round 2 the second has v = (2500, 2500): its left side is
+    2U exactly, and its depth of 1000 goes."""
+    run = fresh((3, [[0, 1], [1, 2]]), [-1000, 4000, 1000])
+    expect_round(run, RUNNING, spins=[-1000, 2000, 1000], multipliers=[1500, 500], masks=[1, 2],
+                 depths=[3000, 1000])
+    expect_round(run, CERTIFIED, spins=[1000, 2000, 3000], multipliers=[2000, 0], masks=[1, 0],
+                 depths=[4000, 0])
+
+
+def depths_kept():
+    """Only a counted round writes depths, whatever stands there: no start, no call for 0 rounds
+    and no refused one, as Run holds.  One too few is 41, after 17 and before 42."""
+    run = fresh(tables.three_bits(), [4000, 4000, -2000])
+    expect_equal(run.lent.depths, run.junk.depths, "depths after a start")
+    for shown in (2**32 - 1, 5904):
+        run.lent.depths[0] = shown
+        for call, answer in [(Call(0, None), RUNNING), (Call(1, "depths"), "refused 41"),
+                             (Call(0, "depths"), "refused 41"), (Call(1, "masks"), "refused 41"),
+                             (Call(1025, "depths"), "refused 17")]:
+            expect_equal(run.call(call).answer, answer, f"{call} on depths of {shown}")
+            expect_equal(run.lent.depths[0], shown, f"depth after {call}")
+        expect_round(run, RUNNING)
+    run.call(Call(1, None))
+    for call, answer in [(Call(1, "depths"), "refused 41"), (Call(1, None), "refused 42")]:
+        expect_equal(run.call(call).answer, answer, f"{call} on a certified run")
+    expect_equal(run.round_shown().depths, [4794], "depth after the end")
+
+
+# --- sums ------------------------------------------------------------------------------------
 
 def half_done_pair():
     """Two bits and three edges, the last two of them bit 1's: its sum is 180 + 270."""
@@ -229,6 +296,8 @@ def sums_in_their_turn():
     expect_equal((got, lent), ("refused 41", [[1] * 3, [1] * 3, [1]]), "a start on one sum of two")
 
 
+# --- the report ------------------------------------------------------------------------------
+
 def report_edges():
     """Readings 5 and 6: surplus bytes are frames, a short frame is 8, bad files stand alone."""
     head = bytes.fromhex("01 00 01 00 00 00 01 00 00 00")
@@ -242,10 +311,11 @@ def report_edges():
         expect_equal(decoder.frame_report(data), text, f"report for {data.hex(' ')}")
 
 
-FRAME_TESTS = [cut_examples, leaning_frame, two_ones_frame, four_gaps, one_bit_frame,
-               three_frame_report, odd_total_frame, first_totals, weak_frame, half_frame,
-               too_weak_frame, side_change_frame, second_best_frame, empty_check_frame,
-               empty_check_named, sums_compared, largest_sums, sums_in_their_turn, report_edges]
+FRAME_TESTS = [cut_examples, depth_examples, leaning_frame, two_ones_frame, four_gaps,
+               one_bit_frame, three_frame_report, odd_total_frame, first_totals, weak_frame,
+               half_frame, too_weak_frame, side_change_frame, second_best_frame, empty_check_frame,
+               empty_check_named, deepest_frame, gained_cut_frame, lost_cut_frame, depths_kept,
+               sums_compared, largest_sums, sums_in_their_turn, report_edges]
 
 
 def worked_examples(account):

@@ -96,7 +96,7 @@ def case_cuts_cover_all(account):
     expect_covered(account, "case_cuts", map(kind_of, said),
                    ["mask", "none", *refusals(*range(1, 8), 16, 17)])
     account.add("case_cuts: mask with bit 31",
-                sum(line.startswith("mask") and int(line[5:]) >> 31 for line in said))
+                sum(line.startswith("mask") and int(line.split()[1]) >> 31 for line in said))
     account.add("case_cuts: none of an empty check",
                 sum(line == "none" and check in empty_checks(data)
                     for (data, _, check), line in zip(records, said)))
@@ -166,6 +166,20 @@ def read_call(reader):
     expect_equal(op, 5, "op")
     which, index, value = reader.fields("BIi")
     return Put({1: "copies", 2: "offsets", 3: "sums"}[which], index, value)
+
+
+def fields_at_their_places(account):
+    """The longest records field by field, and the buffers in the checksum's order."""
+    account.announce("records field by field")
+    numbers = dict(spins=1, copies=2, offsets=3, sums=4, multipliers=5, masks=6, depths=7, word=8,
+                   certificate=9)
+    expect_equal(list(vars(CAPACITY)), list(numbers), "order of the buffers")
+    elements = {vars(KEPT)[name].element: number for name, number in numbers.items()}
+    expect_equal(Fill(**elements, rounds=10, status="spent").pack(),
+                 struct.pack("<BIB4i3I2B", 0, 10, 2, *range(1, 10)), "a set: 1 + 35 bytes")
+    expect_equal(CallRounds(11, Buffers(**numbers)).pack(),
+                 struct.pack("<B10I", 4, 11, *range(1, 10)), "a call: 1 + 40 bytes")
+    account.add("records field by field", 2)
 
 
 def case_calls_cover_all(account):
@@ -306,5 +320,5 @@ def report_inputs_cover_all(account):
 
 
 TESTS = [case_cuts_cover_all, case_judge_cover_all, tight_certificates_have_gap_0,
-         case_calls_cover_all, checksums_by_definition, late_runs_end_late,
+         fields_at_their_places, case_calls_cover_all, checksums_by_definition, late_runs_end_late,
          list_pairs_pair_up, stored_reports, report_inputs_cover_all]

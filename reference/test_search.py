@@ -1,5 +1,7 @@
 """The cut search against all odd sets, and the multiplier against its definition."""
 
+from itertools import combinations
+
 import cut
 import make_inputs as inputs
 import make_tables as tables
@@ -8,8 +10,18 @@ from support import expect, expect_equal
 from table import UNIT
 
 
+def greatest_shortfall(spins):
+    """2U less the left side, written out once more: the greatest over all odd sets, or 0 if it
+    is above 0 for none.  For small degrees only."""
+    places = range(len(spins))
+    sets = [chosen for size in places[::2] for chosen in combinations(places, size + 1)]
+    return max([0, *(2 * UNIT - sum(UNIT + spins[k] if k in chosen else UNIT - spins[k]
+                                    for k in places) for chosen in sets)])
+
+
 def known_against_exhaustive(account):
-    """None exactly if no odd set is violated, and never more than one is."""
+    """None exactly if no odd set is violated, and never more than one is; the depth is the
+    greatest shortfall of all."""
     account.announce("searches with a cut", "searches without a cut", "cuts with a zero spin",
                      "cuts by a side change", "spins tied for the side change")
     rng = Prng(31)
@@ -18,7 +30,9 @@ def known_against_exhaustive(account):
             spins = inputs.random_spins(rng, degree)
             violated = cut.all_cuts(spins)
             expect(len(violated) <= 1, f"{spins} violates {violated}")
-            expect_equal(cut.known_cut(spins), violated[0] if violated else None, f"cut of {spins}")
+            mask, depth = cut.known_cut(spins) or (None, 0)
+            expect_equal(mask, violated[0] if violated else None, f"cut of {spins}")
+            expect_equal(depth, greatest_shortfall(spins), f"depth of {spins}")
             count_search(account, spins, violated)
 
 
@@ -60,10 +74,11 @@ def ties_are_never_cut(account):
 
 def wide_checks_by_hand(account):
     """Degree 32, where not all sets can be tried.  31 full spins add nothing to the left
-    side of V = {31}, and the last one U - weak, which is always below 2U."""
+    side of V = {31}, and the last one U - weak, which falls short of 2U by U + weak."""
     account.announce("cuts with mask bit 31")
     for weak in range(-UNIT + 256, UNIT + 1, 256):
-        expect_equal(cut.known_cut([UNIT] * 31 + [-weak]), 1 << 31, f"weak {weak}")
+        found = cut.known_cut([UNIT] * 31 + [-weak])
+        expect_equal(found, cut.Cut(1 << 31, UNIT + weak), f"weak {weak}")
         account.add("cuts with mask bit 31")
     expect_equal(cut.known_cut([UNIT] * 32), None, "a full codeword")
 
@@ -74,9 +89,9 @@ def cut_values(rng):
         reach = rng.choice([0, 50, 3000, 9000])
         values = [spin + rng.between(-reach, reach)
                   for spin in inputs.random_spins(rng, rng.between(1, 8))]
-        mask = cut.known_cut([cut.clip(value) for value in values])
-        if mask is not None:
-            return values, mask
+        found = cut.known_cut([cut.clip(value) for value in values])
+        if found is not None:
+            return values, found.mask
 
 
 def fast_multiplier_against_counting(account):
@@ -99,10 +114,10 @@ def multiplier_is_least(account):
         degree = rng.choice([1, 2, 3, 31, 32])
         reach = 8192 * rng.between(1, 1023)
         values = [rng.between(-UNIT, UNIT) + rng.between(-reach, reach) for _ in range(degree)]
-        mask = cut.known_cut([cut.clip(value) for value in values])
-        if mask is None:
+        found = cut.known_cut([cut.clip(value) for value in values])
+        if found is None:
             continue
-        least = cut.least_multiplier(values, mask)
+        mask, least = found.mask, cut.least_multiplier(values, found.mask)
         expect(least >= 1, f"multiplier {least} of a cut")
         expect(not cut.is_violated(cut.moved(values, mask, least), mask), f"{least} closes {values}")
         expect(cut.is_violated(cut.moved(values, mask, least - 1), mask), f"less than {least}")

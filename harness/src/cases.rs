@@ -3,8 +3,9 @@
 pub mod compare;
 pub mod make;
 
-use crate::decoder::{Called, Record, Refusal, Sizes, Verdict};
+use crate::decoder::{Called, Cut, Record, Refusal, Sizes, Verdict};
 use crate::gen::state::{Lengths, State};
+use jugnayap::limits::DEPTH;
 
 pub enum Case {
     Table { code: Vec<u8> },
@@ -40,19 +41,23 @@ impl Case {
 #[derive(Clone, Copy, Debug, PartialEq, Eq)]
 pub enum Answer {
     Table(Result<Sizes, Refusal>),
-    Cut(Result<Option<u32>, Refusal>),
+    Cut(Result<Option<Cut>, Refusal>),
     Judge(Result<Verdict, Refusal>),
     Agreement(Result<i64, Refusal>),
     Start(Result<Record, Refusal>),
     Rounds(Called),
 }
 
+/// The tally's words for cuts of depth 1 and of depth 2U.
+pub const LEAST_DEPTH: &str = "least depth";
+pub const GREATEST_DEPTH: &str = "greatest depth";
+
 impl Answer {
     /// The call and its kind of answer, for the tally.
     pub fn label(&self) -> (&'static str, String) {
         match self {
             Answer::Table(answer) => ("table", word_for(answer, |_| "accepted")),
-            Answer::Cut(answer) => ("cut", word_for(answer, |cut| cut.map_or("none", |_| "cut"))),
+            Answer::Cut(answer) => ("cut", word_for(answer, cut_word)),
             Answer::Judge(answer) => ("judge", word_for(answer, verdict_word)),
             Answer::Agreement(answer) => ("agreement", word_for(answer, |_| "answered")),
             Answer::Start(answer) => ("start", word_for(answer, |_| "started")),
@@ -68,6 +73,15 @@ fn word_for<T: Copy>(answer: &Result<T, Refusal>, word: impl Fn(T) -> &'static s
     match answer {
         Ok(value) => word(*value).into(),
         Err(refusal) => format!("{refusal:?}"),
+    }
+}
+
+fn cut_word(cut: Option<Cut>) -> &'static str {
+    match cut {
+        None => "none",
+        Some(Cut { depth: 1, .. }) => LEAST_DEPTH,
+        Some(Cut { depth: DEPTH, .. }) => GREATEST_DEPTH,
+        Some(_) => "another depth",
     }
 }
 

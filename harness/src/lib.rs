@@ -7,5 +7,14 @@ pub mod gen;
 pub mod independent;
 pub mod proved;
 
+use decoder::Decoder;
+use gen::rng::Rng;
+
 /// Every decoder.
-pub const ALL: [&dyn decoder::Decoder; 3] = [&independent::Independent, &independent::Plain, &proved::Proved];
+pub const ALL: [&dyn Decoder; 3] = [&independent::Independent, &independent::Plain, &proved::Proved];
+
+/// So many cases of a series on every decoder, each with its own source of numbers.
+pub fn each(series: u64, cases: u64) -> impl Iterator<Item = (&'static dyn Decoder, Rng)> {
+    let case = move |index| ALL.map(|decoder| (decoder, Rng::of_case(series, index)));
+    (0..cases).flat_map(case)
+}

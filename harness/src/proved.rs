@@ -1,6 +1,6 @@
 //! The proved decoder, by the calls of `jugnayap`. An answer that the C header does not allow is a panic.
 
-use crate::decoder::{Buffers, Called, Decoder, Record, Refusal, Sizes, StartBuffers, Verdict};
+use crate::decoder::{Buffers, Called, Cut, Decoder, Record, Refusal, Sizes, StartBuffers, Verdict};
 use jugnayap::calls;
 
 pub struct Proved;
@@ -14,7 +14,7 @@ impl Decoder for Proved {
         calls::check_table(code)
     }
 
-    fn search_cut(&self, code: &[u8], spins: &[i32], check: usize) -> Result<Option<u32>, Refusal> {
+    fn search_cut(&self, code: &[u8], spins: &[i32], check: usize) -> Result<Option<Cut>, Refusal> {
         calls::search_cut(code, spins, check)
     }
 

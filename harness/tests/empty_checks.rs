@@ -66,6 +66,7 @@ impl Pair {
         let numbered = |lent: &[u32]| lent[..self.own.len() + self.empty.len()].to_vec();
         assert_eq!(self.spread(&narrow.multipliers.lent()[..checks]), numbered(wide.multipliers.lent()));
         assert_eq!(self.spread(&narrow.masks.lent()[..checks]), numbered(wide.masks.lent()));
+        assert_eq!(self.spread(&narrow.depths.lent()[..checks]), numbered(wide.depths.lent()));
         if record.status == Record::CERTIFIED {
             assert_eq!(narrow.word.lent()[..bits], wide.word.lent()[..bits]);
             let expected = self.renumbered(narrow.certificate.lent());
@@ -74,7 +75,7 @@ impl Pair {
     }
 }
 
-/// A run on both tables, from a start or, with rounds done before, half-done. Multipliers and masks are
+/// A run on both tables, from a start or, with rounds done before, half-done. Multipliers, masks and depths are
 /// anything at first. Answers the last record and the narrower table's buffers.
 fn same_run(
     rng: &mut Rng,
@@ -248,6 +249,7 @@ fn all_but_one() {
             let alone = |number: u32| (0..=before + after).map(move |k| if k == before { number } else { 0 });
             assert!(alone(3333).eq(state.multipliers.lent()[..=before + after].iter().copied()));
             assert!(alone(4).eq(state.masks.lent()[..=before + after].iter().copied()));
+            assert!(alone(4794).eq(state.depths.lent()[..=before + after].iter().copied()));
             assert_eq!(state.word.lent()[..3], [0, 0, 0]);
             let entry = Entry { check: before, multiplier: 3333, mask: 4 };
             let certificate = Draft { scale: 1, entries: vec![entry] }.bytes();

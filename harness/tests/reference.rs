@@ -1,6 +1,6 @@
 //! Document 01's reference frames, on every decoder.
 
-use harness::decoder::{Called, Decoder, Record, Refusal, Verdict};
+use harness::decoder::{Called, Cut, Decoder, Record, Refusal, Verdict};
 use harness::gen::code::{bytes_of, three_bits};
 use harness::gen::state::{Shape, State};
 use harness::independent::limits::UNIT;
@@ -30,16 +30,22 @@ fn three_bit_frame() {
         assert_eq!(record, Record { rounds: 1, status: Record::RUNNING });
         assert_eq!(state.spins.lent(), [4000, 4000, -2000]);
         assert_eq!(state.multipliers.lent(), [1968]);
+        // 8192 − (96 + 96 + 2096)
+        assert_eq!(state.depths.lent(), [5904]);
         assert_eq!(state.copies.lent(), [2032, 2032, -32]);
         assert_eq!(state.sums.lent(), [64, 64, 1936]);
         let (_, state) = after(decoder, &code, &frame, 2);
         assert_eq!(state.multipliers.lent(), [3334]);
+        // v is (6032, 6032, −2032), clipped (4096, 4096, −2032).
+        assert_eq!(state.depths.lent(), [6128]);
         assert_eq!(state.copies.lent(), [2698, 2698, 1302]);
         assert_eq!(state.sums.lent(), [-636, -636, 4636]);
         let (record, state) = after(decoder, &code, &frame, 3);
         assert_eq!(record, Record { rounds: 3, status: Record::CERTIFIED });
         assert_eq!(state.spins.lent(), [3364, 3364, 2636]);
         assert_eq!(state.multipliers.lent(), [3333]);
+        // v is (6698, 6698, −698), clipped (4096, 4096, −698).
+        assert_eq!(state.depths.lent(), [4794]);
         assert_eq!(state.word.lent(), [0, 0, 0]);
         assert_eq!(state.certificate.lent(), [1, 0, 1, 0, 0, 0, 5, 13, 0, 0, 4, 0, 0, 0]);
         assert_eq!(decoder.agreement(&code, &frame, state.word.lent()), Ok(6000));
@@ -53,6 +59,7 @@ fn negated_three_bit_frame() {
         assert_eq!(record, Record { rounds: 3, status: Record::CERTIFIED });
         assert_eq!(state.word.lent(), [1, 1, 0]);
         assert_eq!((state.multipliers.lent(), state.masks.lent()), (&[3333][..], &[7][..]));
+        assert_eq!(state.depths.lent(), [4794]);
     }
 }
 
@@ -63,6 +70,7 @@ fn one_bit_frame() {
         let (record, state) = after(decoder, &code, &[-5], 2);
         assert_eq!(record, Record { rounds: 2, status: Record::CERTIFIED });
         assert_eq!((state.word.lent(), state.multipliers.lent()), (&[0][..], &[4101][..]));
+        assert_eq!(state.depths.lent(), [4101]);
         // Bound −5 and agreement −5.
         assert_eq!(decoder.agreement(&code, &[-5], &[0]), Ok(-5));
         let verdict = decoder.judge(&code, &[-5], &[0], state.certificate.lent());
@@ -108,7 +116,8 @@ fn cuts_of_degree_three() {
     let code = three_bits();
     for decoder in ALL {
         assert_eq!(decoder.search_cut(&code, &[1365, 1365, -1366], 0), Ok(None));
-        assert_eq!(decoder.search_cut(&code, &[1365, 1365, -1367], 0), Ok(Some(4)));
+        let cut = Cut { mask: 4, depth: 1 };
+        assert_eq!(decoder.search_cut(&code, &[1365, 1365, -1367], 0), Ok(Some(cut)));
         assert_eq!(decoder.search_cut(&code, &[0, 0, UNIT + 1], 1), Err(Refusal::POINT));
         assert_eq!(decoder.search_cut(&code, &[0, 0, 0], 1), Err(Refusal::REQUEST));
     }
@@ -128,6 +137,7 @@ fn greatest_multiplier() {
         let record = Record { rounds: 1_023, status: Record::RUNNING };
         let called = decoder.rounds(&code, &[0], record, 1, state.lend_all());
         assert_eq!(called, Called::done(Record { rounds: 1_024, status: Record::SPENT }));
-        assert_eq!(state.multipliers.lent()[0], 8_388_608);
+        assert_eq!(state.multipliers.lent(), [8_388_608, 0, 0]);
+        assert_eq!(state.depths.lent(), [8_192, 0, 0]);
     }
 }

@@ -9,13 +9,7 @@ use harness::gen::rng::Rng;
 use harness::gen::state::{Shape, State};
 use harness::independent::limits::{DEGREE_LIMIT, FRAME_LIMIT, OFFSET_STEP, ROUND_LIMIT, UNIT};
 use harness::independent::table::Table;
-use harness::ALL;
-
-/// So many cases of a series on every decoder, each with its own source of numbers.
-fn each(series: u64, cases: u64) -> impl Iterator<Item = (&'static dyn Decoder, Rng)> {
-    let case = move |index| ALL.map(|decoder| (decoder, Rng::of_case(series, index)));
-    (0..cases).flat_map(case)
-}
+use harness::{each, ALL};
 
 /// A code, its table and a frame in range.
 fn any_input(rng: &mut Rng) -> (Vec<u8>, Table, Vec<i16>) {

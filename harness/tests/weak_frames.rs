@@ -9,13 +9,7 @@ use harness::gen::state::{Shape, State};
 use harness::gen::{code, codeword, frame};
 use harness::independent::limits::{DEGREE_LIMIT, ROUND_LIMIT, UNIT};
 use harness::independent::table::Table;
-use harness::ALL;
-
-/// So many cases of a series on every decoder, each with its own source of numbers.
-fn each(series: u64, cases: u64) -> impl Iterator<Item = (&'static dyn Decoder, Rng)> {
-    let case = move |index| ALL.map(|decoder| (decoder, Rng::of_case(series, index)));
-    (0..cases).flat_map(case)
-}
+use harness::{each, ALL};
 
 /// Record and buffers of a run from its start, after each of these calls for rounds.
 fn run(decoder: &dyn Decoder, code: &[u8], frame: &[i16], calls: &[u32]) -> Vec<(Record, State)> {

@@ -2,8 +2,7 @@
 //! refuses by number; a refused call changes nothing. An answer that the C header does not allow is a panic.
 //! The types of the crate's root own their buffers and are easier to use.
 
-use crate::ffi;
-use crate::Refusal;
+use crate::{ffi, limits, Refusal};
 
 /// The sizes of a code.
 #[derive(Clone, Copy, Debug, PartialEq, Eq)]
@@ -14,6 +13,17 @@ pub struct Sizes {
     pub checks: u32,
     /// E: the members of all checks together.
     pub edges: u32,
+}
+
+/// A parity inequality that a point violates. That of an odd set of a check's members says: the sum of U + spin
+/// over the set, plus the sum of U − spin over the other members, is at least 2U, where U is
+/// [`UNIT`](limits::UNIT).
+#[derive(Clone, Copy, Debug, PartialEq, Eq)]
+pub struct Cut {
+    /// The odd set, as a mask of the check's members.
+    pub mask: u32,
+    /// By how much the inequality falls short: 2U less its left side, 1 to 8,192.
+    pub depth: u32,
 }
 
 /// What the judge says of a word and a certificate that it does not refuse.
@@ -83,6 +93,7 @@ macro_rules! each_buffer {
             sums: i32, bits;
             multipliers: u32, checks;
             masks: u32, checks;
+            depths: u32, checks;
             word: u8, bits;
             certificate: u8, certificate;
         }
@@ -96,9 +107,9 @@ macro_rules! lent {
         /// `checks` and `edges` are the code's and `certificate` is 4 + 10 × `checks`.
         ///
         /// A call that does a round leaves what the last one has: each bit's spin, each edge's copy and
-        /// offset, each bit's sum of copies less offsets over its edges, each check's multiplier and mask. One
-        /// that certifies also writes word and certificate. The sums are compared with copies and offsets on
-        /// entry.
+        /// offset, each bit's sum of copies less offsets over its edges, each check's multiplier, mask and
+        /// depth. One that certifies also writes word and certificate. The sums are compared with copies and
+        /// offsets on entry.
         #[derive(Debug)]
         pub struct Buffers<'a> {
             $(
@@ -139,6 +150,14 @@ fn answer<T>(number: u32, rest_zero: bool, value: T) -> Result<T, Refusal> {
     Err(Refusal(number))
 }
 
+fn cut(raw: &ffi::Cut) -> Option<Cut> {
+    match (raw.mask, raw.depth) {
+        (0, 0) => None,
+        (1.., 1..=limits::DEPTH) => Some(Cut { mask: raw.mask, depth: raw.depth }),
+        (mask, depth) => panic!("cut of mask {mask}, depth {depth}"),
+    }
+}
+
 fn verdict(raw: &ffi::Verdict) -> Verdict {
     match (raw.kind, raw.value) {
         (0, check) => Verdict::Broken(u32::try_from(check).expect("a check number")),
@@ -163,12 +182,12 @@ pub fn check_table(code: &[u8]) -> Result<Sizes, Refusal> {
     answer(raw.number, sizes == Sizes { bits: 0, checks: 0, edges: 0 }, sizes)
 }
 
-/// The violated odd set of a check's members at these spins, as a mask of its members, or none.
-/// Refusals: 1 to 7, 16, 17.
-pub fn search_cut(code: &[u8], spins: &[i32], check: usize) -> Result<Option<u32>, Refusal> {
+/// The parity inequality of a check that these spins violate, or none. Refusals: 1 to 7, 16, 17.
+pub fn search_cut(code: &[u8], spins: &[i32], check: usize) -> Result<Option<Cut>, Refusal> {
     let raw =
         unsafe { ffi::jugnayap_search_cut(code.as_ptr(), code.len(), spins.as_ptr(), spins.len(), check) };
-    answer(raw.number, raw.mask == 0, (raw.mask != 0).then_some(raw.mask))
+    let cut = cut(&raw);
+    answer(raw.number, cut.is_none(), cut)
 }
 
 /// Judges a word and a certificate. Refusals: 1 to 7, 8, 9, 15, 10, 11, then entry by entry 12, 13, 14.
@@ -239,4 +258,21 @@ pub fn rounds(code: &[u8], frame: &[i16], record: Record, wanted: u32, lent: Buf
     let raw = unsafe { each_buffer!(call) };
     let refusal = (raw.number != 0).then_some(Refusal(raw.number));
     Called { refusal, record: raw.run }
+}
+
+#[cfg(test)]
+mod tests {
+    use super::*;
+    use std::panic::catch_unwind;
+
+    #[test]
+    fn cuts_have_mask_and_depth_or_neither() {
+        let allowed = |mask, depth| catch_unwind(|| cut(&ffi::Cut { number: 0, mask, depth })).is_ok();
+        for (mask, depth) in [(0, 0), (1, 1), (1, 8192), (u32::MAX, 1)] {
+            assert!(allowed(mask, depth), "{mask}, {depth}");
+        }
+        for (mask, depth) in [(0, 1), (1, 0), (1, 8193), (1, u32::MAX)] {
+            assert!(!allowed(mask, depth), "{mask}, {depth}");
+        }
+    }
 }

@@ -1,7 +1,7 @@
 //! A code: a parity-check table that the proved library has accepted.
 
 use crate::bytes::u16_at;
-use crate::calls::{self, Sizes, Verdict};
+use crate::calls::{self, Cut, Sizes, Verdict};
 use crate::{alist, limits, Answer, Certificate, Refusal, Run, Word};
 
 /// A sparse parity-check code. It owns the bytes of its code file, which the proved library has accepted.
@@ -128,19 +128,18 @@ impl Code {
         calls::agreement(&self.file, frame, word.bytes())
     }
 
-    /// The violated odd set of a check's members at these spins, as a mask of its members, or none.
-    /// Refusals: 16, 17.
+    /// The parity inequality of a check that these spins violate, and by how much, or none. Refusals: 16, 17.
     ///
     /// ```
-    /// use jugnayap::{Code, Refusal};
+    /// use jugnayap::{Code, Cut, Refusal};
     /// let code = Code::from_checks(3, &[[0, 1, 2]])?;
     /// assert_eq!(code.search_cut(&[1365, 1365, -1366], 0)?, None);
-    /// assert_eq!(code.search_cut(&[1365, 1365, -1367], 0)?, Some(0b100));
+    /// assert_eq!(code.search_cut(&[1365, 1365, -1367], 0)?, Some(Cut { mask: 0b100, depth: 1 }));
     /// assert_eq!(code.search_cut(&[0, 0, 4097], 0), Err(Refusal::POINT));
     /// assert_eq!(code.search_cut(&[0, 0, 0], 1), Err(Refusal::REQUEST));
     /// # Ok::<(), Refusal>(())
     /// ```
-    pub fn search_cut(&self, spins: &[i32], check: usize) -> Result<Option<u32>, Refusal> {
+    pub fn search_cut(&self, spins: &[i32], check: usize) -> Result<Option<Cut>, Refusal> {
         calls::search_cut(&self.file, spins, check)
     }
 }

@@ -14,6 +14,7 @@ pub struct Table {
 pub struct Cut {
     pub number: u32,
     pub mask: u32,
+    pub depth: u32,
 }
 
 #[repr(C)]

@@ -43,7 +43,7 @@ pub mod scale;
 mod text;
 mod word;
 
-pub use calls::Verdict;
+pub use calls::{Cut, Verdict};
 pub use certificate::{Certificate, Entry, NotCertificate};
 pub use code::Code;
 pub use refusal::Refusal;

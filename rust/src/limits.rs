@@ -1,4 +1,4 @@
-//! The limits of tables, frames, runs and certificates.
+//! The limits of tables, frames, runs, cuts and certificates.
 
 /// Bits of a code, 1 to this.
 pub const BITS: usize = 2048;
@@ -14,6 +14,8 @@ pub const FRAME: i16 = 8191;
 pub const ROUNDS: u32 = 1024;
 /// The spin of a bit that is certainly 0; its negative is a certain 1.
 pub const UNIT: i32 = 4096;
+/// A cut's depth is 1 to this: the whole right side of a parity inequality.
+pub const DEPTH: u32 = 2 * UNIT as u32;
 /// Entries of a certificate, at most.
 pub const ENTRIES: usize = 4096;
 /// A certificate's scale is 1 to this.

@@ -166,4 +166,10 @@ impl<'c> Run<'c> {
     pub fn masks(&self) -> &[u32] {
         &self.buffers.masks
     }
+
+    /// Each check's depth: by how much its cut's inequality falls short at spin plus offset, clipped; 0 for no
+    /// cut.
+    pub fn depths(&self) -> &[u32] {
+        &self.buffers.depths
+    }
 }

@@ -18,4 +18,4 @@ certificateRoom = 20600
 abbrev pub InRooms : Parts → Type 0
 InRooms p =
     (p .spins ≤ bitsRoom) × (p .copies ≤ edgesRoom) × (p .offsets ≤ edgesRoom) × (p .sums ≤ bitsRoom) × (p .multipliers ≤ checksRoom) × (p .masks ≤ checksRoom)
-    × (p .word ≤ bitsRoom) × (p .certificate ≤ certificateRoom)
+    × (p .depths ≤ checksRoom) × (p .word ≤ bitsRoom) × (p .certificate ≤ certificateRoom)

@@ -66,9 +66,10 @@ pub(crate) fn with_cuts(
     signed: u64,
     multipliers: &[u32; CHECKS],
     masks: &[u32; CHECKS],
+    depths: &[u32; CHECKS],
     word: &[u8; BITS],
     certificate: &[u8; CERTIFICATE],
 ) -> u64 {
-    let cuts = with_u32(with_u32(signed, multipliers), masks);
+    let cuts = with_u32(with_u32(with_u32(signed, multipliers), masks), depths);
     with_u8(with_u8(cuts, word), certificate)
 }

@@ -52,6 +52,7 @@ pub(crate) struct Fill {
     pub sum: i32,
     pub multiplier: u32,
     pub mask: u32,
+    pub depth: u32,
     pub word: u8,
     pub certificate: u8,
 }
@@ -67,6 +68,7 @@ pub(crate) struct Parts {
     pub sums: usize,
     pub multipliers: usize,
     pub masks: usize,
+    pub depths: usize,
     pub word: usize,
     pub certificate: usize,
 }
@@ -76,9 +78,9 @@ fn fields_size(operation: u8) -> usize
     ensures { λ r. ⌜ r ≤ 64 ⌝ }
 {
     match operation {
-        0 => 31,
+        0 => 35,
         3 => 12,
-        4 => 36,
+        4 => 40,
         5 => 9,
         _ => 0,
     }
@@ -128,8 +130,9 @@ impl Command {
             sum: self.signed(17),
             multiplier: self.number(21),
             mask: self.number(25),
-            word: self.fields[29],
-            certificate: self.fields[30],
+            depth: self.number(29),
+            word: self.fields[33],
+            certificate: self.fields[34],
         }
     }
 
@@ -146,8 +149,9 @@ impl Command {
             sums: self.lent(16, BITS),
             multipliers: self.lent(20, CHECKS),
             masks: self.lent(24, CHECKS),
-            word: self.lent(28, BITS),
-            certificate: self.lent(32, CERTIFICATE),
+            depths: self.lent(28, CHECKS),
+            word: self.lent(32, BITS),
+            certificate: self.lent(36, CERTIFICATE),
         }
     }
 }

@@ -52,6 +52,7 @@ fn play(fill: Fill, first: Command, code: &mut [u8], frame: &mut [i16]) -> Comma
     let mut sums = [fill.sum; BITS];
     let mut multipliers = [fill.multiplier; CHECKS];
     let mut masks = [fill.mask; CHECKS];
+    let mut depths = [fill.depth; CHECKS];
     let mut word = [fill.word; BITS];
     let mut certificate = [fill.certificate; CERTIFICATE];
     let mut run = fill.run;
@@ -72,13 +73,14 @@ fn play(fill: Fill, first: Command, code: &mut [u8], frame: &mut [i16]) -> Comma
                 &mut sums[..parts.sums],
                 &mut multipliers[..parts.multipliers],
                 &mut masks[..parts.masks],
+                &mut depths[..parts.depths],
                 &mut word[..parts.word],
                 &mut certificate[..parts.certificate],
             ));
             command.operation = CALLED;
         } else {
             let signed = of_signed(&spins, &copies, &offsets, &sums);
-            let all = with_cuts(signed, &multipliers, &masks, &word, &certificate);
+            let all = with_cuts(signed, &multipliers, &masks, &depths, &word, &certificate);
             print_state(command.operation, run, all);
             command = next(command, code, frame);
             run = on_state(run, command, code, &mut copies, &mut offsets, &mut sums);

@@ -1,6 +1,6 @@
 // Runs cut searches through cut::search. Standard input holds records: a 32-bit length L, at most
 // 30,000, and L bytes, a code file; a 32-bit count N, at most 4,096, and N signed 32-bit spins; a
-// 32-bit check number. Each gets a line, `mask M`, `none` or `refused K`. The end of the input, a
+// 32-bit check number. Each gets a line, `mask M depth D`, `none` or `refused K`. The end of the input, a
 // longer record or one that is cut short ends the program.
 use cut::Found;
 use stream::CODE_LIMIT;
@@ -13,11 +13,16 @@ use stream::read_i32_part;
 use stream::read_part;
 use stream::read_u32;
 
+fn print_cut(mask: u32, depth: u32) {
+    print_number(b"mask ", mask as u64);
+    print_number(b" depth ", depth as u64);
+}
+
 fn print_answer(answer: Found) {
     match answer {
         Found::Refused(k) => print_number(b"refused ", k as u64),
         Found::Nothing => print(b"none"),
-        Found::Mask(m) => print_number(b"mask ", m as u64),
+        Found::Violated { mask, depth } => print_cut(mask, depth),
     }
     print(b"\n");
 }

@@ -10,7 +10,7 @@ use lib.ListN.{length}
 use lib.IntN.{ℤ, pos, negsuc, negℤ, natAbs, _+ℤ_}
 use lib.Signed.{ltZ}
 use Rattle.integers.specs.Linear.{lin, arithZ, _⩽_, up, up-neg, dn-neg, lt-out}
-use Rattle.integers.specs.Order.{nltZ-le}
+use Rattle.integers.specs.Order.{nltZ-le, up-none, up-mono}
 use Rattle.integers.specs.Product.{natAbs-is, natAbs-≤, abs-neg}
 use Rattle.integers.specs.Clip.{clipZ, clip-low, clip-high, clip-mid, Place, below, above, inside, place}
 use Rattle.rules.specs.Limits.{unit}
@@ -20,7 +20,6 @@ use Rattle.rules.specs.Cut.{isNeg, negatives, smallest}
 use Rattle.rules.specs.Step.{clips}
 use Rattle.cut.specs.Heights.{height, higher, highest}
 use Rattle.cut.specs.Scan.{sights, rooms}
-use Rattle.cut.proofs.ValueLaws.{up-none, up-mono}
 use Rattle.cut.proofs.HeightLaws.{is-above}
 
 -- ---- one value
@@ -38,7 +37,7 @@ less-none u n = simp lin (omega arithZ)
 less-some : (u n : ℕ) → n ≤ u → pos u +ℤ negℤ (pos n) ≡ pos (u - n)
 less-some u n = simp lin (omega arithZ)
 
-up-less : (u n : ℕ) → up (pos u +ℤ negℤ (pos n)) ≡ u - n
+pub up-less : (u n : ℕ) → up (pos u +ℤ negℤ (pos n)) ≡ u - n
 up-less u n = go (decLe n u)
   where
     go : Dec (n ≤ u) → up (pos u +ℤ negℤ (pos n)) ≡ u - n

@@ -1,5 +1,5 @@
 -- The answer of a search on a table and on a code file, in each of its cases. Assumes nothing.
-use mathlib.Core.Path.{_≡_, refl, sym, _∙_, ap, ap₂}
+use mathlib.Core.Path.{_≡_, refl, sym, _∙_, ap, ap₂, subst}
 use mathlib.Core.Bool.{Bool, cond, _&&_}
 use mathlib.Core.List.{List, [], _∷_}
 use mathlib.Core.Option.{Option, some, none}
@@ -16,17 +16,18 @@ use Rattle.rules.specs.Refusal.{Answer, refused, gives, then, askedTooMuch}
 use Rattle.rules.specs.Table.{Table, at, valuesAt, checksOf}
 use Rattle.rules.specs.CodeFile.{codeFile}
 use Rattle.rules.specs.Input.{eachWithin, onCheck}
-use Rattle.rules.specs.Cut.{cut, cutSearch, maskAnswer, cutAnswer}
+use Rattle.rules.specs.Cut.{cut, depth, Violation, measured, violation, cutSearch, maskAnswer, cutAnswer}
 use Rattle.rules.specs.Certificate.{membersAt}
 use Rattle.rules.specs.Step.{clips}
 use Rattle.rules.proofs.Basics.{and-both}
 use Rattle.rules.proofs.RangeLaws.{each-all}
 use Rattle.rules.proofs.Optimal.{within-at}
+use Rattle.rules.proofs.DepthLaws.{depth-cut, violation-is⇔}
 use Rattle.inputs.specs.Refusals.{pointRefusal, orElse, turnedDown}
 use Rattle.inputs.proofs.RefusalLaws.{else-refused, else-none, cond-none, test-number, turned-else, turned-refused, turned-none}
 use Rattle.inputs.proofs.InputLaws.{point-law}
-use Rattle.cut.specs.CutMask.{cutMask}
-use Rattle.cut.specs.Search.{searchRefusal, spinsAt, searchOn, maskGives}
+use Rattle.cut.specs.CutMask.{cutMask, CutIs}
+use Rattle.cut.specs.Search.{searchRefusal, spinsAt, searchOn, cutGives}
 use Rattle.cut.proofs.MaskLaws.{mask-none, mask-some}
 
 -- ---- the point
@@ -44,18 +45,23 @@ clips-same : (u : ℕ) (vs : List ℤ) → AllWithin u vs → clips u vs ≡ vs
 clips-same u [] w = refl
 clips-same u (v ∷ vs) w = ap₂ _∷_ (clip-mid u v (w .0)) (clips-same u vs (w .1))
 
--- ---- the mask as an answer
-mask-gives : (u : ℕ) (ss : List ℤ) (m : ℕ) → m ≡ cutMask (cut u ss) → maskGives m ≡ maskAnswer (gives (cut u ss))
-mask-gives u ss m e = go (ℕ-discrete m 0)
+-- ---- mask and depth as an answer
+cut-gives : (ss : List ℤ) (m d : ℕ) → CutIs ss m d → cutGives m d ≡ maskAnswer (gives (violation unit ss))
+cut-gives ss m d e = go (ℕ-discrete m 0)
   where
-    answer : Option (List Bool) → Answer (Option ℕ)
-    answer o = maskAnswer (gives o)
+    given : Bool → Answer (Option (Violation ℕ))
+    given b = gives (cond b none (some (record { set = m; depth = d })))
 
-    go : Dec (m ≡ 0) → maskGives m ≡ maskAnswer (gives (cut u ss))
-    go (yes z) = ap (λ b. gives (cond b none (some m))) (eq-eqb m 0 z) ∙ ap answer (sym (mask-none u ss (sym e ∙ z)))
+    says : (o : Option (List Bool)) → cut unit ss ≡ o → maskAnswer (gives (measured unit ss o)) ≡ maskAnswer (gives (violation unit ss))
+    says o p = ap (λ v. maskAnswer (gives v)) (sym (violation-is⇔ unit ss o .1 p))
+
+    go : Dec (m ≡ 0) → cutGives m d ≡ maskAnswer (gives (violation unit ss))
+    go (yes z) = ap given (eq-eqb m 0 z) ∙ says none (mask-none unit ss (sym (e .0) ∙ z))
     go (no f) =
-        let is = mask-some u ss m e f in
-        ap (λ b. gives (cond b none (some m))) (ne-eqb m 0 f) ∙ ap (λ n. gives (some n)) (e ∙ ap cutMask is) ∙ ap answer (sym is)
+        let is = mask-some unit ss m (e .0) f in
+        ap given (ne-eqb m 0 f)
+        ∙ ap₂ (λ n k. gives (some (record { set = n; depth = k }))) (e .0 ∙ ap cutMask is) (e .1 ∙ depth-cut unit ss _ is)
+        ∙ says (some _) is
 
 module _ (n m : ℕ) (s : List ℤ) (j : ℕ) where
   -- ---- the refusal's number
@@ -85,26 +91,26 @@ abbrev pub refusalOn : Table → List ℤ → ℕ → ℕ
 refusalOn t s j = searchRefusal (t .bits) (checksOf t) s j
 
 module _ (t : Table) (s : List ℤ) (j : ℕ) where
-  search-law : searchOn t s j ≡ turnedDown (refusalOn t s j) (gives (cut unit (spinsAt t s j)))
+  search-law : searchOn t s j ≡ turnedDown (refusalOn t s j) (gives (violation unit (spinsAt t s j)))
   unfolding searchRefusal onCheck turnedDown
   search-law =
-      let a = gives (cut unit (spinsAt t s j)) in
+      let a = gives (violation unit (spinsAt t s j)) in
       point-law t s (onCheck t j a)
       ∙ ap (turnedDown (pointRefusal (t .bits) s)) (test-number (ltb j (checksOf t)) 16 0 a)
       ∙ turned-else (pointRefusal (t .bits) s) (cond (ltb j (checksOf t)) 0 askedTooMuch) a
 
   pub search-turned : (k : ℕ) → k ≡ refusalOn t s j → (k ≡ 0 → ⊥) → refused k ≡ maskAnswer (searchOn t s j)
   search-turned k e f =
-      let a = gives (cut unit (spinsAt t s j)) in
+      let a = gives (violation unit (spinsAt t s j)) in
       ap maskAnswer (turned-refused k a f ∙ ap (λ r. turnedDown r a) e ∙ sym search-law)
 
-  pub search-mask : (r : Answer (Option ℕ)) (k : ℕ) → refusalOn t s j ≡ 0 → k ≡ cutMask (cut unit (clips unit (spinsAt t s j))) → r ≡ maskGives k → r ≡ maskAnswer (searchOn t s j)
-  search-mask r k z e q =
+  pub search-cut : (r : Answer (Option (Violation ℕ))) (m d : ℕ) → refusalOn t s j ≡ 0 → CutIs (clips unit (spinsAt t s j)) m d → r ≡ cutGives m d → r ≡ maskAnswer (searchOn t s j)
+  search-cut r m d z e q =
       let vs = spinsAt t s j in
       let point = none-refused (t .bits) (checksOf t) s j z .0 in
       let same : clips unit vs ≡ vs = clips-same unit vs (values-within unit s (membersAt t j) (point-right (t .bits) s point .1)) in
-      q ∙ mask-gives unit vs k (e ∙ ap (λ l. cutMask (cut unit l)) same)
-      ∙ ap maskAnswer (turned-none (refusalOn t s j) (gives (cut unit vs)) z ∙ sym search-law)
+      q ∙ cut-gives vs m d (subst (λ l. CutIs l m d) same e)
+      ∙ ap maskAnswer (turned-none (refusalOn t s j) (gives (violation unit vs)) z ∙ sym search-law)
 
 -- ---- the answer on a code file
 module _ (file : List ℕ) (s : List ℤ) (j : ℕ) where

@@ -13,7 +13,7 @@ use lib.Signed.{ltZ}
 use mir.Syntax.{w32}
 use mir.Val.{SFits}
 use Rattle.integers.specs.Linear.{_⩽_, up}
-use Rattle.integers.specs.Order.{nltZ-le}
+use Rattle.integers.specs.Order.{nltZ-le, up-mono}
 use Rattle.rules.specs.Limits.{unit}
 use Rattle.rules.specs.Table.{at}
 use Rattle.rules.specs.Mask.{digit, maskOf}
@@ -23,7 +23,6 @@ use Rattle.rules.proofs.Masks.{mask-below}
 use Rattle.cut.specs.declared.scan.Scan.{Scan}
 use Rattle.cut.specs.Heights.{higher, highest}
 use Rattle.cut.specs.Scan.{scanned, ownHeight, sights, rooms, Highest, Scanned}
-use Rattle.cut.proofs.ValueLaws.{up-mono}
 use Rattle.cut.proofs.GatherLaws.{set-more}
 use Rattle.cut.proofs.HeightLaws.{floor, is-above, higher-left, higher-right, highest-more, height-low, height-top, sights-length, sights-more}
 

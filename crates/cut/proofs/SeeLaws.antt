@@ -3,58 +3,83 @@ use mathlib.Core.Path.{_≡_, refl, sym, _∙_, ap, ap₂, subst}
 use mathlib.Core.Bool.{Bool, true, false, not, cond}
 use mathlib.Core.List.{List, [], _∷_, _++_}
 use mathlib.Core.Option.{Option, none}
-use Prim.Native.Nat.{ℕ, zero, suc, _+_, _*_, _%_, _^_, _≤_, _<_}
+use Prim.Native.Nat.{ℕ, zero, suc, _+_, _-_, _*_, _%_, _^_, _≤_, _<_}
 use native.Mathlib.Decide.{decLe}
 use native.Mathlib.Omega.{arith}
 use native.Mathlib.Nat.{le-of-suc-le-suc}
 use lib.Bits.{bitXor}
-use lib.Count.{ones}
+use lib.Count.{ones, ones-le}
 use lib.Dec.{leb, eqb, ltb}
 use lib.ListN.{length, drop, set, length-append, length-set}
 use lib.Seq.{set-append-left}
 use lib.IntN.{ℤ, pos, negsuc, natAbs, _+ℤ_, _-ℤ_}
 use lib.Signed.{ltZ}
-use borrow.Author.Tests.{eq-eqb, ne-eqb, lt-ltb, le-ltb, lt-leb, le-leb}
+use borrow.Author.Tests.{ltb-true, ltb-false, eq-eqb, ne-eqb, lt-ltb, le-ltb, lt-leb, le-leb}
 use Rattle.integers.specs.Linear.{lin, arithZ, _⩽_, Within, up, le-out}
 use Rattle.rules.specs.Limits.{unit, maxDegree}
 use Rattle.rules.specs.Refusal.{countRange, bufferShort}
 use Rattle.rules.specs.Table.{at}
 use Rattle.rules.specs.Parity.{odd, left}
 use Rattle.rules.specs.Mask.{maskOf}
-use Rattle.rules.specs.Cut.{negatives, isNeg, smallest, keep, cut}
+use Rattle.rules.specs.Cut.{negatives, isNeg, smallest, keep, cut, shortfall, depthBy, depth}
 use Rattle.rules.specs.Step.{clips}
 use Rattle.rules.specs.Buffers.{over}
 use Rattle.rules.proofs.Steps.{clips-length, clips-within}
 use Rattle.rules.proofs.Masks.{set-mask, mask-below, odd-ones}
 use Rattle.rules.proofs.EmptyLaws.{empty-uncut}
 use Rattle.cut.specs.declared.scan.Scan.{Scan}
-use Rattle.cut.specs.CutMask.{cutMask}
+use Rattle.cut.specs.CutMask.{cutMask, CutIs}
 use Rattle.cut.specs.Heights.{height, heightsOf, highest, sideBy, Seen, seenOn, unseen, seen}
 use Rattle.cut.specs.Scan.{sights, Highest, Scanned, stays, changes, whenOdd, whenEven, decided}
 use Rattle.cut.proofs.HeightLaws.{highest-set, sights-top, sights-length}
-use Rattle.cut.proofs.ClipLaws.{clips-signs, clips-left, size-at, smallest-high}
+use Rattle.cut.proofs.ClipLaws.{up-less, clips-signs, clips-left, size-at, smallest-high}
 use Rattle.cut.proofs.ScanLaws.{negatives-length}
 use Rattle.cut.proofs.SideLaws.{changeSide, change-pays, cut-odd, cut-even}
 use Rattle.cut.proofs.MaskLaws.{mask-change}
 
+seen-eq : (m m′ d d′ : ℕ) (t t′ : ℤ) (hs hs′ : List ℤ) → m ≡ m′ → d ≡ d′ → t ≡ t′ → hs ≡ hs′ → stays m d t hs ≡ stays m′ d′ t′ hs′
+seen-eq m m′ d d′ t t′ hs hs′ p k q r = cc
+
+-- ---- a set of odd size that is kept below 2U, and its depth
+odd-some : (m : ℕ) → ones m % 2 ≡ 1 → m ≡ 0 → ⊥
+odd-some m o z = omega (arith, ones-le 0 m (omega arith))
+
+module _ (m k r : ℕ) (e : k ≡ cond (ltb r (2 * unit)) m 0) where
+  pub kept-below : (k ≡ 0 → ⊥) → r < 2 * unit
+  kept-below f = go (ltb r (2 * unit)) refl e
+    where
+      go : (b : Bool) → ltb r (2 * unit) ≡ b → k ≡ cond b m 0 → r < 2 * unit
+      go true p q = ltb-true r (2 * unit) p
+      go false p q = absurd (f q)
+
+  kept-depth : (d : ℕ) → (m ≡ 0 → ⊥) → d ≡ cond (eqb k 0) 0 (2 * unit - r) → d ≡ 2 * unit - r
+  kept-depth d f h = go (ltb r (2 * unit)) refl e
+    where
+      go : (b : Bool) → ltb r (2 * unit) ≡ b → k ≡ cond b m 0 → d ≡ 2 * unit - r
+      go true p q = h ∙ ap (λ b. cond b 0 (2 * unit - r)) (ne-eqb k 0 (λ z. f (sym q ∙ z)))
+      go false p q = h ∙ ap (λ b. cond b 0 (2 * unit - r)) (eq-eqb k 0 q) ∙ omega (arith, ltb-false r (2 * unit) p)
+
 -- ---- as the code's arms have it
 module _ (s : Scan) (hs : List ℤ) where
-  pub decided-odd : (m : ℕ) (t : ℤ) → ones (s .mask) % 2 ≡ 1 → m ≡ cond (ltb (s .room) (2 * unit)) (s .mask) 0 → t ≡ s .top → stays m t hs ≡ decided s hs
-  decided-odd m t o e p = ap₂ (λ m t. stays m t hs) e p ∙ ap (λ b. cond b (whenOdd s hs) (whenEven s hs)) (sym (eq-eqb (ones (s .mask) % 2) 1 o))
+  pub decided-odd : (m d : ℕ) (t : ℤ) → ones (s .mask) % 2 ≡ 1 → m ≡ cond (ltb (s .room) (2 * unit)) (s .mask) 0 → d ≡ cond (eqb m 0) 0 (2 * unit - s .room) → t ≡ s .top
+      → stays m d t hs ≡ decided s hs
+  decided-odd m d t o e k p = seen-eq _ _ _ _ _ _ _ _ e (kept-depth (s .mask) m (s .room) e d (odd-some (s .mask) o) k) p refl
+      ∙ ap (λ b. cond b (whenOdd s hs) (whenEven s hs)) (sym (eq-eqb (ones (s .mask) % 2) 1 o))
 
-  decided-even : (b : Bool) → (ones (s .mask) % 2 ≡ 1 → ⊥) → ltb (s .room) (2 * up (s .top)) ≡ b → cond b (changes s hs) (stays 0 (s .top) hs) ≡ decided s hs
+  decided-even : (b : Bool) → (ones (s .mask) % 2 ≡ 1 → ⊥) → ltb (s .room) (2 * up (s .top)) ≡ b
+      → cond b (changes (2 * up (s .top) - s .room) s hs) (stays 0 0 (s .top) hs) ≡ decided s hs
   decided-even b o e =
-      ap (λ b. cond b (changes s hs) (stays 0 (s .top) hs)) (sym e)
+      ap (λ b. cond b (changes (2 * up (s .top) - s .room) s hs) (stays 0 0 (s .top) hs)) (sym e)
       ∙ ap (λ b. cond b (whenOdd s hs) (whenEven s hs)) (sym (ne-eqb (ones (s .mask) % 2) 1 o))
 
-  pub decided-change : (ones (s .mask) % 2 ≡ 1 → ⊥) → s .room < 2 * up (s .top) → changes s hs ≡ decided s hs
-  decided-change o h = decided-even true o (lt-ltb (s .room) (2 * up (s .top)) h)
+  pub decided-change : (d : ℕ) → (ones (s .mask) % 2 ≡ 1 → ⊥) → s .room < 2 * up (s .top) → d ≡ 2 * up (s .top) - s .room → changes d s hs ≡ decided s hs
+  decided-change d o h k = ap (λ d. changes d s hs) k ∙ decided-even true o (lt-ltb (s .room) (2 * up (s .top)) h)
 
-  pub decided-stay : (t : ℤ) → (ones (s .mask) % 2 ≡ 1 → ⊥) → 2 * up (s .top) ≤ s .room → t ≡ s .top → stays 0 t hs ≡ decided s hs
-  decided-stay t o h p = ap (λ t. stays 0 t hs) p ∙ decided-even false o (le-ltb (s .room) (2 * up (s .top)) h)
+  pub decided-stay : (t : ℤ) → (ones (s .mask) % 2 ≡ 1 → ⊥) → 2 * up (s .top) ≤ s .room → t ≡ s .top → stays 0 0 t hs ≡ decided s hs
+  decided-stay t o h p = ap (λ t. stays 0 0 t hs) p ∙ decided-even false o (le-ltb (s .room) (2 * up (s .top)) h)
 
-  pub changes-is : (b : ℕ) (t : ℤ) (l : List ℤ) → b ≡ 2 ^ s .place → l ≡ set hs (s .place) t → t ≡ pos (2 * unit) -ℤ s .top → stays (bitXor (s .mask) b) t l ≡ changes s hs
-  changes-is b t l e r p = ap (stays (bitXor (s .mask) b) t) r ∙ ap₂ (λ b t. stays (bitXor (s .mask) b) t (set hs (s .place) t)) e p
+  pub changes-is : (d b : ℕ) (t : ℤ) (l : List ℤ) → b ≡ 2 ^ s .place → l ≡ set hs (s .place) t → t ≡ pos (2 * unit) -ℤ s .top → stays (bitXor (s .mask) b) d t l ≡ changes d s hs
+  changes-is d b t l e r p = ap (stays (bitXor (s .mask) b) d t) r ∙ ap₂ (λ b t. stays (bitXor (s .mask) b) d t (set hs (s .place) t)) e p
 
 -- a height above 0 is a size
 pub above-within : (z : ℤ) (r : ℕ) → z ⩽ pos unit → r < 2 * up z → Within unit z
@@ -91,14 +116,11 @@ shifted u r n t e = go (decLe (suc r) (2 * t))
 
 -- a cut's view of the values
 sees : Option (List Bool) → List ℤ → List ℤ → Seen
-sees o vs old = record { number = 0; mask = cutMask o; top = highest (heightsOf (sideBy o vs) vs); heights = over (heightsOf (sideBy o vs) vs) old }
+sees o vs old = stays (cutMask o) (depthBy unit (clips unit vs) o) (highest (heightsOf (sideBy o vs) vs)) (over (heightsOf (sideBy o vs) vs) old)
 
 seen-by : (vs old : List ℤ) (o : Option (List Bool)) → cut unit (clips unit vs) ≡ o → sees o vs old ≡ seenOn vs old
-unfolding sees seenOn
+unfolding sees seenOn depth
 seen-by vs old o e = ap (λ o. sees o vs old) (sym e)
-
-seen-eq : (m m′ : ℕ) (t t′ : ℤ) (hs hs′ : List ℤ) → m ≡ m′ → t ≡ t′ → hs ≡ hs′ → stays m t hs ≡ stays m′ t′ hs′
-seen-eq m m′ t t′ hs hs′ p q r = cc
 
 module _ (vs old : List ℤ) (s : Scan) (p : Scanned vs s) where
   left-is : left unit (negatives (clips unit vs)) (clips unit vs) ≡ pos (s .room)
@@ -107,15 +129,19 @@ module _ (vs old : List ℤ) (s : Scan) (p : Scanned vs s) where
   parity-is : (b : Bool) → eqb (ones (s .mask) % 2) 1 ≡ b → odd (negatives (clips unit vs)) ≡ b
   parity-is b e = ap odd (clips-signs vs) ∙ ones-odd (negatives vs) ∙ ap (λ m. eqb (ones m % 2) 1) (sym (p .negative)) ∙ e
 
+  -- a set whose left side is so much falls short by the rest
+  shortfall-of : (ts : List Bool) (n : ℕ) → left unit ts (clips unit vs) ≡ pos n → 2 * unit - n ≡ shortfall unit ts (clips unit vs)
+  shortfall-of ts n e = sym (ap (λ l. up (pos (2 * unit) -ℤ l)) e ∙ up-less (2 * unit) n)
+
   -- the negative values see
-  negatives-see : (b : Bool) → stays (cond b (s .mask) 0) (s .top) (over (sights vs) old) ≡ sees (keep b (negatives vs)) vs old
+  negatives-see : (b : Bool) → ltb (s .room) (2 * unit) ≡ b → stays (cond b (s .mask) 0) (2 * unit - s .room) (s .top) (over (sights vs) old) ≡ sees (keep b (negatives vs)) vs old
   unfolding sees
-  negatives-see true = seen-eq _ _ _ _ _ _ (p .negative) (p .high) refl
-  negatives-see false = seen-eq _ _ _ _ _ _ refl (p .high) refl
+  negatives-see true e = seen-eq _ _ _ _ _ _ _ _ (p .negative) (shortfall-of (negatives vs) (s .room) (clips-left vs ∙ ap pos (sym (p .total)))) (p .high) refl
+  negatives-see false e = seen-eq _ _ _ _ _ _ _ _ refl (omega (arith, ltb-false (s .room) (2 * unit) e)) (p .high) refl
 
   odd-sees : eqb (ones (s .mask) % 2) 1 ≡ true → whenOdd s (over (sights vs) old) ≡ seenOn vs old
   odd-sees o =
-      negatives-see (ltb (s .room) (2 * unit))
+      negatives-see (ltb (s .room) (2 * unit)) refl
       ∙ seen-by vs old (keep (ltb (s .room) (2 * unit)) (negatives vs))
       (cut-odd unit (clips unit vs) (clips-within unit vs) (parity-is true o) ∙ ap₂ (λ z ts. keep (ltZ z (pos (2 * unit))) ts) left-is (clips-signs vs))
 
@@ -150,14 +176,23 @@ module _ (vs old : List ℤ) (s : Scan) (p : Scanned vs s) where
         highest-set (sights vs) (s .place) (pos (2 * unit) -ℤ s .top) inside
         (subst (λ z. highest (sights vs) ⩽ pos (2 * unit) -ℤ z) (sym (p .high)) (raised (highest (sights vs)) (sights-top vs)))
 
+    -- twice the greatest height, less the heights' sum
+    changed-short : 2 * up (s .top) - s .room ≡ shortfall unit (changeSide (s .place) (negatives vs)) (clips unit vs)
+    changed-short =
+        omega (arith, size-is)
+        ∙ shortfall-of (changeSide (s .place) (negatives vs)) (s .room + 2 * natAbs (at (clips unit vs) (s .place)))
+        (ap (λ ts. left unit (changeSide (s .place) ts) (clips unit vs)) (sym (clips-signs vs)) ∙ pays)
+
     -- the changed set sees
-    changed-see : (b : Bool) → cond b (changes s (over (sights vs) old)) (stays 0 (s .top) (over (sights vs) old)) ≡ sees (keep b (changeSide (s .place) (negatives vs))) vs old
+    changed-see : (b : Bool) → cond b (changes (2 * up (s .top) - s .room) s (over (sights vs) old)) (stays 0 0 (s .top) (over (sights vs) old))
+        ≡ sees (keep b (changeSide (s .place) (negatives vs))) vs old
     unfolding sees
-    changed-see true = seen-eq _ _ _ _ _ _
+    changed-see true = seen-eq _ _ _ _ _ _ _ _
         (ap (λ m. bitXor m (2 ^ s .place)) (p .negative) ∙ mask-change (s .place) (negatives vs) (subst (λ n. s .place < n) (sym (negatives-length vs)) h))
+        changed-short
         (sym (ap highest raised-heights ∙ raised-top))
         (set-over (sights vs) old (s .place) (pos (2 * unit) -ℤ s .top) inside ∙ ap (λ l. over l old) (sym raised-heights))
-    changed-see false = seen-eq _ _ _ _ _ _ refl (p .high) refl
+    changed-see false = seen-eq _ _ _ _ _ _ _ _ refl refl (p .high) refl
 
     even-sees : eqb (ones (s .mask) % 2) 1 ≡ false → whenEven s (over (sights vs) old) ≡ seenOn vs old
     even-sees o =
@@ -168,8 +203,8 @@ module _ (vs old : List ℤ) (s : Scan) (p : Scanned vs s) where
 none-sees : (old : List ℤ) (s : Scan) → Scanned [] s → whenEven s old ≡ seenOn [] old
 unfolding sees
 none-sees old s p =
-    ap (λ b. cond b (changes s old) (stays 0 (s .top) old)) (ap₂ (λ r t. ltb r (2 * up t)) (p .total) (p .high))
-    ∙ seen-eq _ _ _ _ _ _ refl (p .high) refl
+    ap (λ b. cond b (changes (2 * up (s .top) - s .room) s old) (stays 0 0 (s .top) old)) (ap₂ (λ r t. ltb r (2 * up t)) (p .total) (p .high))
+    ∙ seen-eq _ _ _ _ _ _ _ _ refl refl (p .high) refl
     ∙ seen-by [] old none (empty-uncut unit)
 
 even-decides : (vs old : List ℤ) (s : Scan) → Scanned vs s → eqb (ones (s .mask) % 2) 1 ≡ false → whenEven s (over (sights vs) old) ≡ seenOn vs old
@@ -222,7 +257,7 @@ module _ (v old hs : List ℤ) (few : length v ≤ maxDegree) (s : Scan) (p : Sc
   pub decides-seen : length v ≤ length old → decided s hs ≡ seen v old
   decides-seen room = ap (decided s) e ∙ decides v old s p ∙ seen-whole v old few room
 
--- the mask of values that are seen
-pub seen-mask : (v old : List ℤ) → length v ≤ maxDegree → length v ≤ length old → seen v old .mask ≡ cutMask (cut unit (clips unit v))
+-- mask and depth of values that are seen
+pub seen-cut : (v old : List ℤ) (r : Seen) → r ≡ seen v old → length v ≤ maxDegree → length v ≤ length old → CutIs (clips unit v) (r .mask) (r .depth)
 unfolding seenOn
-seen-mask v old h k = ap (λ s. s .mask) (sym (seen-whole v old h k))
+seen-cut v old r e h k = let same = e ∙ sym (seen-whole v old h k) in (ap (λ s. s .mask) same, ap (λ s. s .depth) same)

@@ -8,7 +8,7 @@ use lib.Dec.{lit<}
 use lib.IntN.{ℤ, pos, negsuc, natAbs}
 use lib.Pow.{shl-exact, pow-mono}
 use lib.Signed.{_≤ℤ_, _<ℤ_}
-use Rattle.integers.specs.Linear.{arithZ, _⩽_, up, le-out}
+use Rattle.integers.specs.Linear.{arithZ, _⩽_, up}
 use Rattle.rules.specs.Mask.{digit}
 use Rattle.rules.specs.Cut.{isNeg}
 
@@ -25,17 +25,9 @@ other-bit (pos n) p h = omega arith
 other-bit (negsuc n) p h = absurd (h .le)
 
 -- what a height adds
-pub up-none : (z : ℤ) → z ⩽ pos 0 → up z ≡ 0
-up-none (pos n) h = omega (arith, le-out h)
-up-none (negsuc n) h = refl
-
 pub up-all : (z : ℤ) → pos 0 ⩽ z → natAbs z ≡ up z
 up-all (pos n) h = refl
 up-all (negsuc n) h = absurd (h .le)
-
-pub up-mono : (a b : ℤ) → a ⩽ b → up a ≤ up b
-up-mono (pos m) b h = omega (arith, le-out h)
-up-mono (negsuc m) b h = omega arith
 
 -- bit k on top of a mask of k bits
 pub bit-above : (t : Bool) (m b k : ℕ) → k < 32 → m < 2 ^ k → b ≡ digit t * 2 ^ k → m + b < 2 ^ 32

@@ -4,19 +4,20 @@ use mathlib.Core.Option.{Option, some, none}
 use mathlib.Mathlib.Logic.Function.Defs.{LeftInverse·injective}
 use Prim.Native.Nat.{ℕ}
 use Rattle.rules.specs.Refusal.{Answer, refused, gives}
+use Rattle.rules.specs.Cut.{Violation}
 use Rattle.cut.specs.declared.Found.{Found}
-use Rattle.cut.specs.declared.Found.the-variants.{Refused, Nothing, Mask}
+use Rattle.cut.specs.declared.Found.the-variants.{Refused, Nothing, Violated}
 use Rattle.cut.specs.Reply.{foundOf}
 
 pub found-inj : (a b : Found) → foundOf a ≡ foundOf b → a ≡ b
 found-inj = LeftInverse·injective back foundOf again
   where
-    back : Answer (Option ℕ) → Found
+    back : Answer (Option (Violation ℕ)) → Found
     back (refused k) = Refused k
     back (gives none) = Nothing
-    back (gives (some m)) = Mask m
+    back (gives (some v)) = Violated (v .set) (v .depth)
 
     again : (a : Found) → back (foundOf a) ≡ a
     again (Refused k) = refl
     again Nothing = refl
-    again (Mask m) = refl
+    again (Violated m d) = refl

@@ -9,22 +9,22 @@ use lib.IntN.{ℤ, pos, negsuc, negℤ}
 use Rattle.integers.specs.Clip.{clipZ}
 use Rattle.rules.specs.Refusal.{Answer, refused, gives, must}
 use Rattle.rules.specs.Input.{onPoint, onCheck}
-use Rattle.rules.specs.Cut.{cut, maskAnswer}
+use Rattle.rules.specs.Cut.{cut, depth, Violation, violation, maskAnswer}
 use Rattle.table.specs.Layout.{checksFrom, tableOf}
-use Rattle.cut.specs.Heights.{seenOn, unseen, seen}
+use Rattle.cut.specs.Heights.{seenTo, seenOn, unseen, seen}
 use Rattle.cut.specs.Search.{searchOn}
 
 -- the starts 0 and 3, the members 0, 1 and 2
-asked : List ℤ → ℕ → Answer (Option ℕ)
+asked : List ℤ → ℕ → Answer (Option (Violation ℕ))
 asked s j = maskAnswer (searchOn (tableOf 3 (0 ∷ 3 ∷ []) (0 ∷ 1 ∷ 2 ∷ [])) s j)
 
 -- "(1365, 1365, −1366) has no cut; (1365, 1365, −1367) has mask 4"
 no-cut : asked (pos 1365 ∷ pos 1365 ∷ negsuc 1365 ∷ []) 0 ≡ gives none
-unfolding asked checksFrom onPoint onCheck must cut
+unfolding asked checksFrom onPoint onCheck must cut violation
 no-cut = refl
 
-mask-4 : asked (pos 1365 ∷ pos 1365 ∷ negsuc 1366 ∷ []) 0 ≡ gives (some 4)
-unfolding asked checksFrom onPoint onCheck must cut
+mask-4 : asked (pos 1365 ∷ pos 1365 ∷ negsuc 1366 ∷ []) 0 ≡ gives (some (record { set = 4; depth = 1 }))
+unfolding asked checksFrom onPoint onCheck must cut violation
 mask-4 = refl
 
 -- what a buffer holds
@@ -33,18 +33,18 @@ sevens n = replicate n (pos 7)
 
 -- the same two points by their heights, which make 2U and one less; the buffer's fourth place stays
 heights-no-cut : seen (pos 1365 ∷ pos 1365 ∷ negsuc 1365 ∷ []) (sevens 4)
-    ≡ record { number = 0; mask = 0; top = pos 2731; heights = pos 2731 ∷ pos 2731 ∷ pos 2730 ∷ pos 7 ∷ [] }
-unfolding seen seenOn cut clipZ sevens
+    ≡ seenTo 0 0 0 (pos 2731) (pos 2731 ∷ pos 2731 ∷ pos 2730 ∷ pos 7 ∷ [])
+unfolding seen seenOn cut depth clipZ sevens
 heights-no-cut = refl
 
 heights-mask-4 : seen (pos 1365 ∷ pos 1365 ∷ negsuc 1366 ∷ []) (sevens 4)
-    ≡ record { number = 0; mask = 4; top = pos 2731; heights = pos 2731 ∷ pos 2731 ∷ pos 2729 ∷ pos 7 ∷ [] }
-unfolding seen seenOn cut clipZ sevens
+    ≡ seenTo 0 4 1 (pos 2731) (pos 2731 ∷ pos 2731 ∷ pos 2729 ∷ pos 7 ∷ [])
+unfolding seen seenOn cut depth clipZ sevens
 heights-mask-4 = refl
 
--- of (−1, 5000, −U) the first changes sides: its height rises from U − 1 to U + 1, and the second's is not clipped
-heights-raised : seen (negsuc 0 ∷ pos 5000 ∷ negsuc 4095 ∷ []) (sevens 3) ≡ record { number = 0; mask = 4; top = pos 4097; heights = pos 4097 ∷ negsuc 903 ∷ pos 0 ∷ [] }
-unfolding seen seenOn cut clipZ sevens
+-- of (−1, 5000, −U) the first changes sides: its height rises from U − 1 to U + 1, and the second's is not clipped, but for the depth
+heights-raised : seen (negsuc 0 ∷ pos 5000 ∷ negsuc 4095 ∷ []) (sevens 3) ≡ seenTo 0 4 4095 (pos 4097) (pos 4097 ∷ negsuc 903 ∷ pos 0 ∷ [])
+unfolding seen seenOn cut depth clipZ sevens
 heights-raised = refl
 
 -- a buffer of one place has no room for two heights: 41, and it stays as it was; no values need no room
@@ -52,8 +52,8 @@ heights-short : seen (negsuc 4095 ∷ pos 1365 ∷ []) (pos 7 ∷ []) ≡ unseen
 unfolding seen
 heights-short = refl
 
-heights-of-none : seen [] [] ≡ record { number = 0; mask = 0; top = negℤ (pos 2147479552); heights = [] }
-unfolding seen seenOn cut
+heights-of-none : seen [] [] ≡ seenTo 0 0 0 (negℤ (pos 2147479552)) []
+unfolding seen seenOn cut depth
 heights-of-none = refl
 
 -- 32 values are seen; 33 are refused with 3, which comes before 41

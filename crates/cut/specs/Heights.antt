@@ -10,7 +10,7 @@ use lib.Signed.{ltZ}
 use Rattle.rules.specs.Limits.{unit, maxDegree}
 use Rattle.rules.specs.Refusal.{countRange, bufferShort}
 use Rattle.rules.specs.Parity.{side}
-use Rattle.rules.specs.Cut.{negatives, cut}
+use Rattle.rules.specs.Cut.{negatives, cut, depth}
 use Rattle.rules.specs.Step.{clips}
 use Rattle.rules.specs.Buffers.{over}
 use Rattle.cut.specs.CutMask.{cutMask}
@@ -45,21 +45,26 @@ sideBy (some ts) v = ts
 pub record Seen : Type 0 where
   pub number : ℕ
   pub mask : ℕ
+  pub depth : ℕ
   pub top : ℤ
   pub heights : List ℤ
+
+abbrev pub seenTo : ℕ → ℕ → ℕ → ℤ → List ℤ → Seen
+seenTo k m d t hs = record { number = k; mask = m; depth = d; top = t; heights = hs }
 
 -- the cut of the values v, and the heights as it sees them, laid over a buffer
 unfoldable pub seenOn : List ℤ → List ℤ → Seen
 seenOn v old = record {
   number = 0;
   mask = cutMask (cut unit (clips unit v));
+  depth = depth unit (clips unit v);
   top = highest (heightsOf (sideBy (cut unit (clips unit v)) v) v);
   heights = over (heightsOf (sideBy (cut unit (clips unit v)) v) v) old;
 }
 
 -- turned down: nothing is seen, and the buffer stays as it was
 abbrev pub unseen : ℕ → List ℤ → Seen
-unseen k old = record { number = k; mask = 0; top = pos 0; heights = old }
+unseen k old = seenTo k 0 0 (pos 0) old
 
 -- 3 where the values are more than a check can have, then 41 where there is no room for each height
 unfoldable pub seen : List ℤ → List ℤ → Seen

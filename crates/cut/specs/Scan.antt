@@ -2,7 +2,7 @@
 use mathlib.Core.Path.{_≡_}
 use mathlib.Core.Bool.{cond}
 use mathlib.Core.List.{List, [], _∷_}
-use Prim.Native.Nat.{ℕ, _+_, _*_, _%_, _^_, _<_}
+use Prim.Native.Nat.{ℕ, _+_, _-_, _*_, _%_, _^_, _<_}
 use lib.Bits.{bitXor}
 use lib.Count.{ones}
 use lib.Dec.{eqb, ltb}
@@ -14,7 +14,7 @@ use Rattle.rules.specs.Limits.{unit}
 use Rattle.rules.specs.Table.{at}
 use Rattle.rules.specs.Mask.{digit, maskOf}
 use Rattle.rules.specs.Cut.{isNeg, negatives}
-use Rattle.cut.specs.Heights.{height, heightsOf, higher, highest, Seen}
+use Rattle.cut.specs.Heights.{height, heightsOf, higher, highest, Seen, seenTo}
 use Rattle.cut.specs.declared.scan.Scan.{Scan}
 
 -- with value k and its height
@@ -52,24 +52,19 @@ pub record Scanned (vs : List ℤ) (s : Scan) : Type 0 where
   pub peak : Highest (sights vs) (s .place)
 
 -- the heights stay
-abbrev pub stays : ℕ → ℤ → List ℤ → Seen
-stays mask top hs = record { number = 0; mask = mask; top = top; heights = hs }
+abbrev pub stays : ℕ → ℕ → ℤ → List ℤ → Seen
+stays m d t hs = seenTo 0 m d t hs
 
 -- the member with the greatest height changes sides
-abbrev pub changes : Scan → List ℤ → Seen
-changes s hs = record {
-  number = 0;
-  mask = bitXor (s .mask) (2 ^ s .place);
-  top = pos (2 * unit) -ℤ s .top;
-  heights = set hs (s .place) (pos (2 * unit) -ℤ s .top);
-}
+abbrev pub changes : ℕ → Scan → List ℤ → Seen
+changes d s hs = stays (bitXor (s .mask) (2 ^ s .place)) d (pos (2 * unit) -ℤ s .top) (set hs (s .place) (pos (2 * unit) -ℤ s .top))
 
 abbrev pub whenOdd : Scan → List ℤ → Seen
-whenOdd s hs = stays (cond (ltb (s .room) (2 * unit)) (s .mask) 0) (s .top) hs
+whenOdd s hs = stays (cond (ltb (s .room) (2 * unit)) (s .mask) 0) (2 * unit - s .room) (s .top) hs
 
 -- twice the smallest size is 2U less twice the greatest height
 abbrev pub whenEven : Scan → List ℤ → Seen
-whenEven s hs = cond (ltb (s .room) (2 * up (s .top))) (changes s hs) (stays 0 (s .top) hs)
+whenEven s hs = cond (ltb (s .room) (2 * up (s .top))) (changes (2 * up (s .top) - s .room) s hs) (stays 0 0 (s .top) hs)
 
 abbrev pub decided : Scan → List ℤ → Seen
 decided s hs = cond (eqb (ones (s .mask) % 2) 1) (whenOdd s hs) (whenEven s hs)

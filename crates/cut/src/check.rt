@@ -1,4 +1,5 @@
 // One check of a loaded table: the spins at its members, and their cut.
+use super::Cut;
 use super::see;
 use limits::MAX_DEGREE;
 ghost use mathlib.Core.Path.{_≡_};
@@ -8,10 +9,9 @@ ghost use lib.ListN.{length, getD, drop};
 ghost use Rattle.rules.specs.Limits.{unit, maxDegree};
 ghost use Rattle.rules.specs.Table.{at, valuesAt};
 ghost use Rattle.rules.specs.Sound.{Below};
-ghost use Rattle.rules.specs.Cut.{cut};
 ghost use Rattle.rules.specs.Step.{clips};
 ghost use Rattle.table.specs.Layout.{checksFrom, Holds};
-ghost use Rattle.cut.specs.CutMask.{cutMask};
+ghost use Rattle.cut.specs.CutMask.{CutIs};
 
 // A call, since a cast of the element itself would ask that it fits.
 fn wide(x: u16) -> usize
@@ -34,21 +34,21 @@ fn gather(spins: &[i32], members: &[u16], values: &mut [i32])
 }
 
 // The cut of a check with these members.
-fn members_cut(members: &[u16], spins: &[i32]) -> u32
+fn members_cut(members: &[u16], spins: &[i32]) -> Cut
     requires { ⌜ (length (now members) ≤ maxDegree) × Below (length (now spins)) (now members) ⌝ }
-    ensures { λ r. ⌜ r ≡ cutMask (cut unit (clips unit (valuesAt (at (now (spins .entry))) (now (members .entry))))) ⌝ }
+    ensures { λ r. ⌜ CutIs (clips unit (valuesAt (at (now (spins .entry))) (now (members .entry)))) (r .mask) (r .depth) ⌝ }
 {
     let d = members.len();
     let mut values = [0i32; MAX_DEGREE];
     gather(spins, members, &mut values);
     let mut heights = [0i32; MAX_DEGREE];
-    see(&values[..d], &mut heights).mask
+    see(&values[..d], &mut heights)
 }
 
 // The cut of check j.
-pub(crate) fn check_cut(starts: &[u16], members: &[u16], spins: &[i32], j: usize) -> u32
+pub(crate) fn check_cut(starts: &[u16], members: &[u16], spins: &[i32], j: usize) -> Cut
     requires { ⌜ Holds (length (now spins)) (now starts) (now members) × (j + 1 < length (now starts)) ⌝ }
-    ensures { λ r. ⌜ r ≡ cutMask (cut unit (clips unit (valuesAt (at (now (spins .entry))) (getD (checksFrom (now (starts .entry)) (now (members .entry))) j [])))) ⌝ }
+    ensures { λ r. ⌜ CutIs (clips unit (valuesAt (at (now (spins .entry))) (getD (checksFrom (now (starts .entry)) (now (members .entry))) j []))) (r .mask) (r .depth) ⌝ }
 {
     let a = wide(starts[j]);
     let e = wide(starts[j + 1]);

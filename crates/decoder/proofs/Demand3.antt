@@ -72,7 +72,8 @@ abbrev pub roundsRun : RoundsCall → Run
 roundsRun x =
     let b = x .args .1 .1 .1 .1 in
     runIn (x .args .1 .1 .0)
-    (lent (now (b .0)) (now (b .1 .0)) (now (b .1 .1 .0)) (now (b .1 .1 .1 .0)) (now (b .1 .1 .1 .1 .0)) (now (b .1 .1 .1 .1 .1 .0)) (now (b .1 .1 .1 .1 .1 .1 .0)) (now (b .1 .1 .1 .1 .1 .1 .1 .0)))
+    (lent (now (b .0)) (now (b .1 .0)) (now (b .1 .1 .0)) (now (b .1 .1 .1 .0)) (now (b .1 .1 .1 .1 .0)) (now (b .1 .1 .1 .1 .1 .0)) (now (b .1 .1 .1 .1 .1 .1 .0))
+    (now (b .1 .1 .1 .1 .1 .1 .1 .0)) (now (b .1 .1 .1 .1 .1 .1 .1 .1 .0)))
 
 abbrev pub roundsGave : RoundsCall → Called
 roundsGave x =
@@ -81,7 +82,7 @@ roundsGave x =
       answer = outcomeOf (x .result .outcome);
       run = runIn (x .result .run)
           (lent (now (b .0)) (now (b .1 .0)) (now (b .1 .1 .0)) (now (b .1 .1 .1 .0)) (now (b .1 .1 .1 .1 .0)) (now (b .1 .1 .1 .1 .1 .0)) (now (b .1 .1 .1 .1 .1 .1 .0))
-          (now (b .1 .1 .1 .1 .1 .1 .1 .0)));
+          (now (b .1 .1 .1 .1 .1 .1 .1 .0)) (now (b .1 .1 .1 .1 .1 .1 .1 .1 .0)));
     }
 
 -- what the contracts say, by document 01's definitions

@@ -15,7 +15,7 @@ use Rattle.rules.specs.Table.{Table, at, edgesOf, degreeOf}
 use Rattle.rules.specs.Cut.{negatives, keep}
 use Rattle.rules.specs.Step.{Entry, minus}
 use Rattle.rules.specs.Round.{State, total, divided, spin, firstOf, sumsOf, Round, round}
-use Rattle.rules.specs.Buffers.{spins, copies, offsets, sums, multipliers, masks, zeros, multipliersOf, masksOf, roundLent}
+use Rattle.rules.specs.Buffers.{spins, copies, offsets, sums, multipliers, masks, depths, zeros, multipliersOf, masksOf, roundLent}
 use Rattle.rules.specs.Run.{Progress, Run, statusAt, moved, stateIn, iterate}
 use Rattle.rules.proofs.BufferLaws.{over-exact}
 use Rattle.rules.specs.Scatter.{Room}
@@ -130,7 +130,7 @@ module _ {l : List ℤ} {ss ms ds : List ℕ} {r : Run} (g : Given (length l) l 
     s-long : length s ≡ length l
     s-long = ap length e' ∙ first-length (length l) _
 
-    pub pass-fits : PassFits (length s) ss ms s (r .buffers .copies) (r .buffers .offsets) x (r .buffers .multipliers) (r .buffers .masks)
+    pub pass-fits : PassFits (length s) ss ms s (r .buffers .copies) (r .buffers .offsets) x (r .buffers .multipliers) (r .buffers .masks) (r .buffers .depths)
     pass-fits = record {
       holds = subst (λ k. Holds k ss ms) (sym s-long) (g .holds);
       size = refl;
@@ -142,6 +142,7 @@ module _ {l : List ℤ} {ss ms ds : List ℕ} {r : Run} (g : Given (length l) l 
       room = subst (Room ms) (sym cleared) (zeros-room (length l) ms standing);
       multipliersLong = ap (λ n. n multipliers) (h .sizes);
       masksLong = ap (λ n. n masks) (h .sizes);
+      depthsLong = ap (λ n. n depths) (h .sizes);
     }
 
     spins-is : s ≡ d .spins
@@ -188,12 +189,13 @@ module _ {l : List ℤ} {ss ms ds : List ℕ} {r : Run} (g : Given (length l) l 
             (status-by (suc (r .progress .rounds)) (closing (foundIn t l (round t l st))) (negatives (round t l st .spins)) ∙ ap (statusAt (suc (r .progress .rounds))) (round-closed t l st))
 
         -- the round is what the rules' next round is
-        pub done-law : record { progress = q; buffers = roundLent s (p .copies) (p .offsets) (p .sums) (p .multipliers) (p .masks) } ≡ roundsFrom 1 l ss ms r
+        pub done-law : record { progress = q; buffers = roundLent s (p .copies) (p .offsets) (p .sums) (p .multipliers) (p .masks) (p .depths) } ≡ roundsFrom 1 l ss ms r
         unfolding roundsFrom iterate d t st
-        done-law = ap₂ (λ x y. record { progress = x; buffers = y }) record-is (ap₂ (λ v y. roundLent v (y .copies) (y .offsets) (y .sums) (y .multipliers) (y .masks)) spins-is pass-is ∙ sym exact)
+        done-law = ap₂ (λ x y. record { progress = x; buffers = y }) record-is
+            (ap₂ (λ v y. roundLent v (y .copies) (y .offsets) (y .sums) (y .multipliers) (y .masks) (y .depths)) spins-is pass-is ∙ sym exact)
             ∙ ap (λ x. looped (moved (filled t r) (round t l x))) (sym here) ∙ ap looped (sym (safe-moves t l (filled t r) (h .safe) (h .runs)))
           where
-            exact : looped (moved (filled t r) d) .buffers ≡ roundLent (d .spins) (d .state .copies) (d .state .offsets) (d .sums) (multipliersOf (d .entries)) (masksOf (d .entries))
+            exact : looped (moved (filled t r) d) .buffers ≡ roundLent (d .spins) (d .state .copies) (d .state .offsets) (d .sums) (multipliersOf (d .entries)) (masksOf (d .entries)) (d .depths)
             exact = λ i. roundLent
                 (over-exact (d .spins) (r .buffers .spins) (sized .spins ∙ sym (ap (λ n. n spins) (h .sizes))) i)
                 (over-exact (d .state .copies) (r .buffers .copies) (sized .copies ∙ sym (ap (λ n. n copies) (h .sizes))) i)
@@ -201,3 +203,4 @@ module _ {l : List ℤ} {ss ms ds : List ℕ} {r : Run} (g : Given (length l) l 
                 (over-exact (d .sums) (r .buffers .sums) (sized .sums ∙ sym (ap (λ n. n sums) (h .sizes))) i)
                 (over-exact (multipliersOf (d .entries)) (r .buffers .multipliers) (sized .multipliers ∙ sym (ap (λ n. n multipliers) (h .sizes))) i)
                 (over-exact (masksOf (d .entries)) (r .buffers .masks) (sized .masks ∙ sym (ap (λ n. n masks) (h .sizes))) i)
+                (over-exact (d .depths) (r .buffers .depths) (sized .depths ∙ sym (ap (λ n. n depths) (h .sizes))) i)

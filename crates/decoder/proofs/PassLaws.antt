@@ -6,8 +6,8 @@ use native.Mathlib.Omega.{arith}
 use lib.ListN.{length, getD, take, drop}
 use lib.Seq.{drop-drop, take-at, drop-at}
 use lib.IntN.{ℤ}
-use Rattle.rules.specs.Step.{Entry, Step, step}
-use Rattle.rules.specs.Round.{values, pass, copiesIn, offsetsIn, entriesIn}
+use Rattle.rules.specs.Step.{Step, step}
+use Rattle.rules.specs.Round.{values, pass, copiesIn, offsetsIn, entriesIn, depthsIn}
 use Rattle.rules.specs.Buffers.{multiplierOf, multipliersOf, maskIn, masksOf}
 use Rattle.rules.proofs.Signs.{alike-length}
 use Rattle.rules.proofs.Pass.{pass-laid}
@@ -41,17 +41,20 @@ module _ (u : ℕ) (f : ℕ → ℤ) where
   offsets-at = part-at (λ s. s .offsets) offsetsIn (λ s ss. refl) (λ ms ys. alike-length ms (step u (values f ms ys) .offsets) (pass-laid u f (ms ∷ []) ys .0 .offsets))
 
   -- numbers, one for each check
-  module _ (g : Entry → ℕ) (all : List Entry → List ℕ) (cons : (e : Entry) (es : List Entry) → all (e ∷ es) ≡ g e ∷ all es) where
-    number-at : (cs : List (List ℕ)) (ys : List ℤ) (j : ℕ) → j < length cs → getD (all (entriesIn (pass u f cs ys))) j 0 ≡ g (stepAt cs ys j .entry)
+  module _ (g : Step → ℕ) (all : List Step → List ℕ) (cons : (s : Step) (ss : List Step) → all (s ∷ ss) ≡ g s ∷ all ss) where
+    number-at : (cs : List (List ℕ)) (ys : List ℤ) (j : ℕ) → j < length cs → getD (all (pass u f cs ys)) j 0 ≡ g (stepAt cs ys j)
     number-at [] ys j h = absurd (omega arith)
-    number-at (ms ∷ cs) ys zero h = ap (λ l. getD l 0 0) (cons (step u (values f ms ys) .entry) (entriesIn (pass u f cs (drop (length ms) ys))))
+    number-at (ms ∷ cs) ys zero h = ap (λ l. getD l 0 0) (cons (step u (values f ms ys)) (pass u f cs (drop (length ms) ys)))
     number-at (ms ∷ cs) ys (suc j) h =
-        ap (λ l. getD l (suc j) 0) (cons (step u (values f ms ys) .entry) (entriesIn (pass u f cs (drop (length ms) ys))))
+        ap (λ l. getD l (suc j) 0) (cons (step u (values f ms ys)) (pass u f cs (drop (length ms) ys)))
         ∙ number-at cs (drop (length ms) ys) j (omega arith)
-        ∙ ap (λ l. g (step u (values f (getD cs j []) l) .entry)) (drop-drop (edgesBefore j cs) (length ms) ys)
+        ∙ ap (λ l. g (step u (values f (getD cs j []) l))) (drop-drop (edgesBefore j cs) (length ms) ys)
 
   pub multiplier-at : (cs : List (List ℕ)) (ys : List ℤ) (j : ℕ) → j < length cs → getD (multipliersOf (entriesIn (pass u f cs ys))) j 0 ≡ multiplierOf (stepAt cs ys j .entry)
-  multiplier-at = number-at multiplierOf multipliersOf (λ e es. refl)
+  multiplier-at = number-at (λ s. multiplierOf (s .entry)) (λ ss. multipliersOf (entriesIn ss)) (λ s ss. refl)
 
   pub mask-at : (cs : List (List ℕ)) (ys : List ℤ) (j : ℕ) → j < length cs → getD (masksOf (entriesIn (pass u f cs ys))) j 0 ≡ maskIn (stepAt cs ys j .entry)
-  mask-at = number-at maskIn masksOf (λ e es. refl)
+  mask-at = number-at (λ s. maskIn (s .entry)) (λ ss. masksOf (entriesIn ss)) (λ s ss. refl)
+
+  pub depth-at : (cs : List (List ℕ)) (ys : List ℤ) (j : ℕ) → j < length cs → getD (depthsIn (pass u f cs ys)) j 0 ≡ stepAt cs ys j .depth
+  depth-at = number-at (λ s. s .depth) depthsIn (λ s ss. refl)

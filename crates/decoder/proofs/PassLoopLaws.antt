@@ -13,7 +13,7 @@ use Rattle.rules.specs.Table.{at}
 use Rattle.rules.specs.Sound.{Below}
 use Rattle.rules.specs.Step.{Step, step, minus}
 use Rattle.rules.specs.Round.{values, pass, copiesIn, offsetsIn, entriesIn}
-use Rattle.rules.proofs.Pass.{AllLaid, pass-laid, copies-length, offsets-length, entries-length, copies-within, offsets-within, take-within, drop-within}
+use Rattle.rules.proofs.Pass.{AllLaid, pass-laid, copies-length, offsets-length, entries-length, depths-length, copies-within, offsets-within, take-within, drop-within}
 use Rattle.rules.proofs.RoundSizes.{multipliers-length, masks-length}
 use Rattle.rules.specs.Scatter.{scatter, Room, Added}
 use Rattle.rules.proofs.Optimal.{within-at}
@@ -27,13 +27,13 @@ use Rattle.decoder.specs.Parts.{part, placed, onePassed, OneFits}
 use Rattle.decoder.proofs.PartLaws.{fill-part, part-length}
 use Rattle.decoder.proofs.StepListLaws.{values-take}
 use Rattle.table.proofs.LayoutLaws.{before-all, before-most, members-long, start-is, starts-long, start-next, part-is, part-degree, part-below}
-use Rattle.decoder.proofs.PassLaws.{stepAt, copies-at, offsets-at, multiplier-at, mask-at}
+use Rattle.decoder.proofs.PassLaws.{stepAt, copies-at, offsets-at, multiplier-at, mask-at, depth-at}
 
 -- z − y of each edge
 abbrev weightsIn : Passed → List ℤ
 weightsIn p = minus (p .copies) (p .offsets)
 
--- j checks are done: the edges before check j, and j multipliers and masks
+-- j checks are done: the edges before check j, and j multipliers, masks and depths
 pub record Passing (f : ℕ → ℤ) (ss ms : List ℕ) (q₀ q : Passed) (j : ℕ) : Type 0 where
   pub few : j ≤ length (checksFrom ss ms)
   pub copies : q .copies ≡ fill (getD ss j 0) (passed f (checksFrom ss ms) (q₀ .offsets) (q₀ .sums) .copies) (q₀ .copies)
@@ -41,11 +41,12 @@ pub record Passing (f : ℕ → ℤ) (ss ms : List ℕ) (q₀ q : Passed) (j : �
   pub sums : Added ms (weightsIn (passed f (checksFrom ss ms) (q₀ .offsets) (q₀ .sums))) (q₀ .sums) (getD ss j 0) (q .sums)
   pub multipliers : q .multipliers ≡ fill j (passed f (checksFrom ss ms) (q₀ .offsets) (q₀ .sums) .multipliers) (q₀ .multipliers)
   pub masks : q .masks ≡ fill j (passed f (checksFrom ss ms) (q₀ .offsets) (q₀ .sums) .masks) (q₀ .masks)
+  pub depths : q .depths ≡ fill j (passed f (checksFrom ss ms) (q₀ .offsets) (q₀ .sums) .depths) (q₀ .depths)
 
-pub passed-eq : {a a' b b' x x' : List ℤ} {c c' d d' : List ℕ} → a ≡ a' → b ≡ b' → x ≡ x' → c ≡ c' → d ≡ d' → passedTo a b x c d ≡ passedTo a' b' x' c' d'
-passed-eq p q x r s = λ i. passedTo (p i) (q i) (x i) (r i) (s i)
+pub passed-eq : {a a' b b' x x' : List ℤ} {c c' d d' e e' : List ℕ} → a ≡ a' → b ≡ b' → x ≡ x' → c ≡ c' → d ≡ d' → e ≡ e' → passedTo a b x c d e ≡ passedTo a' b' x' c' d' e'
+passed-eq p q x r s t = λ i. passedTo (p i) (q i) (x i) (r i) (s i) (t i)
 
-module _ {n : ℕ} {ss ms : List ℕ} {s z y x : List ℤ} {bs ks : List ℕ} (fits : PassFits n ss ms s z y x bs ks) where
+module _ {n : ℕ} {ss ms : List ℕ} {s z y x : List ℤ} {bs ks ds : List ℕ} (fits : PassFits n ss ms s z y x bs ks ds) where
   abbrev cs : List (List ℕ)
   cs = checksFrom ss ms
 
@@ -56,7 +57,7 @@ module _ {n : ℕ} {ss ms : List ℕ} {s z y x : List ℤ} {bs ks : List ℕ} (f
   goal = passed (at s) (checksFrom ss ms) y x
 
   abbrev first : Passed
-  first = passedTo z y x bs ks
+  first = passedTo z y x bs ks ds
 
   abbrev from : ℕ → ℕ
   from j = getD ss j 0
@@ -79,6 +80,10 @@ module _ {n : ℕ} {ss ms : List ℕ} {s z y x : List ℤ} {bs ks : List ℕ} (f
   masks-same : length (goal .masks) ≡ length ks
   unfolding passed
   masks-same = masks-length (entriesIn steps) ∙ entries-length unit cs steps laid ∙ sym (fits .masksLong)
+
+  depths-same : length (goal .depths) ≡ length ds
+  unfolding passed
+  depths-same = depths-length unit cs steps laid ∙ sym (fits .depthsLong)
 
   weights-long : length (weightsIn goal) ≡ length ms
   weights-long = minus-length (goal .copies) (goal .offsets) (copies-same ∙ fits .copiesLong ∙ sym (offsets-same ∙ fits .offsetsLong)) ∙ copies-same ∙ fits .copiesLong
@@ -106,6 +111,7 @@ module _ {n : ℕ} {ss ms : List ℕ} {s z y x : List ℤ} {bs ks : List ℕ} (f
     sums = subst (λ a. Added ms (weightsIn goal) x a x) start-first (added-none (fits .room));
     multipliers = sym (fill-none (goal .multipliers) bs);
     masks = sym (fill-none (goal .masks) ks);
+    depths = sym (fill-none (goal .depths) ds);
   }
 
   module _ {j : ℕ} {q : Passed} (g : Passing (at s) ss ms first q j) where
@@ -121,6 +127,9 @@ module _ {n : ℕ} {ss ms : List ℕ} {s z y x : List ℤ} {bs ks : List ℕ} (f
     masks-long : length (q .masks) ≡ length cs
     masks-long = ap length (g .masks) ∙ fill-length j (goal .masks) ks ∙ fits .masksLong
 
+    depths-long : length (q .depths) ≡ length cs
+    depths-long = ap length (g .depths) ∙ fill-length j (goal .depths) ds ∙ fits .depthsLong
+
     -- as many masks as checks, to the end
     pub still : j < length (q .masks) → j < length cs
     still h = omega (arith, masks-long)
@@ -128,8 +137,16 @@ module _ {n : ℕ} {ss ms : List ℕ} {s z y x : List ℤ} {bs ks : List ℕ} (f
     pub past : length (q .masks) ≤ j → length cs ≤ j
     past h = omega (arith, masks-long)
 
-    pub passing-long : (length (q .copies) ≡ length z) × (length (q .offsets) ≡ length y) × (length (q .sums) ≡ length x) × (length (q .multipliers) ≡ length bs) × (length (q .masks) ≡ length ks)
-    passing-long = (copies-long ∙ sym (fits .copiesLong), offsets-long ∙ sym (fits .offsetsLong), g .sums .long, multipliers-long ∙ sym (fits .multipliersLong), masks-long ∙ sym (fits .masksLong))
+    pub passing-long : (length (q .copies) ≡ length z) × (length (q .offsets) ≡ length y) × (length (q .sums) ≡ length x)
+        × (length (q .multipliers) ≡ length bs) × (length (q .masks) ≡ length ks) × (length (q .depths) ≡ length ds)
+    passing-long = (
+      copies-long ∙ sym (fits .copiesLong),
+      offsets-long ∙ sym (fits .offsetsLong),
+      g .sums .long,
+      multipliers-long ∙ sym (fits .multipliersLong),
+      masks-long ∙ sym (fits .masksLong),
+      depths-long ∙ sym (fits .depthsLong),
+    )
 
     pub passing-last : length cs ≤ j → q ≡ goal
     unfolding passed
@@ -139,6 +156,7 @@ module _ {n : ℕ} {ss ms : List ℕ} {s z y x : List ℤ} {bs ks : List ℕ} (f
         (added-all (g .sums) (omega (arith, end)) ∙ ap (λ l. scatter l (weightsIn goal) x) (fits .holds .members))
         (g .multipliers ∙ fill-all j (goal .multipliers) bs multipliers-same (done ∙ sym (fits .multipliersLong)))
         (g .masks ∙ fill-all j (goal .masks) ks masks-same (done ∙ sym (fits .masksLong)))
+        (g .depths ∙ fill-all j (goal .depths) ds depths-same (done ∙ sym (fits .depthsLong)))
       where
         done : j ≡ length cs
         done = omega (arith, g .few)
@@ -181,7 +199,7 @@ module _ {n : ℕ} {ss ms : List ℕ} {s z y x : List ℤ} {bs ks : List ℕ} (f
       below-there : Below (length s) (part (from j) (from (j + 1)) ms)
       below-there = subst (λ l. Below (length s) l) (sym members-are) (subst (λ k. Below k (getD cs j [])) (sym (fits .size)) (part-below n ss ms (fits .holds) j h))
 
-      fits-there : OneFits j (from j) (from (j + 1)) s ms (q .copies) (q .offsets) (q .sums) (q .multipliers) (q .masks)
+      fits-there : OneFits j (from j) (from (j + 1)) s ms (q .copies) (q .offsets) (q .sums) (q .multipliers) (q .masks) (q .depths)
       fits-there = record {
         ordered = ordered;
         membersEnd = end-in;
@@ -189,6 +207,7 @@ module _ {n : ℕ} {ss ms : List ℕ} {s z y x : List ℤ} {bs ks : List ℕ} (f
         offsetsEnd = omega (arith, end-in, offsets-long);
         multiplierThere = omega (arith, multipliers-long);
         maskThere = omega (arith, masks-long);
+        depthThere = omega (arith, depths-long);
         step = record {
           few = subst (λ l. length l ≤ maxDegree) (sym members-are) (part-degree n ss ms (fits .holds) j h);
           below = below-there;
@@ -201,8 +220,8 @@ module _ {n : ℕ} {ss ms : List ℕ} {s z y x : List ℤ} {bs ks : List ℕ} (f
         };
       }
 
-      pub one-fits : {a : ℕ} → a ≡ from j → OneFits j a (from (j + 1)) s ms (q .copies) (q .offsets) (q .sums) (q .multipliers) (q .masks)
-      one-fits e = subst (λ a. OneFits j a (from (j + 1)) s ms (q .copies) (q .offsets) (q .sums) (q .multipliers) (q .masks)) (sym e) fits-there
+      pub one-fits : {a : ℕ} → a ≡ from j → OneFits j a (from (j + 1)) s ms (q .copies) (q .offsets) (q .sums) (q .multipliers) (q .masks) (q .depths)
+      one-fits e = subst (λ a. OneFits j a (from (j + 1)) s ms (q .copies) (q .offsets) (q .sums) (q .multipliers) (q .masks) (q .depths)) (sym e) fits-there
 
       values-are : values (at s) (part (from j) (from (j + 1)) ms) (part (from j) (from (j + 1)) (q .offsets)) ≡ values (at s) (getD cs j []) (drop (edgesBefore j cs) y)
       values-are = ap₂ (values (at s)) members-are (offsets-are ∙ ap₂ (λ k a. take k (drop a y)) width (start-is n ss ms (fits .holds) j (g .few)))
@@ -247,6 +266,7 @@ module _ {n : ℕ} {ss ms : List ℕ} {s z y x : List ℤ} {bs ks : List ℕ} (f
         sums = sums-next;
         multipliers = fill-more j (goal .multipliers) bs (q .multipliers) _ 0 (omega (arith, multipliers-same, fits .multipliersLong)) (sym (multiplier-at unit (at s) cs y j h)) (g .multipliers);
         masks = fill-more j (goal .masks) ks (q .masks) _ 0 (omega (arith, masks-same, fits .masksLong)) (sym (mask-at unit (at s) cs y j h)) (g .masks);
+        depths = fill-more j (goal .depths) ds (q .depths) _ 0 (omega (arith, depths-same, fits .depthsLong)) (sym (depth-at unit (at s) cs y j h)) (g .depths);
       }
 
       pub passing-next : {a : ℕ} {r : Passed} → a ≡ from j → r ≡ onePassed (at s) ms j a (from (j + 1)) q → Passing (at s) ss ms first r (j + 1)

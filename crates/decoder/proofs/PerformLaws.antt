@@ -13,7 +13,7 @@ use Rattle.rules.specs.Limits.{unit, maxBits, maxChecks, offsetPerRound, certif
 use Rattle.rules.specs.Table.{Table, edges, edgesOf, degreeOf}
 use Rattle.rules.specs.Cut.{negatives, keep}
 use Rattle.rules.specs.Round.{sumsOf, Round}
-use Rattle.rules.specs.Buffers.{spins, copies, offsets, sums, multipliers, masks, word, certificate, Buffer, Elem, the, lent, lengthsOf, needsBy, needs}
+use Rattle.rules.specs.Buffers.{spins, copies, offsets, sums, multipliers, masks, depths, word, certificate, Buffer, Elem, the, lent, lengthsOf, needsBy, needs}
 use Rattle.rules.specs.Buffers.{Part, partOf, over, overBy, wordLeft, certificateLeft, multipliersOf, masksOf, bytesOf}
 use Rattle.rules.specs.Run.{Status, running, certified, spent, Run, moved, stateIn, iterate, Safe}
 use Rattle.rules.specs.Calls.{lend}
@@ -136,6 +136,9 @@ module _ {n m e : ℕ} {l : List ℤ} {ss ms : List ℕ} {r : Run} (h : PartsFit
     abbrev masksNow : List ℕ
     masksNow = x .buffers .masks ++ drop m (r .buffers .masks)
 
+    abbrev depthsNow : List ℕ
+    depthsNow = x .buffers .depths ++ drop m (r .buffers .depths)
+
     spins-back : spinsNow ≡ end .buffers .spins
     spins-back = back spins (x .buffers .spins) (ap (λ q. q .buffers .spins) rounds-are)
 
@@ -153,6 +156,9 @@ module _ {n m e : ℕ} {l : List ℤ} {ss ms : List ℕ} {r : Run} (h : PartsFit
 
     masks-back : masksNow ≡ end .buffers .masks
     masks-back = back masks (x .buffers .masks) (ap (λ q. q .buffers .masks) rounds-are)
+
+    depths-back : depthsNow ≡ end .buffers .depths
+    depths-back = back depths (x .buffers .depths) (ap (λ q. q .buffers .depths) rounds-are)
 
     -- ---- the end
     front : {A : Type 0} (k : ℕ) (s s' : List A) → s ≡ s' → k ≤ length s' → length (take k s) ≡ k
@@ -247,10 +253,10 @@ module _ {n m e : ℕ} {l : List ℤ} {ss ms : List ℕ} {r : Run} (h : PartsFit
 
     -- the whole run as the call leaves it, with g for word and certificate
     abbrev leaving : Ending → Run
-    leaving g = record { progress = x .progress; buffers = lent spinsNow copiesNow offsetsNow sumsNow multipliersNow masksNow (g .word) (g .certificate) }
+    leaving g = record { progress = x .progress; buffers = lent spinsNow copiesNow offsetsNow sumsNow multipliersNow masksNow depthsNow (g .word) (g .certificate) }
 
     pub performed : {g : Ending} → g ≡ ended (x .progress .status) → leaving g ≡ end
     performed j = λ i. record {
       progress = rounds-are i .progress;
-      buffers = lent (spins-back i) (copies-back i) (offsets-back i) (sums-back i) (multipliers-back i) (masks-back i) ((j ∙ ended-right) i .word) ((j ∙ ended-right) i .certificate);
+      buffers = lent (spins-back i) (copies-back i) (offsets-back i) (sums-back i) (multipliers-back i) (masks-back i) (depths-back i) ((j ∙ ended-right) i .word) ((j ∙ ended-right) i .certificate);
     }

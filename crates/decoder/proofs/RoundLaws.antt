@@ -14,7 +14,7 @@ use Rattle.rules.specs.Parity.{meets}
 use Rattle.rules.specs.Cut.{negatives, keep}
 use Rattle.rules.specs.Step.{Entry, Step, minus}
 use Rattle.rules.specs.Bound.{Row, rowsOf, gap}
-use Rattle.rules.specs.Round.{State, spin, pass, copiesIn, offsetsIn, entriesIn, candidate, isZero, certify, firstOf, sumsOf, Round, round}
+use Rattle.rules.specs.Round.{State, spin, pass, copiesIn, offsetsIn, entriesIn, depthsIn, candidate, isZero, certify, firstOf, sumsOf, Round, round}
 use Rattle.rules.specs.Buffers.{zeros, multipliersOf, masksOf}
 use Rattle.rules.proofs.WrittenPasses.{AllProper}
 use Rattle.rules.proofs.CallPasses.{round-proper}
@@ -47,7 +47,7 @@ module _ (n : ℕ) (l : List ℤ) (ss ms : List ℕ) (h : Holds n ss ms) (st : S
       → p ≡ passedOf (round (tableOf n ss ms) l st)
   unfolding round passed f sumsOf
   passed-is s x p e z g = g ∙ ap₂ (λ v w. passedBy es w (pass unit (at v) (checksFrom ss ms) (st .offsets))) (e ∙ spins-are) z ∙ ap (passedBy es (zeros n)) steps-are
-      ∙ ap (λ w. passedTo (copiesIn ts) (offsetsIn ts) w (multipliersOf (entriesIn ts)) (masksOf (entriesIn ts))) (scatter-sums n es (minus (copiesIn ts) (offsetsIn ts)))
+      ∙ ap (λ w. passedTo (copiesIn ts) (offsetsIn ts) w (multipliersOf (entriesIn ts)) (masksOf (entriesIn ts)) (depthsIn ts)) (scatter-sums n es (minus (copiesIn ts) (offsetsIn ts)))
     where
       es : List ℕ
       es = edges (checksFrom ss ms)

@@ -1,4 +1,4 @@
--- One check's step as the code takes it: from the mask of the cut to the multiplier, and to what the step leaves. Assumes nothing.
+-- One check's step as the code takes it: from mask and depth of the cut to the multiplier, and to what the step leaves. Assumes nothing.
 use mathlib.Core.Path.{_≡_, refl, sym, _∙_, ap, ap₂, subst}
 use mathlib.Core.List.{List, _++_}
 use mathlib.Core.Option.{some, none}
@@ -12,19 +12,20 @@ use Rattle.rules.specs.Limits.{unit, offsetLimit, stepLimit, valueLimit, maxDeg
 use Rattle.rules.specs.Table.{at}
 use Rattle.rules.specs.Sound.{Below}
 use Rattle.rules.specs.Mask.{setOf}
-use Rattle.rules.specs.Cut.{cut}
+use Rattle.rules.specs.Cut.{cut, depth}
 use Rattle.rules.specs.Buffers.{over, multiplierOf}
 use Rattle.rules.specs.Step.{clips, multiplier, minus, stepBy, step}
 use Rattle.rules.specs.Round.{values}
 use Rattle.rules.proofs.BufferLaws.{over-exact, take-exact, over-length}
 use Rattle.rules.proofs.Signs.{alike-length}
 use Rattle.rules.proofs.CutRule.{Cuts, cut-sound}
+use Rattle.rules.proofs.DepthLaws.{depth-cut, depth-none}
 use Rattle.rules.proofs.Multiplier.{moves-zero}
 use Rattle.rules.proofs.Optimal.{within-at}
 use Rattle.rules.proofs.Pass.{values-within}
 use Rattle.rules.proofs.Steps.{clips-alike}
 use Rattle.cut.specs.CutMask.{cutMask}
-use Rattle.cut.specs.Heights.{heightsOf, highest, sideBy, seenOn, seen}
+use Rattle.cut.specs.Heights.{heightsOf, highest, sideBy, seenTo, seenOn, seen}
 use Rattle.cut.proofs.MaskLaws.{mask-none, mask-some}
 use Rattle.cut.proofs.SeeLaws.{seen-whole}
 use Rattle.decoder.specs.Lifted.{Rising, LeastAt, MultiplierOf}
@@ -34,8 +35,8 @@ use Rattle.decoder.proofs.MultiplierLaws.{heights-length, heights-few, 
 use Rattle.decoder.proofs.PartLaws.{none-after}
 use Rattle.decoder.proofs.StepListLaws.{values-length}
 
-stepped-eq : {a a' b b' x x' : List ℤ} {c c' d d' : ℕ} → a ≡ a' → b ≡ b' → x ≡ x' → c ≡ c' → d ≡ d' → steppedTo a b x c d ≡ steppedTo a' b' x' c' d'
-stepped-eq p q x r s = λ i. steppedTo (p i) (q i) (x i) (r i) (s i)
+stepped-eq : {a a' b b' x x' : List ℤ} {c c' d d' e e' : ℕ} → a ≡ a' → b ≡ b' → x ≡ x' → c ≡ c' → d ≡ d' → e ≡ e' → steppedTo a b x c d e ≡ steppedTo a' b' x' c' d' e'
+stepped-eq p q x r s t = λ i. steppedTo (p i) (q i) (x i) (r i) (s i) (t i)
 
 -- ---- ms the members, xs the sums before, v the values, m the mask of their cut
 module _ (ms : List ℕ) (xs v : List ℤ) (m : ℕ) (e : m ≡ cutMask (cut unit (clips unit v))) where
@@ -53,33 +54,39 @@ module _ (ms : List ℕ) (xs v : List ℤ) (m : ℕ) (e : m ≡ cutMask (cut uni
   unfolding steppedOn step
   multiplier-some f = sym (ap (λ o. multiplierOf (stepBy unit v o .entry)) (some-cut f))
 
-  step-is : (b : ℕ) (z y x : List ℤ) → b ≡ steppedOn ms xs v .multiplier → Moved b m ms v xs z y x → steppedTo z y x b m ≡ steppedOn ms xs v
+  step-is : (b d : ℕ) (z y x : List ℤ) → b ≡ steppedOn ms xs v .multiplier → d ≡ depth unit (clips unit v) → Moved b m ms v xs z y x → steppedTo z y x b m d ≡ steppedOn ms xs v
   unfolding steppedOn step
-  step-is b z y x eb moved = stepped-eq (moved .copies) (moved .offsets) (moved .sums) refl refl ∙ go (ℕ-discrete m 0)
+  step-is b d z y x eb ed moved = stepped-eq (moved .copies) (moved .offsets) (moved .sums) refl refl refl ∙ go (ℕ-discrete m 0)
     where
-      -- what a multiplier and a mask leave, with what they make of the copies
-      with-copies : List ℤ → ℕ → ℕ → Stepped
-      with-copies z b k = steppedTo z (minus v z) (summed ms z (minus v z) xs) b k
+      -- what multiplier, mask and depth leave, with what they make of the copies
+      with-copies : List ℤ → ℕ → ℕ → ℕ → Stepped
+      with-copies z b k d = steppedTo z (minus v z) (summed ms z (minus v z) xs) b k d
 
       clipped : b ≡ 0 → newCopies b m v ≡ clips unit v
       clipped q = ap (λ n. newCopies n m v) q ∙ moves-zero unit (setOf (length v) m) v (set-alike v m)
 
-      go : Dec (m ≡ 0) → with-copies (newCopies b m v) b m ≡ steppedBy ms xs (stepBy unit v (cut unit (clips unit v)))
-      go (yes q) = ap₂ (λ z n. with-copies z n m) (clipped (eb ∙ sym (multiplier-none q))) (eb ∙ sym (multiplier-none q)) ∙ ap (with-copies (clips unit v) 0) q
+      go : Dec (m ≡ 0) → with-copies (newCopies b m v) b m d ≡ steppedBy ms xs (stepBy unit v (cut unit (clips unit v)))
+      go (yes q) = ap₂ (λ z n. with-copies z n m d) (clipped (eb ∙ sym (multiplier-none q))) (eb ∙ sym (multiplier-none q))
+          ∙ ap₂ (with-copies (clips unit v) 0) q (ed ∙ depth-none unit (clips unit v) (no-cut q))
           ∙ sym (ap (λ o. steppedBy ms xs (stepBy unit v o)) (no-cut q))
-      go (no f) = ap (λ n. with-copies (newCopies n m v) n m) (eb ∙ sym (multiplier-some f))
-          ∙ ap (with-copies (newCopies (multiplier unit (setOf (length v) m) v) m v) (multiplier unit (setOf (length v) m) v)) (e ∙ ap cutMask (some-cut f))
+      go (no f) = ap (λ n. with-copies (newCopies n m v) n m d) (eb ∙ sym (multiplier-some f))
+          ∙ ap₂ (with-copies (newCopies (multiplier unit (setOf (length v) m) v) m v) (multiplier unit (setOf (length v) m) v)) (e ∙ ap cutMask (some-cut f))
+          (ed ∙ depth-cut unit (clips unit v) (setOf (length v) m) (some-cut f))
           ∙ sym (ap (λ o. steppedBy ms xs (stepBy unit v o)) (some-cut f))
 
 -- ---- the heights hs that the cut search leaves of the values v in the place of z, with the greatest of them
-module _ (ms : List ℕ) (xs v z hs : List ℤ) (k m : ℕ) (top : ℤ) (few : length v ≤ maxDegree) (same : length z ≡ length v)
-    (e : (record { number = k; mask = m; top = top; heights = hs }) ≡ seen v z) where
-  whole : (record { number = k; mask = m; top = top; heights = hs }) ≡ seenOn v z
+module _ (ms : List ℕ) (xs v z hs : List ℤ) (k m d : ℕ) (top : ℤ) (few : length v ≤ maxDegree) (same : length z ≡ length v)
+    (e : seenTo k m d top hs ≡ seen v z) where
+  whole : seenTo k m d top hs ≡ seenOn v z
   whole = e ∙ sym (seen-whole v z few (omega arith))
 
   pub mask-is : m ≡ cutMask (cut unit (clips unit v))
   unfolding seenOn
   mask-is = ap (λ s. s .mask) whole
+
+  pub depth-is : d ≡ depth unit (clips unit v)
+  unfolding seenOn
+  depth-is = ap (λ s. s .depth) whole
 
   heights-long : length hs ≡ length z
   unfolding seenOn
@@ -136,25 +143,26 @@ module _ (s : List ℤ) (ms : List ℕ) (z y x l : List ℤ) (fits : StepFits s 
   same : length z ≡ length l
   same = fits .copiesLong ∙ sym long
 
-  module _ (hs : List ℤ) (k m : ℕ) (top : ℤ) (em : (record { number = k; mask = m; top = top; heights = hs }) ≡ seen l z) where
+  module _ (hs : List ℤ) (k m d : ℕ) (top : ℤ) (em : seenTo k m d top hs ≡ seen l z) where
     pub multiplier-asks : (m ≡ 0 → ⊥) → Rising hs top
-    multiplier-asks f = heights-rise ms x l z hs k m top few same em f small
+    multiplier-asks f = heights-rise ms x l z hs k m d top few same em f small
 
     module _ (b : ℕ) (least : MultiplierOf m hs b) where
       pub move-asks : MoveFits b ms hs l x
       move-asks = record {
-        bounded = multiplier-is ms x l z hs k m top few same em b small least .1;
+        bounded = multiplier-is ms x l z hs k m d top few same em b small least .1;
         few = few;
         small = small;
-        copiesLong = heights-long ms x l z hs k m top few same em ∙ same;
+        copiesLong = heights-long ms x l z hs k m d top few same em ∙ same;
         membersLong = sym long;
         below = subst (λ n. Below n ms) (sym (fits .sumsLong)) (fits .below);
         room = fits .room;
       }
 
-      pub step-left : (z' y' x' : List ℤ) → Moved b m ms l x z' y' x' → steppedTo z' y' x' b m ≡ stepped (at s) ms y x
+      pub step-left : (z' y' x' : List ℤ) → Moved b m ms l x z' y' x' → steppedTo z' y' x' b m d ≡ stepped (at s) ms y x
       unfolding stepped
-      step-left z' y' x' q = step-is ms x l m (mask-is ms x l z hs k m top few same em) b z' y' x' (multiplier-is ms x l z hs k m top few same em b small least .0) q ∙ ap (steppedOn ms x) e
+      step-left z' y' x' q = step-is ms x l m (mask-is ms x l z hs k m d top few same em) b d z' y' x' (multiplier-is ms x l z hs k m d top few same em b small least .0)
+          (depth-is ms x l z hs k m d top few same em) q ∙ ap (steppedOn ms x) e
 
 -- ---- a check of degree n, by its first n places
 module _ (n : ℕ) (s : List ℤ) (ms : List ℕ) (z y x : List ℤ) (e : length ms ≡ n) (f : StepFits s ms z y x) where
@@ -171,7 +179,7 @@ module _ (n : ℕ) (s : List ℤ) (ms : List ℕ) (z y x : List ℤ) (e : length
   part-asks = subst (λ l. StepFits s l (take n z) (take n y) x) (sym all-members)
       (subst (λ l. StepFits s ms l (take n y) x) (sym all-copies) (subst (λ l. StepFits s ms z l x) (sym all-offsets) f))
 
-  pub part-left : (z' y' x' : List ℤ) (b m : ℕ) → steppedTo z' y' x' b m ≡ stepped (at s) (take n ms) (take n y) x
-      → steppedTo (z' ++ drop n z) (y' ++ drop n y) x' b m ≡ stepped (at s) ms y x
-  part-left z' y' x' b m h = stepped-eq (none-after n z' z (f .copiesLong ∙ e)) (none-after n y' y (f .offsetsLong ∙ e)) refl refl refl ∙ h
+  pub part-left : (z' y' x' : List ℤ) (b m d : ℕ) → steppedTo z' y' x' b m d ≡ stepped (at s) (take n ms) (take n y) x
+      → steppedTo (z' ++ drop n z) (y' ++ drop n y) x' b m d ≡ stepped (at s) ms y x
+  part-left z' y' x' b m d h = stepped-eq (none-after n z' z (f .copiesLong ∙ e)) (none-after n y' y (f .offsetsLong ∙ e)) refl refl refl refl ∙ h
       ∙ ap₂ (λ l o. stepped (at s) l o x) all-members all-offsets

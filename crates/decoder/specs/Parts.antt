@@ -21,17 +21,19 @@ placed j a e s p = record {
   sums = s .sums;
   multipliers = set (p .multipliers) j (s .multiplier);
   masks = set (p .masks) j (s .mask);
+  depths = set (p .depths) j (s .depth);
 }
 
 -- check j, whose edges are those from a to e, f the spins and ms the members of all checks
 unfoldable pub onePassed : (ℕ → ℤ) → List ℕ → ℕ → ℕ → ℕ → Passed → Passed
 onePassed f ms j a e p = placed j a e (stepped f (part a e ms) (part a e (p .offsets)) (p .sums)) p
 
-pub record OneFits (j a e : ℕ) (s : List ℤ) (ms : List ℕ) (z y x : List ℤ) (bs ks : List ℕ) : Type 0 where
+pub record OneFits (j a e : ℕ) (s : List ℤ) (ms : List ℕ) (z y x : List ℤ) (bs ks ds : List ℕ) : Type 0 where
   pub ordered : a ≤ e
   pub membersEnd : e ≤ length ms
   pub copiesEnd : e ≤ length z
   pub offsetsEnd : e ≤ length y
   pub multiplierThere : j < length bs
   pub maskThere : j < length ks
+  pub depthThere : j < length ds
   pub step : StepFits s (part a e ms) (part a e z) (part a e y) x

@@ -19,17 +19,18 @@ pub record Stepped : Type 0 where
   pub sums : List ℤ
   pub multiplier : ℕ
   pub mask : ℕ
+  pub depth : ℕ
 
--- the check's copies and offsets, all bits' sums, the check's multiplier and its mask
-abbrev pub steppedTo : List ℤ → List ℤ → List ℤ → ℕ → ℕ → Stepped
-steppedTo z y x b m = record { copies = z; offsets = y; sums = x; multiplier = b; mask = m }
+-- the check's copies and offsets, all bits' sums, the check's multiplier, its mask and its depth
+abbrev pub steppedTo : List ℤ → List ℤ → List ℤ → ℕ → ℕ → ℕ → Stepped
+steppedTo z y x b m d = record { copies = z; offsets = y; sums = x; multiplier = b; mask = m; depth = d }
 
 -- the sums xs with z − y added at each of the members ms
 abbrev pub summed : List ℕ → List ℤ → List ℤ → List ℤ → List ℤ
 summed ms z y xs = scatter ms (minus z y) xs
 
 abbrev pub steppedBy : List ℕ → List ℤ → Step → Stepped
-steppedBy ms xs s = steppedTo (s .copies) (s .offsets) (summed ms (s .copies) (s .offsets) xs) (multiplierOf (s .entry)) (maskIn (s .entry))
+steppedBy ms xs s = steppedTo (s .copies) (s .offsets) (summed ms (s .copies) (s .offsets) xs) (multiplierOf (s .entry)) (maskIn (s .entry)) (s .depth)
 
 -- a check with the members ms and the values vs
 unfoldable pub steppedOn : List ℕ → List ℤ → List ℤ → Stepped

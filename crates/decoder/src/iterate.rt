@@ -35,10 +35,11 @@ pub(crate) fn run_rounds(
     sums: &mut [i32],
     multipliers: &mut [u32],
     masks: &mut [u32],
+    depths: &mut [u32],
 ) -> Record
     requires { ⌜ Given (length (now frame)) (now frame) (now starts) (now members) (now degrees) ⌝ }
-    requires { ⌜ Ready (now frame) (now starts) (now members) (loopIn run (now spins) (now copies) (now offsets) (now sums) (now multipliers) (now masks)) ⌝ }
-    ensures { λ r. ⌜ LoopBecomes (roundsFrom wanted (now (frame .entry)) (now (starts .entry)) (now (members .entry))) run r spins copies offsets sums multipliers masks ⌝ }
+    requires { ⌜ Ready (now frame) (now starts) (now members) (loopIn run (now spins) (now copies) (now offsets) (now sums) (now multipliers) (now masks) (now depths)) ⌝ }
+    ensures { λ r. ⌜ LoopBecomes (roundsFrom wanted (now (frame .entry)) (now (starts .entry)) (now (members .entry))) run r spins copies offsets sums multipliers masks depths ⌝ }
 {
     let mut at = run;
     let mut k = wanted;
@@ -55,6 +56,7 @@ pub(crate) fn run_rounds(
             sums,
             multipliers,
             masks,
+            depths,
         );
         let status = at.status;
         k = left(status, k);

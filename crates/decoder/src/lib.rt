@@ -50,10 +50,11 @@ pub fn rounds(
     sums: &mut [i32],
     multipliers: &mut [u32],
     masks: &mut [u32],
+    depths: &mut [u32],
     word: &mut [u8],
     certificate: &mut [u8],
 ) -> Called
-    ensures { λ r. ⌜ CallBecomes (rule.call (now (code .entry)) (now (frame .entry)) wanted) run r (slices spins copies offsets sums multipliers masks word certificate) ⌝ }
+    ensures { λ r. ⌜ CallBecomes (rule.call (now (code .entry)) (now (frame .entry)) wanted) run r (slices spins copies offsets sums multipliers masks depths word certificate) ⌝ }
 {
     let mut starts = [0u16; MAX_CHECKS + 1];
     let mut members = [0u16; MAX_EDGES];
@@ -61,6 +62,7 @@ pub fn rounds(
         spins: spins.len(),
         multipliers: multipliers.len(),
         masks: masks.len(),
+        depths: depths.len(),
         word: word.len(),
         certificate: certificate.len(),
     };
@@ -101,6 +103,7 @@ pub fn rounds(
                 sums,
                 multipliers,
                 masks,
+                depths,
                 word,
                 certificate,
             );

@@ -1,5 +1,6 @@
 // The least multiplier of a cut, found from above on the heights that the cut search leaves. With F the
 // sum of the lifted heights above 0 and k their number, b falls by (F - 2U) / k until that is 0.
+use limits::RIGHT_SIDE;
 use limits::UNIT;
 ghost use mathlib.Core.Path.{_≡_};
 ghost use Prim.Native.Nat.{_-_, _/_, _≤_};
@@ -9,9 +10,6 @@ ghost use Rattle.integers.specs.Linear.{_⩽_};
 ghost use Rattle.integers.specs.Sum.{AllWithin};
 ghost use Rattle.rules.specs.Limits.{maxDegree, stepLimit};
 ghost use Rattle.decoder.specs.Lifted.{packed, sumAt, countAt, sumZ, AllUpTo, Rising, LeastAt, reach};
-
-// "At least 2U."
-const REACH: u32 = 2 * UNIT as u32;
 
 // The sum of the heights above 0, and their number.
 pub struct Slope {
@@ -59,7 +57,7 @@ fn fall(heights: &[i32], b: u32) -> u32
     let slope = slope_at(heights, b);
     let sum = slope.sum;
     let count = slope.count;
-    (sum - REACH) / count
+    (sum - RIGHT_SIDE) / count
 }
 
 fn sum_of(heights: &[i32]) -> i32

@@ -20,9 +20,10 @@ fn pass_one(
     sums: &mut [i32],
     multipliers: &mut [u32],
     masks: &mut [u32],
+    depths: &mut [u32],
 )
-    requires { ⌜ OneFits j a e (now spins) (now members) (now copies) (now offsets) (now sums) (now multipliers) (now masks) ⌝ }
-    ensures { λ _. ⌜ PassBecomes (onePassed (at (now (spins .entry))) (now (members .entry)) j a e) copies offsets sums multipliers masks ⌝ }
+    requires { ⌜ OneFits j a e (now spins) (now members) (now copies) (now offsets) (now sums) (now multipliers) (now masks) (now depths) ⌝ }
+    ensures { λ _. ⌜ PassBecomes (onePassed (at (now (spins .entry))) (now (members .entry)) j a e) copies offsets sums multipliers masks depths ⌝ }
 {
     let entry = step(
         spins,
@@ -33,6 +34,7 @@ fn pass_one(
     );
     store(multipliers, j, entry.multiplier);
     store(masks, j, entry.mask);
+    store(depths, j, entry.depth);
 }
 
 // All checks, as a loaded table has them: steps 2 and 3 of a round. Each check's edges begin where
@@ -46,10 +48,11 @@ pub(crate) fn pass(
     sums: &mut [i32],
     multipliers: &mut [u32],
     masks: &mut [u32],
+    depths: &mut [u32],
 )
-    requires { ⌜ PassFits (length (now spins)) (now starts) (now members) (now spins) (now copies) (now offsets) (now sums) (now multipliers) (now masks) ⌝ }
+    requires { ⌜ PassFits (length (now spins)) (now starts) (now members) (now spins) (now copies) (now offsets) (now sums) (now multipliers) (now masks) (now depths) ⌝ }
     ensures { λ _. ⌜ PassBecomes (λ p. passed (at (now (spins .entry))) (checksFrom (now (starts .entry)) (now (members .entry))) (p .offsets) (p .sums))
-        copies offsets sums multipliers masks ⌝ }
+        copies offsets sums multipliers masks depths ⌝ }
 {
     let mut j: usize = 0;
     let mut a: usize = 0;
@@ -66,6 +69,7 @@ pub(crate) fn pass(
             sums,
             multipliers,
             masks,
+            depths,
         );
         a = e;
         j += 1;

@@ -67,13 +67,14 @@ pub(crate) fn perform(
     sums: &mut [i32],
     multipliers: &mut [u32],
     masks: &mut [u32],
+    depths: &mut [u32],
     word: &mut [u8],
     certificate: &mut [u8],
 ) -> Record
     requires { ⌜ PartsFit n m e (now frame) (now starts) (now members)
-        (runIn run (lent (now spins) (now copies) (now offsets) (now sums) (now multipliers) (now masks) (now word) (now certificate))) ⌝ }
+        (runIn run (lent (now spins) (now copies) (now offsets) (now sums) (now multipliers) (now masks) (now depths) (now word) (now certificate))) ⌝ }
     ensures { λ r. ⌜ RunBecomes (iterate (frontTable n m e (now (starts .entry)) (now (members .entry))) (now (frame .entry)) wanted)
-        run r (slices spins copies offsets sums multipliers masks word certificate) ⌝ }
+        run r (slices spins copies offsets sums multipliers masks depths word certificate) ⌝ }
 {
     let end = m + 1;
     let degrees = count_degrees(&members[..e]);
@@ -90,6 +91,7 @@ pub(crate) fn perform(
         &mut sums[..n],
         &mut multipliers[..m],
         &mut masks[..m],
+        &mut depths[..m],
     );
     let status = after.status;
     finish(

@@ -46,10 +46,11 @@ pub(crate) fn do_round(
     sums: &mut [i32],
     multipliers: &mut [u32],
     masks: &mut [u32],
+    depths: &mut [u32],
 ) -> Record
     requires { ⌜ Given (length (now frame)) (now frame) (now starts) (now members) (now degrees) ⌝ }
-    requires { ⌜ Ready (now frame) (now starts) (now members) (loopIn run (now spins) (now copies) (now offsets) (now sums) (now multipliers) (now masks)) ⌝ }
-    ensures { λ r. ⌜ LoopBecomes (roundsFrom 1 (now (frame .entry)) (now (starts .entry)) (now (members .entry))) run r spins copies offsets sums multipliers masks ⌝ }
+    requires { ⌜ Ready (now frame) (now starts) (now members) (loopIn run (now spins) (now copies) (now offsets) (now sums) (now multipliers) (now masks) (now depths)) ⌝ }
+    ensures { λ r. ⌜ LoopBecomes (roundsFrom 1 (now (frame .entry)) (now (starts .entry)) (now (members .entry))) run r spins copies offsets sums multipliers masks depths ⌝ }
 {
     find_spins(frame, degrees, sums, spins);
     pass(
@@ -61,6 +62,7 @@ pub(crate) fn do_round(
         sums,
         multipliers,
         masks,
+        depths,
     );
     let what = find_word(frame, starts, members, spins, multipliers, masks);
     record_after(run, what)

@@ -21,10 +21,11 @@ ghost use Rattle.rules.specs.Round.{values};
 ghost use Rattle.decoder.specs.Lifted.{Rising, MultiplierOf};
 ghost use Rattle.decoder.specs.Stepped.{steppedTo, stepped, StepFits, MoveFits, Moved};
 
-// What a check adds to the round's multipliers and masks: 0 and 0 without a cut.
+// What a check adds to the round's multipliers, masks and depths: zeros without a cut.
 pub struct Entry {
     pub multiplier: u32,
     pub mask: u32,
+    pub depth: u32,
 }
 
 // "v = spin + y"
@@ -113,7 +114,7 @@ fn step_of(
     sums: &mut [i32],
 ) -> Entry
     requires { ⌜ StepFits (now spins) (now members) (now copies) (now offsets) (now sums) ⌝ }
-    ensures { λ r. ⌜ steppedTo (now (copies .exit)) (now (offsets .exit)) (now (sums .exit)) (r .multiplier) (r .mask)
+    ensures { λ r. ⌜ steppedTo (now (copies .exit)) (now (offsets .exit)) (now (sums .exit)) (r .multiplier) (r .mask) (r .depth)
         ≡ stepped (at (now (spins .entry))) (now (members .entry)) (now (offsets .entry)) (now (sums .entry)) ⌝ }
 {
     add_spins(spins, members, offsets);
@@ -124,6 +125,7 @@ fn step_of(
     Entry {
         multiplier: b,
         mask,
+        depth: found.depth,
     }
 }
 
@@ -136,7 +138,7 @@ pub(crate) fn step(
     sums: &mut [i32],
 ) -> Entry
     requires { ⌜ StepFits (now spins) (now members) (now copies) (now offsets) (now sums) ⌝ }
-    ensures { λ r. ⌜ steppedTo (now (copies .exit)) (now (offsets .exit)) (now (sums .exit)) (r .multiplier) (r .mask)
+    ensures { λ r. ⌜ steppedTo (now (copies .exit)) (now (offsets .exit)) (now (sums .exit)) (r .multiplier) (r .mask) (r .depth)
         ≡ stepped (at (now (spins .entry))) (now (members .entry)) (now (offsets .entry)) (now (sums .entry)) ⌝ }
 {
     if members.len() == DEGREE_6 {

@@ -1,12 +1,12 @@
 -- The order of ℤ: total, kept by sums, turned round by negation. Each law is one line of `lin`: cite none of them inside a linear proof, which proves it anew. Assumes nothing.
-use mathlib.Core.Path.{_≡_}
+use mathlib.Core.Path.{_≡_, refl}
 use mathlib.Core.Bool.{true, false}
 use mathlib.Core.Logic.{_⊎_, inl, inr}
 use Prim.Native.Nat.{ℕ, _≤_, _<_, _+_}
 use native.Mathlib.Decide.{decLe}
 use native.Mathlib.Omega.{arith}
 use native.Mathlib.Nat.{lt-of-not-le}
-use lib.IntN.{ℤ, pos, negℤ, _+ℤ_, _-ℤ_}
+use lib.IntN.{ℤ, pos, negsuc, negℤ, _+ℤ_, _-ℤ_}
 use lib.Signed.{_≤ℤ_, _<ℤ_, ltZ, leZ}
 use Rattle.integers.specs.Linear.{lin, arithZ, _⩽_, Within, up, dn, le-in, le-out, lt-in, eq-in}
 
@@ -33,6 +33,16 @@ le-total a b = go (le-or-lt a b)
     go (inl h) = inl h
     go (inr h) = inr (weaken a b h)
 
+-- ---- what is above 0
+pub up-none : (z : ℤ) → z ⩽ pos 0 → up z ≡ 0
+up-none (pos n) h = omega (arith, le-out h)
+up-none (negsuc n) h = refl
+
+pub up-mono : (a b : ℤ) → a ⩽ b → up a ≤ up b
+up-mono (pos m) b h = omega (arith, le-out h)
+up-mono (negsuc m) b h = omega arith
+
+-- ---- sums
 pub add-mono : (a b c d : ℤ) → a ⩽ b → c ⩽ d → a +ℤ c ⩽ b +ℤ d
 add-mono a b c d = simp lin (omega arithZ)
 

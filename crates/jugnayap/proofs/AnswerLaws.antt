@@ -1,4 +1,4 @@
--- Answers as the numbers of the C interface: a mask or none, and sizes, which fit them. Assumes nothing.
+-- Answers as the numbers of the C interface: a mask and its depth or none, and sizes, which fit them. Assumes nothing.
 use mathlib.Core.Path.{_≡_, refl, sym, _∙_, ap}
 use mathlib.Core.Bool.{Bool, true, false, cond}
 use mathlib.Core.List.{List, [], _∷_}
@@ -17,20 +17,20 @@ use Rattle.rules.specs.Bound.{Row, gap}
 use Rattle.rules.specs.Certificate.{scaleOf, itemsOf, rowsAt}
 use Rattle.rules.specs.Judge.{breaks, passes, misses, weigh, verdict, judge}
 use Rattle.rules.specs.Round.{isZero}
-use Rattle.rules.specs.Cut.{cutSearch, maskAnswer, cutAnswer, cutValues, cutReply}
+use Rattle.rules.specs.Cut.{Violation, cutSearch, maskAnswer, cutAnswer, cutValues, cutReply}
 use Rattle.rules.proofs.Tables.{file-sound}
 use Rattle.rules.proofs.Judged.{judged}
 use Rattle.table.proofs.AcceptedLaws.{readable}
 use Rattle.jugnayap.specs.Numbers.{cutFrom, maskFrom}
 
--- ---- a mask, or none
-cut-from : (a : Answer (Option (List Bool))) → maskFrom (maskAnswer a) ≡ cutFrom (replyOf cutValues a)
+-- ---- a mask and its depth, or none
+cut-from : (a : Answer (Option (Violation (List Bool)))) → maskFrom (maskAnswer a) ≡ cutFrom (replyOf cutValues a)
 unfolding replyOf
 cut-from (refused k) = refl
 cut-from (gives none) = refl
-cut-from (gives (some vs)) = refl
+cut-from (gives (some v)) = refl
 
-pub cut-numbers : (file : List ℕ) (s : List ℤ) (j : ℕ) (a : Answer (Option ℕ)) → a ≡ cutAnswer file s j → maskFrom a ≡ cutFrom (cutReply file s j)
+pub cut-numbers : (file : List ℕ) (s : List ℤ) (j : ℕ) (a : Answer (Option (Violation ℕ))) → a ≡ cutAnswer file s j → maskFrom a ≡ cutFrom (cutReply file s j)
 unfolding cutAnswer cutReply
 cut-numbers file s j a e = ap maskFrom e ∙ cut-from (cutSearch file s j)
 

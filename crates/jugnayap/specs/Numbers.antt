@@ -7,6 +7,7 @@ use lib.ListN.{getD}
 use lib.IntN.{ℤ, pos, natAbs}
 use Rattle.rules.specs.Limits.{roundLimit}
 use Rattle.rules.specs.Refusal.{Answer, refused, gives, Reply, replyOf}
+use Rattle.rules.specs.Cut.{Violation}
 use denote.Triple.Both.{Both}
 use Rattle.rules.specs.Buffers.{Buffers, startLent}
 use Rattle.rules.specs.Run.{Status, running, certified, spent, statusNumber, statusValues, Progress, progressValues, Run, Called, call, Started, start}
@@ -18,12 +19,12 @@ use Rattle.jugnayap.specs.declared.JugnayapAgreement.{JugnayapAgreement}
 use Rattle.jugnayap.specs.declared.JugnayapRun.{JugnayapRun}
 use Rattle.jugnayap.specs.declared.JugnayapCalled.{JugnayapCalled}
 
--- ---- the version, 0.2.0, as one number that grows with it
+-- ---- the version, 0.3.0, as one number that grows with it
 abbrev pub versionNumber : ℕ → ℕ → ℕ → ℕ
 versionNumber major minor patch = major * 10000 + minor * 100 + patch
 
 abbrev pub version : ℕ
-version = versionNumber 0 2 0
+version = versionNumber 0 3 0
 
 -- ---- a reply as a struct: its number, then its values in their order, 0 where there is none
 abbrev pub signed : Reply → ℕ → ℤ
@@ -37,13 +38,13 @@ abbrev pub tableFrom : Reply → JugnayapTable
 tableFrom r = record { number = r .number; bits = unsigned r 0; checks = unsigned r 1; edges = unsigned r 2 }
 
 abbrev pub cutFrom : Reply → JugnayapCut
-cutFrom r = record { number = r .number; mask = unsigned r 0 }
+cutFrom r = record { number = r .number; mask = unsigned r 0; depth = unsigned r 1 }
 
--- the same of a mask, or none
-abbrev pub maskFrom : Answer (Option ℕ) → JugnayapCut
-maskFrom (refused k) = record { number = k; mask = 0 }
-maskFrom (gives none) = record { number = 0; mask = 0 }
-maskFrom (gives (some m)) = record { number = 0; mask = m }
+-- the same of a mask and its depth, or none
+abbrev pub maskFrom : Answer (Option (Violation ℕ)) → JugnayapCut
+maskFrom (refused k) = record { number = k; mask = 0; depth = 0 }
+maskFrom (gives none) = record { number = 0; mask = 0; depth = 0 }
+maskFrom (gives (some v)) = record { number = 0; mask = v .set; depth = v .depth }
 
 abbrev pub verdictFrom : Reply → JugnayapVerdict
 verdictFrom r = record { number = r .number; kind = unsigned r 0; value = signed r 1 }

@@ -26,11 +26,12 @@ pub struct JugnayapTable {
     pub edges: u32,
 }
 
-// `mask` is 0 for no cut.
+// `mask` and `depth` are 0 for no cut.
 #[repr(C)]
 pub struct JugnayapCut {
     pub number: u32,
     pub mask: u32,
+    pub depth: u32,
 }
 
 // `kind` 0: `value` is the first broken check; 1: certified; 2: `value` is the gap.
@@ -60,8 +61,8 @@ pub struct JugnayapCalled {
     pub run: JugnayapRun,
 }
 
-// 0.2.0, as JUGNAYAP_VERSION counts it.
-const VERSION: u32 = 200;
+// 0.3.0, as JUGNAYAP_VERSION counts it.
+const VERSION: u32 = 300;
 
 #[no_mangle]
 pub extern "C" fn jugnayap_version() -> u32
@@ -104,9 +105,18 @@ pub extern "C" fn jugnayap_search_cut(code: &[u8], spins: &[i32], check: usize) 
         Found::Refused(k) => JugnayapCut {
             number: k as u32,
             mask: 0,
+            depth: 0,
         },
-        Found::Nothing => JugnayapCut { number: 0, mask: 0 },
-        Found::Mask(mask) => JugnayapCut { number: 0, mask },
+        Found::Nothing => JugnayapCut {
+            number: 0,
+            mask: 0,
+            depth: 0,
+        },
+        Found::Violated { mask, depth } => JugnayapCut {
+            number: 0,
+            mask,
+            depth,
+        },
     }
 }
 
@@ -185,10 +195,11 @@ pub extern "C" fn jugnayap_rounds(
     sums: &mut [i32],
     multipliers: &mut [u32],
     masks: &mut [u32],
+    depths: &mut [u32],
     word: &mut [u8],
     certificate: &mut [u8],
 ) -> JugnayapCalled
-    ensures { λ r. ⌜ NumbersBecome (callNumbers (now (code .entry)) (now (frame .entry)) wanted run) r (slices spins copies offsets sums multipliers masks word certificate) ⌝ }
+    ensures { λ r. ⌜ NumbersBecome (callNumbers (now (code .entry)) (now (frame .entry)) wanted run) r (slices spins copies offsets sums multipliers masks depths word certificate) ⌝ }
 {
     let handed = record_of(run);
     let called = decoder::rounds(
@@ -202,6 +213,7 @@ pub extern "C" fn jugnayap_rounds(
         sums,
         multipliers,
         masks,
+        depths,
         word,
         certificate,
     );

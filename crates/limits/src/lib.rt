@@ -5,6 +5,9 @@ pub mod refusals;
 // U: spin +U is bit 0, spin −U is bit 1
 pub const UNIT: i32 = 4096;
 
+// 2U, which a parity inequality asks of its left side
+pub const RIGHT_SIDE: u32 = 2 * UNIT as u32;
+
 // "n and m are 1 to 2,048", a count (degree) at most 32, "E at most 8,192, and each bit stands in 1 to
 // 32 checks"
 pub const MAX_BITS: usize = 2048;

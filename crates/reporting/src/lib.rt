@@ -53,6 +53,7 @@ fn decode(code: &[u8], frame: &[i16], word: &mut [u8], certificate: &mut [u8]) -
     let mut sums = [0i32; MAX_BITS];
     let mut multipliers = [0u32; MAX_CHECKS];
     let mut masks = [0u32; MAX_CHECKS];
+    let mut depths = [0u32; MAX_CHECKS];
     let started = run::start(code, &mut copies, &mut offsets, &mut sums);
     match started {
         Started::Refused(k) => Called {
@@ -70,6 +71,7 @@ fn decode(code: &[u8], frame: &[i16], word: &mut [u8], certificate: &mut [u8]) -
             &mut sums,
             &mut multipliers,
             &mut masks,
+            &mut depths,
             word,
             certificate,
         ),

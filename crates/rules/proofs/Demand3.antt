@@ -56,6 +56,7 @@ places-twin t c l (x ∷ xs) r q k h = (place, places-twin t c l xs (callFor t l
       answer = s .answer;
       rounds = ap (λ p. p .rounds) (s .run .progress);
       multipliers = s .run .multipliers;
+      depths = s .run .depths;
       word = λ w e p. let z = s .run .words (says-status t l x r e) in z .there ∙ ap (λ v. bytesOf (plus c v)) (bytes-inj (z .word) w (sym (z .here) ∙ p));
     }
 

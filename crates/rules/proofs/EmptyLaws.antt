@@ -3,7 +3,7 @@
 use mathlib.Core.Path.{_≡_, refl, sym, _∙_, ap, ap₂, subst}
 use mathlib.Core.Bool.{Bool, true, false, not, _&&_, false≢true}
 use mathlib.Core.Logic.{_↔_}
-use mathlib.Core.List.{List, [], _∷_, _++_}
+use mathlib.Core.List.{List, [], _∷_, _++_, map}
 use mathlib.Core.Option.{Option, some, none}
 use Prim.Native.Nat.{ℕ, suc, _≤_}
 use native.Mathlib.Omega.{arith}
@@ -74,8 +74,8 @@ point-filled⇔ t d p = (
   λ h. record { positive = h .positive; size = h .size; box = h .box; keeps = filled-keeps d (at p) (t .checks) (h .keeps) },
 )
 
--- ---- "gets multiplier 0 and mask 0": its step is without an entry and changes nothing
-pub empty-step : (u : ℕ) (f : ℕ → ℤ) (ys : List ℤ) → step u (values f [] ys) ≡ record { copies = []; offsets = []; entry = inactive }
+-- ---- "gets multiplier 0 and mask 0", and depth 0: its step is without an entry and changes nothing
+pub empty-step : (u : ℕ) (f : ℕ → ℤ) (ys : List ℤ) → step u (values f [] ys) ≡ record { copies = []; offsets = []; entry = inactive; depth = 0 }
 unfolding step cut
 empty-step u f ys = refl
 
@@ -103,10 +103,11 @@ module _ (u : ℕ) (f : ℕ → ℤ) where
   state-filled ([] ∷ cs) ys = state-filled cs ys
   state-filled ((m ∷ ms) ∷ cs) ys = ap (inFront (step u (values f (m ∷ ms) ys))) (state-filled cs (drop (suc (length ms)) ys))
 
-  entries-filled : (cs : List (List ℕ)) (ys : List ℤ) → entriesIn (pass u f (filled cs) ys) ≡ atFilled cs (entriesIn (pass u f cs ys))
-  entries-filled [] ys = refl
-  entries-filled ([] ∷ cs) ys = entries-filled cs ys
-  entries-filled ((m ∷ ms) ∷ cs) ys = ap (λ l. step u (values f (m ∷ ms) ys) .entry ∷ l) (entries-filled cs (drop (suc (length ms)) ys))
+  -- of one thing per step
+  each-filled : {A : Type 0} (g : Step → A) (cs : List (List ℕ)) (ys : List ℤ) → map g (pass u f (filled cs) ys) ≡ atFilled cs (map g (pass u f cs ys))
+  each-filled g [] ys = refl
+  each-filled g ([] ∷ cs) ys = each-filled g cs ys
+  each-filled g ((m ∷ ms) ∷ cs) ys = ap (λ l. g (step u (values f (m ∷ ms) ys)) ∷ l) (each-filled g cs (drop (suc (length ms)) ys))
 
   rows-filled : (cs : List (List ℕ)) (ys : List ℤ) → rowsOf (filled cs) (entriesIn (pass u f (filled cs) ys)) ≡ rowsOf cs (entriesIn (pass u f cs ys))
   unfolding step cut
@@ -125,7 +126,8 @@ round-filled t l s = subst (λ es. SameRound t (round t l s) (by es)) (sym (edge
   spins = refl;
   state = state-filled unit f (t .checks) (s .offsets);
   sums = ap₂ (sumsOf (t .bits)) (edges-filled (t .checks)) (state-filled unit f (t .checks) (s .offsets));
-  entries = entries-filled unit f (t .checks) (s .offsets);
+  entries = each-filled unit f _ (t .checks) (s .offsets);
+  depths = each-filled unit f _ (t .checks) (s .offsets);
   word = ap (λ rs. certify (withoutEmpty t) l rs (candidate (t .bits) f)) (rows-filled unit f (t .checks) (s .offsets))
       ∙ certify-filled t l (rowsOf (t .checks) (entriesIn (stepsIn t l s))) (candidate (t .bits) f);
 })

@@ -173,6 +173,7 @@ started-twin file t c a b f g = record {
       ∙ ap (turnState c (t .checks)) (sym (started-state file t a f));
   sums = started-sums file t b g ∙ zeros-turn c (t .bits) ∙ ap (turns c) (sym (started-sums file t a f));
   multipliers = λ h. absurd (omega arith);
+  depths = λ h. absurd (omega arith);
   words = λ e. absurd (running≢certified e);
 }
 

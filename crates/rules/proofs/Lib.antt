@@ -5,6 +5,7 @@ pub mod DividedLaws
 pub mod Signs
 pub mod CutMethod
 pub mod CutRule
+pub mod DepthLaws
 pub mod Search
 pub mod Multiplier
 pub mod Steps

@@ -1,10 +1,12 @@
 -- The pass over all checks: each check's step is as long as the check. Assumes nothing.
 use mathlib.Core.Path.{_≡_, refl, sym, _∙_, ap, ap₂}
 use mathlib.Core.Bool.{true}
+use mathlib.Core.Logic.{_↔_}
 use mathlib.Core.List.{List, [], _∷_, _++_}
-use Prim.Native.Nat.{ℕ, zero, suc, _+_, _^_, _≤_}
+use Prim.Native.Nat.{ℕ, zero, suc, _+_, _*_, _^_, _≤_}
+use native.Mathlib.Omega.{arith}
 use native.Mathlib.Nat.{le-add-right}
-use lib.ListN.{length, take, drop, length-append}
+use lib.ListN.{length, getD, take, drop, length-append, length-map}
 use lib.IntN.{ℤ}
 use Rattle.integers.specs.Linear.{Within}
 use Rattle.integers.specs.Order.{within-wider, within-add}
@@ -12,12 +14,13 @@ use Rattle.integers.specs.Sum.{AllWithin}
 use Rattle.rules.specs.Limits.{unit}
 use Rattle.rules.specs.Table.{Table, edges}
 use Rattle.rules.specs.Parity.{odd, Alike}
+use Rattle.rules.specs.Cut.{cut, depth}
 use Rattle.rules.specs.Step.{Entry, inactive, active, Step, step}
 use Rattle.rules.specs.Bound.{Row, rowsOf}
-use Rattle.rules.specs.Round.{State, spin, values, pass, copiesIn, offsetsIn, entriesIn}
+use Rattle.rules.specs.Round.{State, spin, values, pass, copiesIn, offsetsIn, entriesIn, depthsIn, round}
 use Rattle.rules.specs.Buffers.{multiplierOf}
 use Rattle.rules.proofs.Signs.{alike-sym, alike-trans, alike-length}
-use Rattle.rules.proofs.Steps.{Proper, Shape, step-shape}
+use Rattle.rules.proofs.Steps.{Proper, Shape, step-shape, valuesAfter, depth-again, cutIn, set-again, step-depth-most, step-inactive⇔}
 
 pub state-eq : {a b y z : List ℤ} → a ≡ b → y ≡ z → _≡_ {A = State} (record { copies = a; offsets = y }) (record { copies = b; offsets = z })
 state-eq p q = λ i. record { copies = p i; offsets = q i }
@@ -70,11 +73,17 @@ pub steps-laid : (t : Table) (l : List ℤ) (s : State) → AllLaid unit (t .che
 steps-laid t l s = pass-laid unit (spinsIn t l s) (t .checks) (s .offsets)
 
 -- ---- lengths
+steps-length : (u : ℕ) (cs : List (List ℕ)) (ss : List Step) → AllLaid u cs ss → length ss ≡ length cs
+steps-length u [] [] h = refl
+steps-length u [] (s ∷ ss) h = absurd h
+steps-length u (ms ∷ cs) [] h = absurd h
+steps-length u (ms ∷ cs) (s ∷ ss) h = ap suc (steps-length u cs ss (h .1))
+
 pub entries-length : (u : ℕ) (cs : List (List ℕ)) (ss : List Step) → AllLaid u cs ss → length (entriesIn ss) ≡ length cs
-entries-length u [] [] h = refl
-entries-length u [] (s ∷ ss) h = absurd h
-entries-length u (ms ∷ cs) [] h = absurd h
-entries-length u (ms ∷ cs) (s ∷ ss) h = ap suc (entries-length u cs ss (h .1))
+entries-length u cs ss h = length-map ss _ ∙ steps-length u cs ss h
+
+pub depths-length : (u : ℕ) (cs : List (List ℕ)) (ss : List Step) → AllLaid u cs ss → length (depthsIn ss) ≡ length cs
+depths-length u cs ss h = length-map ss _ ∙ steps-length u cs ss h
 
 part-length : (ms : List ℕ) (zs more : List ℤ) (es : List ℕ) → Alike ms zs → length more ≡ length es → length (zs ++ more) ≡ length (ms ++ es)
 part-length ms zs more es h e = length-append zs more ∙ ap₂ _+_ (alike-length ms zs h) e ∙ sym (length-append ms es)
@@ -153,3 +162,38 @@ module _ (u m : ℕ) (f : ℕ → ℤ) (w : (i : ℕ) → Within u (f i)) where
     step-shape u (values f ms ys) .priced (u + m) (values-within u m f ms ys w h) k,
     multipliers-within cs (drop (length ms) ys) (drop-within m (length ms) ys h) k,
   )
+
+-- ---- the depths, check by check (document 02, #101): 0 is that of a check without a cut, and none is above 2U
+module _ (u : ℕ) (f : ℕ → ℤ) where
+  depth-inactive⇔ : (cs : List (List ℕ)) (ys : List ℤ) (j : ℕ) → (getD (depthsIn (pass u f cs ys)) j 0 ≡ 0) ↔ (getD (entriesIn (pass u f cs ys)) j inactive ≡ inactive)
+  depth-inactive⇔ [] ys j = (λ _. refl, λ _. refl)
+  depth-inactive⇔ (ms ∷ cs) ys zero = step-inactive⇔ u (values f ms ys)
+  depth-inactive⇔ (ms ∷ cs) ys (suc j) = depth-inactive⇔ cs (drop (length ms) ys) j
+
+  depths-most : (cs : List (List ℕ)) (ys : List ℤ) (j : ℕ) → getD (depthsIn (pass u f cs ys)) j 0 ≤ 2 * u
+  depths-most [] ys j = omega arith
+  depths-most (ms ∷ cs) ys zero = step-depth-most u (values f ms ys)
+  depths-most (ms ∷ cs) ys (suc j) = depths-most cs (drop (length ms) ys) j
+
+-- each step's set and depth are the cut search's at what the step leaves
+abbrev pub AllAgain : ℕ → List Step → Type 0
+AllAgain u [] = Unit {0}
+AllAgain u (s ∷ ss) = (cutIn (s .entry) ≡ cut u (valuesAfter u s)) × (s .depth ≡ depth u (valuesAfter u s)) × AllAgain u ss
+
+pass-again : (u : ℕ) (f : ℕ → ℤ) (cs : List (List ℕ)) (ys : List ℤ) → AllAgain u (pass u f cs ys)
+pass-again u f [] ys = tt
+pass-again u f (ms ∷ cs) ys = (set-again u (values f ms ys), depth-again u (values f ms ys), pass-again u f cs (drop (length ms) ys))
+
+-- "Each round leaves its checks' depths, 0 for none"
+module _ (t : Table) (l : List ℤ) (s : State) where
+  pub round-depth⇔ : (j : ℕ) → (getD (round t l s .depths) j 0 ≡ 0) ↔ (getD (round t l s .entries) j inactive ≡ inactive)
+  unfolding round
+  round-depth⇔ j = depth-inactive⇔ unit (spinsIn t l s) (t .checks) (s .offsets) j
+
+  pub round-depth-most : (j : ℕ) → getD (round t l s .depths) j 0 ≤ 2 * unit
+  unfolding round
+  round-depth-most j = depths-most unit (spinsIn t l s) (t .checks) (s .offsets) j
+
+  -- copies, offsets, entries and depths of a round are those of its steps
+  pub round-again : AllAgain unit (stepsIn t l s)
+  round-again = pass-again unit (spinsIn t l s) (t .checks) (s .offsets)

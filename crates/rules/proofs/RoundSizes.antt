@@ -19,7 +19,7 @@ use Rattle.rules.specs.Certificate.{cutsIn, certificateOf}
 use Rattle.rules.specs.Buffers.{by-name, copies, offsets, sums, Buffers, Lengths, lengthsOf, Part, needs, partOf, multipliersOf, masksOf, bytesOf, wordLeft, certificateLeft, leaves}
 use Rattle.rules.specs.Run.{written, stateIn, sumsIn}
 use Rattle.rules.proofs.Basics.{none≢some, some-inj}
-use Rattle.rules.proofs.Pass.{state-eq, spinsIn, stepsIn, steps-laid, entries-length, copies-length, offsets-length}
+use Rattle.rules.proofs.Pass.{state-eq, spinsIn, stepsIn, steps-laid, entries-length, depths-length, copies-length, offsets-length}
 use Rattle.rules.proofs.Optimal.{keep-is}
 use Rattle.rules.proofs.Written.{cuts-few, certificate-length}
 use Rattle.rules.proofs.WrittenPasses.{bytes-length}
@@ -64,6 +64,7 @@ pub record Sized (t : Table) (d : Round) : Type 0 where
   pub sums : length (d .sums) ≡ t .bits
   pub multipliers : length (multipliersOf (d .entries)) ≡ checksOf t
   pub masks : length (masksOf (d .entries)) ≡ checksOf t
+  pub depths : length (d .depths) ≡ checksOf t
   pub word : (w : List Bool) → d .word ≡ some w → length (bytesOf w) ≡ t .bits
   pub certificate : length (certificateOf (d .entries)) ≤ certificateLength (checksOf t)
 
@@ -76,6 +77,7 @@ round-sized t l s = record {
   sums = first-length (t .bits) _;
   multipliers = multipliers-length es ∙ many;
   masks = masks-length es ∙ many;
+  depths = depths-length unit (t .checks) (stepsIn t l s) (steps-laid t l s);
   word = λ w e. bytes-length w ∙ candidate-length (t .bits) (spinsIn t l s) w (certify-is t l (rowsOf (t .checks) es) (candidate (t .bits) (spinsIn t l s)) w e);
   certificate = room (length (certificateOf es)) (cutsIn es) (length es) (checksOf t) (certificate-length es) (cuts-few es) many;
 }

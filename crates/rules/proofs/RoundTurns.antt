@@ -13,7 +13,7 @@ use Rattle.rules.specs.Table.{edges, degreeOf, at, bit, bitsAt}
 use Rattle.rules.specs.Parity.{turn, turns, odd, Alike, meets}
 use Rattle.rules.specs.Step.{Entry, Step, minus, step}
 use Rattle.rules.specs.Bound.{gather}
-use Rattle.rules.specs.Round.{State, sumAt, total, divided, spin, values, pass, copiesIn, offsetsIn, entriesIn}
+use Rattle.rules.specs.Round.{State, sumAt, total, divided, spin, values, pass, copiesIn, offsetsIn, entriesIn, depthsIn}
 use Rattle.rules.proofs.Basics.{and-both}
 use Rattle.rules.proofs.DividedLaws.{divided-neg}
 use Rattle.rules.proofs.Signs.{turn-sum, turn-zero, at-turns, clip-turn, alike-trans}
@@ -138,3 +138,9 @@ pub entries-turn : (c : List Bool) (cs : List (List ℕ)) (ss : List Step) → e
 entries-turn c [] ss = refl
 entries-turn c (ms ∷ cs) [] = refl
 entries-turn c (ms ∷ cs) (s ∷ ss) = ap (λ t. turnEntry (bitsAt c ms) (s .entry) ∷ t) (entries-turn c cs ss)
+
+-- the depths stay
+pub depths-turn : (u : ℕ) (c : List Bool) (cs : List (List ℕ)) (ss : List Step) → AllLaid u cs ss → depthsIn (turnSteps c cs ss) ≡ depthsIn ss
+depths-turn u c [] ss h = refl
+depths-turn u c (ms ∷ cs) [] h = absurd h
+depths-turn u c (ms ∷ cs) (s ∷ ss) h = ap (λ t. s .depth ∷ t) (depths-turn u c cs ss (h .1))

@@ -1,6 +1,7 @@
 -- One check's step: its lengths and limits, and how a codeword turns it. Assumes nothing.
-use mathlib.Core.Path.{_≡_, refl, sym, _∙_, ap, ap₂, fun-ext}
+use mathlib.Core.Path.{_≡_, refl, sym, _∙_, ap, ap₂, subst, fun-ext}
 use mathlib.Core.Bool.{Bool, true, false}
+use mathlib.Core.Logic.{_↔_}
 use mathlib.Core.List.{List, [], _∷_}
 use mathlib.Core.Option.{Option, some, none}
 use Prim.Native.Nat.{ℕ, zero, suc, _+_, _*_, _^_, _<_, _≤_}
@@ -9,16 +10,19 @@ use native.Mathlib.Nat.{le-of-suc-le-suc, suc-inj}
 use lib.ListN.{length, take, drop}
 use lib.IntN.{ℤ, pos, _+ℤ_, _-ℤ_}
 use lib.Signed.{ltZ}
+use Rattle.integers.specs.Linear.{lin, arithZ}
 use Rattle.integers.specs.Order.{within-sub}
 use Rattle.integers.specs.Clip.{clipZ, clip-within}
 use Rattle.integers.specs.Sum.{AllWithin}
 use Rattle.rules.specs.Table.{at}
 use Rattle.rules.specs.Parity.{_⊕_, turn, side, plus, turns, odd, Alike, left}
-use Rattle.rules.specs.Cut.{cut}
+use Rattle.rules.specs.Cut.{cut, shortfall, depthBy, depth}
 use Rattle.rules.specs.Step.{clips, move, moves, short, lastWhere, multiplier, Entry, inactive, active, Step, minus, settle, stepBy, step}
 use Rattle.rules.specs.Buffers.{multiplierOf}
 use Rattle.rules.proofs.Signs.{turn-sum, turn-diff, turn-side, clip-turn, left-turn, alike-sym, alike-trans}
+use Rattle.rules.proofs.Basics.{none≢some}
 use Rattle.rules.proofs.CutRule.{cut-sound, cut-turns, plusO}
+use Rattle.rules.proofs.DepthLaws.{shortfall-turn, depth-cut, depth-most, depth-zero⇔}
 use Rattle.rules.proofs.Multiplier.{multiplier-least}
 
 -- ---- clipped, moved and subtracted lists
@@ -126,9 +130,9 @@ pub record Shape (u : ℕ) (vs : List ℤ) (s : Step) : Type 0 where
   pub proper : Proper vs (s .entry)
   pub priced : (m : ℕ) → AllWithin m vs → u + m ≤ 2 ^ 24 → multiplierOf (s .entry) ≤ u + m
 
-settle-shape : (u : ℕ) (vs zs : List ℤ) (e : Entry) → Alike vs zs → AllWithin u zs → Proper vs e
-    → ((m : ℕ) → AllWithin m vs → u + m ≤ 2 ^ 24 → multiplierOf e ≤ u + m) → Shape u vs (settle vs zs e)
-settle-shape u vs zs e h w p q = record {
+settle-shape : (u : ℕ) (vs zs : List ℤ) (e : Entry) (d : ℕ) → Alike vs zs → AllWithin u zs → Proper vs e
+    → ((m : ℕ) → AllWithin m vs → u + m ≤ 2 ^ 24 → multiplierOf e ≤ u + m) → Shape u vs (settle vs zs e d)
+settle-shape u vs zs e d h w p q = record {
   copies = h;
   offsets = minus-alike vs zs h;
   within = w;
@@ -142,8 +146,8 @@ unfolding step multiplier
 step-shape u vs = go (cut u (clips u vs)) refl
   where
     go : (o : Option (List Bool)) → cut u (clips u vs) ≡ o → Shape u vs (stepBy u vs o)
-    go none e = settle-shape u vs (clips u vs) inactive (clips-alike u vs) (clips-within u vs) tt (λ m w h. omega arith)
-    go (some ts) e = settle-shape u vs (moves u (multiplier u ts vs) ts vs) (active (multiplier u ts vs) ts)
+    go none e = settle-shape u vs (clips u vs) inactive 0 (clips-alike u vs) (clips-within u vs) tt (λ m w h. omega arith)
+    go (some ts) e = settle-shape u vs (moves u (multiplier u ts vs) ts vs) (active (multiplier u ts vs) ts) _
         (moves-alike u (multiplier u ts vs) ts vs (cut-long u vs ts e)) (moves-within u (multiplier u ts vs) ts vs)
         (cut-sound u (clips u vs) ts e .isOdd, cut-long u vs ts e, omega arith)
         (λ m w h. multiplier-least u m ts vs (cut-sound u (clips u vs) ts e .isOdd) (cut-long u vs ts e) w h (cut-sound u (clips u vs) ts e .under) .bounded)
@@ -154,7 +158,7 @@ turnEntry cs inactive = inactive
 turnEntry cs (active b ts) = active b (plus cs ts)
 
 abbrev pub turnStep : List Bool → Step → Step
-turnStep cs s = record { copies = turns cs (s .copies); offsets = turns cs (s .offsets); entry = turnEntry cs (s .entry) }
+turnStep cs s = record { copies = turns cs (s .copies); offsets = turns cs (s .offsets); entry = turnEntry cs (s .entry); depth = s .depth }
 
 short-turn : (u : ℕ) (cs ts : List Bool) (vs : List ℤ) → Alike cs vs → Alike ts vs → (b : ℕ) → short u (plus cs ts) (turns cs vs) b ≡ short u ts vs b
 short-turn u cs ts vs h k b = ap (λ l. ltZ l (pos (2 * u))) (ap (left u (plus cs ts)) (moves-turn u b cs ts vs h k)
@@ -164,11 +168,15 @@ pub multiplier-turn : (u : ℕ) (cs ts : List Bool) (vs : List ℤ) → Alike cs
 unfolding multiplier
 multiplier-turn u cs ts vs h k = ap (λ f. suc (lastWhere f 24 0)) (fun-ext (short-turn u cs ts vs h k))
 
-step-eq : {a a' b b' : List ℤ} {e e' : Entry} → a ≡ a' → b ≡ b' → e ≡ e' → _≡_ {A = Step} (record { copies = a; offsets = b; entry = e }) (record { copies = a'; offsets = b'; entry = e' })
-step-eq p q r = λ i. record { copies = p i; offsets = q i; entry = r i }
+abbrev stepOf : List ℤ → List ℤ → Entry → ℕ → Step
+stepOf zs ys e d = record { copies = zs; offsets = ys; entry = e; depth = d }
 
-settle-turn : (cs : List Bool) (vs zs zs' : List ℤ) (e e' : Entry) → zs' ≡ turns cs zs → e' ≡ turnEntry cs e → settle (turns cs vs) zs' e' ≡ turnStep cs (settle vs zs e)
-settle-turn cs vs zs zs' e e' p q = step-eq p (ap (minus (turns cs vs)) p ∙ minus-turn cs vs zs) q
+step-eq : {a a' b b' : List ℤ} {e e' : Entry} {d d' : ℕ} → a ≡ a' → b ≡ b' → e ≡ e' → d ≡ d' → stepOf a b e d ≡ stepOf a' b' e' d'
+step-eq p q r s = λ i. stepOf (p i) (q i) (r i) (s i)
+
+settle-turn : (cs : List Bool) (vs zs zs' : List ℤ) (e e' : Entry) (d d' : ℕ) → zs' ≡ turns cs zs → e' ≡ turnEntry cs e → d' ≡ d
+    → settle (turns cs vs) zs' e' d' ≡ turnStep cs (settle vs zs e d)
+settle-turn cs vs zs zs' e e' d d' p q r = step-eq p (ap (minus (turns cs vs)) p ∙ minus-turn cs vs zs) q r
 
 pub step-turn : (u : ℕ) (cs : List Bool) (vs : List ℤ) → odd cs ≡ false → Alike cs vs → step u (turns cs vs) ≡ turnStep cs (step u vs)
 unfolding step
@@ -178,8 +186,75 @@ step-turn u cs vs e h = ap (stepBy u (turns cs vs)) same ∙ go (cut u (clips u 
     same = ap (cut u) (clips-turn u cs vs) ∙ cut-turns u cs (clips u vs) e (alike-trans cs vs (clips u vs) h (clips-alike u vs)) (clips-within u vs)
 
     go : (o : Option (List Bool)) → cut u (clips u vs) ≡ o → stepBy u (turns cs vs) (plusO cs o) ≡ turnStep cs (stepBy u vs o)
-    go none p = settle-turn cs vs (clips u vs) (clips u (turns cs vs)) inactive inactive (clips-turn u cs vs) refl
+    go none p = settle-turn cs vs (clips u vs) (clips u (turns cs vs)) inactive inactive 0 0 (clips-turn u cs vs) refl refl
     go (some ts) p = settle-turn cs vs (moves u (multiplier u ts vs) ts vs) (moves u (multiplier u (plus cs ts) (turns cs vs)) (plus cs ts) (turns cs vs))
-        (active (multiplier u ts vs) ts) (active (multiplier u (plus cs ts) (turns cs vs)) (plus cs ts))
+        (active (multiplier u ts vs) ts) (active (multiplier u (plus cs ts) (turns cs vs)) (plus cs ts)) _ _
         (ap (λ b. moves u b (plus cs ts) (turns cs vs)) (multiplier-turn u cs ts vs h (cut-long u vs ts p)) ∙ moves-turn u (multiplier u ts vs) cs ts vs h (cut-long u vs ts p))
         (ap (λ b. active b (plus cs ts)) (multiplier-turn u cs ts vs h (cut-long u vs ts p)))
+        (ap (shortfall u (plus cs ts)) (clips-turn u cs vs)
+        ∙ shortfall-turn u ts (clips u vs) cs (alike-trans cs vs (clips u vs) h (clips-alike u vs)) (cut-sound u (clips u vs) ts p .long))
+
+-- ---- the depth that a check leaves is that of its clipped values, and 0 exactly if it has no cut
+pub step-depth : (u : ℕ) (vs : List ℤ) → step u vs .depth ≡ depth u (clips u vs)
+unfolding step depth
+step-depth u vs = go (cut u (clips u vs))
+  where
+    go : (o : Option (List Bool)) → stepBy u vs o .depth ≡ depthBy u (clips u vs) o
+    go none = refl
+    go (some ts) = refl
+
+-- the values are still there afterwards: copy plus offset
+abbrev pub together : List ℤ → List ℤ → List ℤ
+together [] ys = []
+together (z ∷ zs) [] = []
+together (z ∷ zs) (y ∷ ys) = (z +ℤ y) ∷ together zs ys
+
+back : (v z : ℤ) → z +ℤ (v -ℤ z) ≡ v
+back v z = simp lin (omega arithZ)
+
+together-back : (vs zs : List ℤ) → Alike vs zs → together zs (minus vs zs) ≡ vs
+together-back [] [] h = refl
+together-back [] (z ∷ zs) h = absurd h
+together-back (v ∷ vs) [] h = absurd h
+together-back (v ∷ vs) (z ∷ zs) h = ap₂ _∷_ (back v z) (together-back vs zs h)
+
+pub step-together : (u : ℕ) (vs : List ℤ) → together (step u vs .copies) (step u vs .offsets) ≡ vs
+unfolding step
+step-together u vs = go (cut u (clips u vs)) refl
+  where
+    go : (o : Option (List Bool)) → cut u (clips u vs) ≡ o → together (stepBy u vs o .copies) (stepBy u vs o .offsets) ≡ vs
+    go none e = together-back vs (clips u vs) (clips-alike u vs)
+    go (some ts) e = together-back vs (moves u (multiplier u ts vs) ts vs) (moves-alike u (multiplier u ts vs) ts vs (cut-long u vs ts e))
+
+-- so mask and depth that a round leaves are the cut search's at copy plus offset, clipped
+abbrev pub valuesAfter : ℕ → Step → List ℤ
+valuesAfter u s = clips u (together (s .copies) (s .offsets))
+
+pub depth-again : (u : ℕ) (vs : List ℤ) → step u vs .depth ≡ depth u (valuesAfter u (step u vs))
+depth-again u vs = step-depth u vs ∙ ap (λ l. depth u (clips u l)) (sym (step-together u vs))
+
+abbrev pub cutIn : Entry → Option (List Bool)
+cutIn inactive = none
+cutIn (active b ts) = some ts
+
+pub set-again : (u : ℕ) (vs : List ℤ) → cutIn (step u vs .entry) ≡ cut u (valuesAfter u (step u vs))
+unfolding step
+set-again u vs = go (cut u (clips u vs)) ∙ ap (λ l. cut u (clips u l)) (sym (step-together u vs))
+  where
+    go : (o : Option (List Bool)) → cutIn (stepBy u vs o .entry) ≡ o
+    go none = refl
+    go (some ts) = refl
+
+pub step-depth-most : (u : ℕ) (vs : List ℤ) → step u vs .depth ≤ 2 * u
+step-depth-most u vs = subst (λ n. n ≤ 2 * u) (sym (step-depth u vs)) (depth-most u (clips u vs) (clips-within u vs))
+
+active≢inactive : {b : ℕ} {ts : List Bool} → active b ts ≡ inactive → ⊥
+active≢inactive e = let z : _≡_ {A = ℕ} 0 1 = cc in omega arith
+
+pub step-inactive⇔ : (u : ℕ) (vs : List ℤ) → (step u vs .depth ≡ 0) ↔ (step u vs .entry ≡ inactive)
+unfolding step
+step-inactive⇔ u vs = go (cut u (clips u vs)) refl
+  where
+    go : (o : Option (List Bool)) → cut u (clips u vs) ≡ o → (stepBy u vs o .depth ≡ 0) ↔ (stepBy u vs o .entry ≡ inactive)
+    go none e = (λ _. refl, λ _. refl)
+    go (some ts) e = (λ z. absurd (none≢some (sym (depth-zero⇔ u (clips u vs) .0 (depth-cut u (clips u vs) ts e ∙ z)) ∙ e)), λ x. absurd (active≢inactive x))

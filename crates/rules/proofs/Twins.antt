@@ -38,6 +38,7 @@ pub record Twin (t : Table) (c : List Bool) (r q : Run) : Type 0 where
   pub state : stateIn t (q .buffers) ≡ turnState c (t .checks) (stateIn t (r .buffers))
   pub sums : sumsIn t (q .buffers) ≡ turns c (sumsIn t (r .buffers))
   pub multipliers : 1 ≤ r .progress .rounds → take (checksOf t) (q .buffers .multipliers) ≡ take (checksOf t) (r .buffers .multipliers)
+  pub depths : 1 ≤ r .progress .rounds → take (checksOf t) (q .buffers .depths) ≡ take (checksOf t) (r .buffers .depths)
   pub words : r .progress .status ≡ certified → Worded (t .bits) c (r .buffers .word) (q .buffers .word)
 
 -- ---- one round
@@ -82,6 +83,7 @@ moved-twin t c r q d s z h = record {
   sums = sums-written t (turnRound c (t .checks) d) (q .buffers) z ∙ ap (turns c) (sym (sums-written t d (r .buffers) s));
   multipliers = λ k. take-over (checksOf t) (multipliersOf (turnEntries c (t .checks) (d .entries))) (q .buffers .multipliers) (z .multipliers) ∙ multipliers-turn c (t .checks) (d .entries)
       ∙ sym (take-over (checksOf t) (multipliersOf (d .entries)) (r .buffers .multipliers) (s .multipliers));
+  depths = λ k. take-over (checksOf t) (d .depths) (q .buffers .depths) (z .depths) ∙ sym (take-over (checksOf t) (d .depths) (r .buffers .depths) (s .depths));
   words = λ e. words-turn (t .bits) (suc (r .progress .rounds)) c (d .word) (r .buffers .word) (q .buffers .word) (s .word) (z .word) e;
 }
 

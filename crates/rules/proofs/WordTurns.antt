@@ -18,7 +18,7 @@ use Rattle.rules.specs.Round.{State, sumAt, pass, copiesIn, offsetsIn, e
 use Rattle.rules.proofs.Signs.{turn-sum, turn-zero, turn-turn, turn-side, at-turns, bit-plus, odd-plus, alike-sym, alike-trans}
 use Rattle.rules.proofs.CutRule.{plusO}
 use Rattle.rules.proofs.Pass.{state-eq, spinsIn, stepsIn, steps-laid, Good, rows-good}
-use Rattle.rules.proofs.RoundTurns.{Even, meets-even, signs, turnState, bitsAt-alike, gather-turn, sum-turn, spin-turn}
+use Rattle.rules.proofs.RoundTurns.{Even, meets-even, signs, turnState, bitsAt-alike, gather-turn, sum-turn, spin-turn, depths-turn}
 use Rattle.rules.proofs.RoundTurns.{turnSteps, pass-turn, copies-turn, offsets-turn, turnEntries, entries-turn}
 
 -- ---- the candidate
@@ -127,7 +127,14 @@ rows-turn c (ms ∷ cs) (active b ts ∷ es) = ap (λ t. record { members = ms; 
 
 -- ---- the whole round
 abbrev pub turnRound : List Bool → List (List ℕ) → Round → Round
-turnRound c cs d = record { spins = turns c (d .spins); state = turnState c cs (d .state); sums = turns c (d .sums); entries = turnEntries c cs (d .entries); word = plusO c (d .word) }
+turnRound c cs d = record {
+  spins = turns c (d .spins);
+  state = turnState c cs (d .state);
+  sums = turns c (d .sums);
+  entries = turnEntries c cs (d .entries);
+  depths = d .depths;
+  word = plusO c (d .word);
+}
 
 keep-plus : (c w : List Bool) (b : Bool) → keep b (plus c w) ≡ plusO c (keep b w)
 keep-plus c w true = refl
@@ -139,12 +146,12 @@ module _ (t : Table) (c : List Bool) (l : List ℤ) (rs : List Row) (even : Even
   certify-turns (some w) = ap₂ (λ a b. keep (a && isZero b) (plus c w)) (meets-turns c w (t .checks) even) (gap-turns (t .bits) 1 c l rs w good)
       ∙ keep-plus c w (meets w (t .checks) && isZero (gap (t .bits) 1 l rs w))
 
-abbrev roundOf : List ℤ → State → List ℤ → List Entry → Option (List Bool) → Round
-roundOf p s x e v = record { spins = p; state = s; sums = x; entries = e; word = v }
+abbrev roundOf : List ℤ → State → List ℤ → List Entry → List ℕ → Option (List Bool) → Round
+roundOf p s x e d v = record { spins = p; state = s; sums = x; entries = e; depths = d; word = v }
 
-round-eq : {p q x y : List ℤ} {r s : State} {e f : List Entry} {v w : Option (List Bool)} → p ≡ q → r ≡ s → x ≡ y → e ≡ f → v ≡ w
-    → roundOf p r x e v ≡ roundOf q s y f w
-round-eq p q r s t = λ i. roundOf (p i) (q i) (r i) (s i) (t i)
+round-eq : {p q x y : List ℤ} {r s : State} {e f : List Entry} {a b : List ℕ} {v w : Option (List Bool)} → p ≡ q → r ≡ s → x ≡ y → e ≡ f → a ≡ b → v ≡ w
+    → roundOf p r x e a v ≡ roundOf q s y f b w
+round-eq p q r s d t = λ i. roundOf (p i) (q i) (r i) (s i) (d i) (t i)
 
 -- a turned state has turned sums
 pub sums-turn : (t : Table) (c : List Bool) (s : State) → Codeword t c
@@ -159,6 +166,7 @@ round-turns t c l s k = ap (roundBy t (turns c l) g) steps ∙ round-eq
     state-turn
     (ap (sumsOf (t .bits) (edges (t .checks))) state-turn ∙ sums-turn t c (record { copies = copiesIn (stepsIn t l s); offsets = offsetsIn (stepsIn t l s) }) k)
     (entries-turn c (t .checks) (stepsIn t l s))
+    (depths-turn unit c (t .checks) (stepsIn t l s) (steps-laid t l s))
     (ap₂ (certify t (turns c l)) (ap (rowsOf (t .checks)) (entries-turn c (t .checks) (stepsIn t l s)) ∙ rows-turn c (t .checks) es) (candidate-turns (t .bits) c f g (k .size) fg)
     ∙ certify-turns t c l (rowsOf (t .checks) es) even (rows-good unit (t .checks) (stepsIn t l s) (steps-laid t l s)) (candidate (t .bits) f))
   where

@@ -23,6 +23,7 @@ pub data Buffer : Type 0 where
   sums : Buffer
   multipliers : Buffer
   masks : Buffer
+  depths : Buffer
   word : Buffer
   certificate : Buffer
 
@@ -38,6 +39,7 @@ signOf offsets = signed
 signOf sums = signed
 signOf multipliers = unsigned
 signOf masks = unsigned
+signOf depths = unsigned
 signOf word = unsigned
 signOf certificate = unsigned
 
@@ -63,6 +65,7 @@ pub record Each (P : Buffer → Type 0) : Type 0 where
   pub sums : P sums
   pub multipliers : P multipliers
   pub masks : P masks
+  pub depths : P depths
   pub word : P word
   pub certificate : P certificate
 
@@ -73,6 +76,7 @@ by-name e offsets = e .offsets
 by-name e sums = e .sums
 by-name e multipliers = e .multipliers
 by-name e masks = e .masks
+by-name e depths = e .depths
 by-name e word = e .word
 by-name e certificate = e .certificate
 
@@ -84,12 +88,13 @@ each f = record {
   sums = f sums;
   multipliers = f multipliers;
   masks = f masks;
+  depths = f depths;
   word = f word;
   certificate = f certificate;
 }
 
 abbrev pub every : (Buffer → Bool) → Bool
-every p = p spins && (p copies && (p offsets && (p sums && (p multipliers && (p masks && (p word && p certificate))))))
+every p = p spins && (p copies && (p offsets && (p sums && (p multipliers && (p masks && (p depths && (p word && p certificate)))))))
 
 -- the buffers, and one by its name
 abbrev pub Buffers : Type 0
@@ -99,8 +104,8 @@ abbrev pub the : (x : Buffer) → Buffers → List (Elem x)
 the x b = by-name b x
 
 -- as a call is lent them, in the order of its parameters
-abbrev pub lent : List ℤ → List ℤ → List ℤ → List ℤ → List ℕ → List ℕ → List ℕ → List ℕ → Buffers
-lent p z y x b k w c = record { spins = p; copies = z; offsets = y; sums = x; multipliers = b; masks = k; word = w; certificate = c }
+abbrev pub lent : List ℤ → List ℤ → List ℤ → List ℤ → List ℕ → List ℕ → List ℕ → List ℕ → List ℕ → Buffers
+lent p z y x b k d w c = record { spins = p; copies = z; offsets = y; sums = x; multipliers = b; masks = k; depths = d; word = w; certificate = c }
 
 -- ---- lengths
 abbrev pub Lengths : Type 0
@@ -109,7 +114,7 @@ Lengths = Buffer → ℕ
 abbrev pub lengthsOf : Buffers → Lengths
 lengthsOf b x = length (the x b)
 
--- "spins n; copies, offsets E; multipliers, masks m; word n; certificate 4 + 10m", and sums n
+-- "spins n; copies, offsets E; multipliers, masks m; word n; certificate 4 + 10m", sums n and depths m
 abbrev pub needsBy : ℕ → ℕ → ℕ → Lengths
 needsBy n m e spins = n
 needsBy n m e copies = e
@@ -117,6 +122,7 @@ needsBy n m e offsets = e
 needsBy n m e sums = n
 needsBy n m e multipliers = m
 needsBy n m e masks = m
+needsBy n m e depths = m
 needsBy n m e word = n
 needsBy n m e certificate = certificateLength m
 
@@ -170,6 +176,7 @@ lentFrom offsets = start
 lentFrom sums = start
 lentFrom multipliers = round
 lentFrom masks = round
+lentFrom depths = round
 lentFrom word = end
 lentFrom certificate = end
 
@@ -186,7 +193,7 @@ zeros e = replicate e (pos 0)
 
 -- the buffers that a start is lent, in the order of its parameters
 abbrev pub startLent : List ℤ → List ℤ → List ℤ → Buffers
-startLent z y x = lent [] z y x [] [] [] []
+startLent z y x = lent [] z y x [] [] [] [] []
 
 -- 41 looks at those that it zeroes
 unfoldable pub fitsStart : Table → Lengths → Bool
@@ -235,12 +242,12 @@ abbrev pub atEnd : Buffer → Bool
 atEnd x = past (lentFrom x)
 
 -- the buffers that every round writes, in the order of a call's parameters
-abbrev pub roundLent : List ℤ → List ℤ → List ℤ → List ℤ → List ℕ → List ℕ → Buffers
-roundLent s z y x b k = lent s z y x b k [] []
+abbrev pub roundLent : List ℤ → List ℤ → List ℤ → List ℤ → List ℕ → List ℕ → List ℕ → Buffers
+roundLent s z y x b k d = lent s z y x b k d [] []
 
 -- these, with others for those at the end
 abbrev pub endLent : List ℕ → List ℕ → Buffers → Buffers
-endLent w c b = lent (b .spins) (b .copies) (b .offsets) (b .sums) (b .multipliers) (b .masks) w c
+endLent w c b = lent (b .spins) (b .copies) (b .offsets) (b .sums) (b .multipliers) (b .masks) (b .depths) w c
 
 abbrev pub leaves : Round → Writes
 leaves d spins = some (d .spins)
@@ -249,5 +256,6 @@ leaves d offsets = some (d .state .offsets)
 leaves d sums = some (d .sums)
 leaves d multipliers = some (multipliersOf (d .entries))
 leaves d masks = some (masksOf (d .entries))
+leaves d depths = some (d .depths)
 leaves d word = wordLeft (d .word)
 leaves d certificate = certificateLeft (d .word) (d .entries)

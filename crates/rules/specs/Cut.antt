@@ -1,12 +1,13 @@
--- The cut search (document 01, "Parity inequalities and the cut search"). Definitions only. Assumes nothing.
+-- The cut search (document 01, "Parity inequalities and the cut search"; the depth: document 02, #101). Definitions only. Assumes nothing.
 use mathlib.Core.Bool.{Bool, true, false, not, cond, _&&_}
 use mathlib.Core.List.{List, [], _∷_}
 use mathlib.Core.Option.{Option, some, none}
 use Prim.Native.Nat.{ℕ, _*_, min}
 use lib.Dec.{leb}
 use lib.ListN.{getD}
-use lib.IntN.{ℤ, pos, negsuc, natAbs}
+use lib.IntN.{ℤ, pos, negsuc, natAbs, _-ℤ_}
 use lib.Signed.{ltZ}
+use Rattle.integers.specs.Linear.{up}
 use Rattle.rules.specs.Limits.{unit}
 use Rattle.rules.specs.Refusal.{Answer, refused, gives, then, Reply, replyOf}
 use Rattle.rules.specs.Table.{at, valuesAt}
@@ -50,23 +51,51 @@ keep false a = none
 unfoldable pub cut : ℕ → List ℤ → Option (List Bool)
 cut u ss = keep (violated u (method u ss) ss) (method u ss)
 
+-- "by how much the inequality falls short: 2U less the left side"; 0 where it holds
+abbrev pub shortfall : ℕ → List Bool → List ℤ → ℕ
+shortfall u vs ss = up (pos (2 * u) -ℤ left u vs ss)
+
+-- the cut's; "0 for none"
+abbrev pub depthBy : ℕ → List ℤ → Option (List Bool) → ℕ
+depthBy u ss none = 0
+depthBy u ss (some vs) = shortfall u vs ss
+
+unfoldable pub depth : ℕ → List ℤ → ℕ
+depth u ss = depthBy u ss (cut u ss)
+
+-- a violated V, as a list or as a mask, and "beside the mask" its depth
+pub record Violation (A : Type 0) : Type 0 where
+  pub set : A
+  pub depth : ℕ
+
+abbrev pub withDepth : ℕ → List ℤ → List Bool → Violation (List Bool)
+withDepth u ss vs = record { set = vs; depth = shortfall u vs ss }
+
+-- "none still has no depth"
+abbrev pub measured : ℕ → List ℤ → Option (List Bool) → Option (Violation (List Bool))
+measured u ss none = none
+measured u ss (some vs) = some (withDepth u ss vs)
+
+unfoldable pub violation : ℕ → List ℤ → Option (Violation (List Bool))
+violation u ss = measured u ss (cut u ss)
+
 -- any code file, spins and check number: 1 to 7, 16, 17
-unfoldable pub cutSearch : List ℕ → List ℤ → ℕ → Answer (Option (List Bool))
-cutSearch file s j = then (codeFile file) (λ t. onPoint t s (onCheck t j (gives (cut unit (valuesAt (at s) (getD (t .checks) j []))))))
+unfoldable pub cutSearch : List ℕ → List ℤ → ℕ → Answer (Option (Violation (List Bool)))
+cutSearch file s j = then (codeFile file) (λ t. onPoint t s (onCheck t j (gives (violation unit (valuesAt (at s) (getD (t .checks) j []))))))
 
 -- the answer with V as a mask
-abbrev pub maskAnswer : Answer (Option (List Bool)) → Answer (Option ℕ)
+abbrev pub maskAnswer : Answer (Option (Violation (List Bool))) → Answer (Option (Violation ℕ))
 maskAnswer (refused k) = refused k
 maskAnswer (gives none) = gives none
-maskAnswer (gives (some vs)) = gives (some (maskOf vs))
+maskAnswer (gives (some v)) = gives (some (record { set = maskOf (v .set); depth = v .depth }))
 
-unfoldable pub cutAnswer : List ℕ → List ℤ → ℕ → Answer (Option ℕ)
+unfoldable pub cutAnswer : List ℕ → List ℤ → ℕ → Answer (Option (Violation ℕ))
 cutAnswer file s j = maskAnswer (cutSearch file s j)
 
--- the values of the answer: the mask, or nothing for none
-abbrev pub cutValues : Option (List Bool) → List ℤ
+-- the values of the answer: the mask, then the depth, or nothing for none
+abbrev pub cutValues : Option (Violation (List Bool)) → List ℤ
 cutValues none = []
-cutValues (some vs) = pos (maskOf vs) ∷ []
+cutValues (some v) = pos (maskOf (v .set)) ∷ pos (v .depth) ∷ []
 
 unfoldable pub cutReply : List ℕ → List ℤ → ℕ → Reply
 cutReply file s j = replyOf cutValues (cutSearch file s j)

@@ -41,12 +41,13 @@ listFrom file l xs b = callList file l xs (startedRun file b)
 abbrev pub CertifiesOn : Table → List Bool → ℕ → List ℕ → List Called → Type 0
 CertifiesOn t w k bs ds = Certifies (t .bits) (checksOf t) w k bs ds
 
--- "the same answer, the same rounds done and the same multipliers" (compared once a round is done), "and where the first certifies w it certifies w
--- plus c modulo 2"
+-- "the same answer, the same rounds done and the same multipliers" (compared once a round is done, and the depths with them), "and where the first
+-- certifies w it certifies w plus c modulo 2"
 pub record SamePlace (t : Table) (c : List Bool) (x y : Called) : Type 0 where
   pub answer : y .answer ≡ x .answer
   pub rounds : y .run .progress .rounds ≡ x .run .progress .rounds
   pub multipliers : 1 ≤ x .run .progress .rounds → take (checksOf t) (y .run .buffers .multipliers) ≡ take (checksOf t) (x .run .buffers .multipliers)
+  pub depths : 1 ≤ x .run .progress .rounds → take (checksOf t) (y .run .buffers .depths) ≡ take (checksOf t) (x .run .buffers .depths)
   pub word : (w : List Bool) → x .answer ≡ gives certified → take (t .bits) (x .run .buffers .word) ≡ bytesOf w → take (t .bits) (y .run .buffers .word) ≡ bytesOf (plus c w)
 
 -- "at each place"

@@ -35,6 +35,7 @@ pub record SameRound (t : Table) (x y : Round) : Type 0 where
   pub state : y .state ≡ x .state
   pub sums : y .sums ≡ x .sums
   pub entries : y .entries ≡ atFilled (t .checks) (x .entries)
+  pub depths : y .depths ≡ atFilled (t .checks) (x .depths)
   pub word : y .word ≡ x .word
 
 -- "A certificate entry that names it still meets 13 in its turn": after 12, whatever follows

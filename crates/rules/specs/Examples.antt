@@ -13,7 +13,7 @@ use Rattle.rules.specs.Parity.{agreement}
 use Rattle.rules.specs.Mask.{maskRight}
 use Rattle.rules.specs.CodeFile.{inRange, contents, countsRight, startsRight, totalCount, numbersAt, bodies, ascends, membersRight, bitsRight, fileOf, codeFile, codeFileReply}
 use Rattle.rules.specs.Input.{onFrame, onWord, onPoint, onCheck}
-use Rattle.rules.specs.Cut.{cut, cutSearch, cutReply}
+use Rattle.rules.specs.Cut.{cut, violation, cutSearch, cutReply}
 use Rattle.rules.specs.Step.{lastWhere, multiplier, step}
 use Rattle.rules.specs.Bound.{reduced, bound, gap}
 use Rattle.rules.specs.Round.{total, divided, spin, sumsOf, round}
@@ -43,6 +43,9 @@ fourBits = 4 ∷ 0 ∷ 3 ∷ 0 ∷ 0 ∷ 0 ∷ 2 ∷ 0 ∷ 2 ∷ 0 ∷ 2 ∷ 0 �
 
 frameD : List ℤ
 frameD = negsuc 5399 ∷ negsuc 1799 ∷ pos 6000 ∷ pos 7600 ∷ []
+
+frameF : List ℤ
+frameF = pos 1 ∷ negsuc 1 ∷ negsuc 7999 ∷ pos 5 ∷ []
 
 -- ---- code files
 -- two checks of degree one on bit 0 of one bit, with the starts and counts handed in
@@ -88,13 +91,15 @@ files =
     ∷ row (fileIs (onBit0 33)) (reply (no 7))
     ∷ []
 
--- ---- cuts: "(1365, 1365, −1366) has no cut; (1365, 1365, −1367) has mask 4"
+-- ---- cuts: "(1365, 1365, −1366) has no cut; (1365, 1365, −1367) has mask 4", and the least depth
 cuts : List Case
 cuts =
     row (cutIs threeBits (pos 1365 ∷ pos 1365 ∷ negsuc 1365 ∷ []) 0) (reply (yes []))
-    ∷ row (cutIs threeBits (pos 1365 ∷ pos 1365 ∷ negsuc 1366 ∷ []) 0) (reply (yes (pos 4 ∷ [])))
+    ∷ row (cutIs threeBits (pos 1365 ∷ pos 1365 ∷ negsuc 1366 ∷ []) 0) (reply (yes (pos 4 ∷ pos 1 ∷ [])))
+    -- the greatest depth: 2U less nothing
+    ∷ row (cutIs oneBit (negsuc 4095 ∷ []) 0) (reply (yes (pos 1 ∷ pos 8192 ∷ [])))
     -- no negative spin: the third changes sides
-    ∷ row (cutIs threeBits (pos 4000 ∷ pos 4000 ∷ pos 2000 ∷ []) 0) (reply (yes (pos 4 ∷ [])))
+    ∷ row (cutIs threeBits (pos 4000 ∷ pos 4000 ∷ pos 2000 ∷ []) 0) (reply (yes (pos 4 ∷ pos 1904 ∷ [])))
     -- a spin beyond U, and a check number not below m: 16 before 17
     ∷ row (cutIs threeBits (pos 4097 ∷ pos 0 ∷ pos 0 ∷ []) 1) (reply (no 16))
     ∷ row (cutIs threeBits (pos 4096 ∷ pos 0 ∷ pos 0 ∷ []) 1) (reply (no 17))
@@ -140,7 +145,7 @@ empties =
     -- no check has members: the bit stands in none
     ∷ row (fileIs (1 ∷ 0 ∷ 1 ∷ 0 ∷ 0 ∷ 0 ∷ 0 ∷ 0 ∷ [])) (reply (no 7))
     ∷ row (cutIs emptied (pos 1365 ∷ pos 1365 ∷ negsuc 1366 ∷ []) 0) (reply (yes []))
-    ∷ row (cutIs emptied (pos 1365 ∷ pos 1365 ∷ negsuc 1366 ∷ []) 1) (reply (yes (pos 4 ∷ [])))
+    ∷ row (cutIs emptied (pos 1365 ∷ pos 1365 ∷ negsuc 1366 ∷ []) 1) (reply (yes (pos 4 ∷ pos 1 ∷ [])))
     ∷ row (cutIs emptied (pos 1365 ∷ pos 1365 ∷ negsuc 1366 ∷ []) 3) (reply (yes []))
     ∷ row (cutIs emptied (pos 1365 ∷ pos 1365 ∷ negsuc 1366 ∷ []) 4) (reply (no 17))
     -- the broken check by its own number
@@ -154,7 +159,7 @@ empties =
     -- rounds, word and multiplier as without the empty checks; the certificate names check 1
     ∷ row (shows emptied frameA 1024) (leaving (yes (pos 1 ∷ [])) 3
     (pos 3364 ∷ pos 3364 ∷ pos 2636 ∷ []) (pos 3365 ∷ pos 3365 ∷ pos 2635 ∷ []) (pos 3333 ∷ pos 3333 ∷ negsuc 3332 ∷ []) (pos 32 ∷ pos 32 ∷ pos 5968 ∷ [])
-    (0 ∷ 3333 ∷ 0 ∷ 0 ∷ []) (0 ∷ 4 ∷ 0 ∷ 0 ∷ []) word000 (1 ∷ 0 ∷ 1 ∷ 0 ∷ 1 ∷ 0 ∷ 0x05 ∷ 0x0D ∷ 0 ∷ 0 ∷ 4 ∷ 0 ∷ 0 ∷ 0 ∷ replicate 30 0))
+    (0 ∷ 3333 ∷ 0 ∷ 0 ∷ []) (0 ∷ 4 ∷ 0 ∷ 0 ∷ []) (0 ∷ 4794 ∷ 0 ∷ 0 ∷ []) word000 (1 ∷ 0 ∷ 1 ∷ 0 ∷ 1 ∷ 0 ∷ 0x05 ∷ 0x0D ∷ 0 ∷ 0 ∷ 4 ∷ 0 ∷ 0 ∷ 0 ∷ replicate 30 0))
     ∷ row (lineIs emptied frameA) (line (certifiedLine 3 (pos 6000) 1))
     ∷ []
 
@@ -217,7 +222,7 @@ calls =
     ∷ row (callIs oneBit (pos 0 ∷ []) 1024 (stands 1023 running (buffers (pos 0 ∷ []) (pos 0 ∷ []) (pos 0 ∷ []))))
     (leaving (yes (pos 2 ∷ [])) 1024
     (pos 0 ∷ []) (pos 4096 ∷ []) (negsuc 4095 ∷ []) (pos 8192 ∷ [])
-    (4096 ∷ []) (1 ∷ []) (6 ∷ []) (replicate 15 5))
+    (4096 ∷ []) (1 ∷ []) (4096 ∷ []) (6 ∷ []) (replicate 15 5))
     ∷ []
 
 -- ---- rounds that tell a plausible error from the rule
@@ -227,15 +232,31 @@ rounds =
     row (callIs (onBit0 2) (negsuc 4 ∷ []) 1 (stands 0 running (blank (needsBy 1 2 2))))
     (leaving (yes (pos 0 ∷ [])) 1
     (negsuc 2 ∷ []) (pos 4096 ∷ pos 4096 ∷ []) (negsuc 4098 ∷ negsuc 4098 ∷ []) (pos 16390 ∷ [])
-    (4099 ∷ 4099 ∷ []) (1 ∷ 1 ∷ []) (0 ∷ []) (replicate 24 0))
-    -- checks 0 3, 0 1 and 0 1 2: round 5's candidate 1101 meets all checks with gap 2598, and 0000 is certified in round 15
+    (4099 ∷ 4099 ∷ []) (1 ∷ 1 ∷ []) (4099 ∷ 4099 ∷ []) (0 ∷ []) (replicate 24 0))
+    -- checks 0 3, 0 1 and 0 1 2: round 5's candidate 1101 meets all checks with gap 2598, and 0000 is certified in round 15. The first check's values
+    -- are beyond U in round 5, and its depth is that of the clipped ones
     ∷ row (callIs fourBits frameD 5 (stands 0 running (blank (needsBy 4 3 7))))
     (leaving (yes (pos 0 ∷ [])) 5
     (negsuc 478 ∷ negsuc 584 ∷ pos 4096 ∷ negsuc 600 ∷ [])
     (negsuc 539 ∷ negsuc 539 ∷ negsuc 531 ∷ negsuc 531 ∷ negsuc 514 ∷ negsuc 548 ∷ pos 4060 ∷ [])
     (negsuc 8498 ∷ pos 8499 ∷ pos 1737 ∷ negsuc 1736 ∷ pos 1359 ∷ negsuc 1358 ∷ pos 1359 ∷ [])
     (pos 3816 ∷ pos 2015 ∷ pos 2701 ∷ negsuc 9038 ∷ [])
-    (8499 ∷ 1737 ∷ 1359 ∷ []) (1 ∷ 2 ∷ 2 ∷ []) (replicate 4 0) (replicate 34 0))
+    (8499 ∷ 1737 ∷ 1359 ∷ []) (1 ∷ 2 ∷ 2 ∷ []) (8192 ∷ 3474 ∷ 2752 ∷ []) (replicate 4 0) (replicate 34 0))
+    -- the third check has a cut of depth 1 in round 1 and none in round 2: nothing is left of it
+    ∷ row (callIs fourBits frameF 1 (stands 0 running (blank (needsBy 4 3 7))))
+    (leaving (yes (pos 0 ∷ [])) 1
+    (pos 0 ∷ negsuc 0 ∷ negsuc 4095 ∷ pos 5 ∷ [])
+    (pos 3 ∷ pos 2 ∷ negsuc 0 ∷ pos 0 ∷ pos 1 ∷ pos 0 ∷ negsuc 4094 ∷ [])
+    (negsuc 2 ∷ pos 3 ∷ pos 1 ∷ negsuc 0 ∷ negsuc 0 ∷ negsuc 0 ∷ negsuc 0 ∷ [])
+    (pos 6 ∷ pos 2 ∷ negsuc 4093 ∷ negsuc 0 ∷ [])
+    (3 ∷ 1 ∷ 1 ∷ []) (1 ∷ 2 ∷ 7 ∷ []) (5 ∷ 1 ∷ 1 ∷ []) (replicate 4 0) (replicate 34 0))
+    ∷ row (callIs fourBits frameF 2 (stands 0 running (blank (needsBy 4 3 7))))
+    (leaving (yes (pos 0 ∷ [])) 2
+    (pos 2 ∷ pos 0 ∷ negsuc 4095 ∷ pos 4 ∷ [])
+    (pos 3 ∷ pos 3 ∷ pos 1 ∷ pos 1 ∷ pos 1 ∷ negsuc 0 ∷ negsuc 4095 ∷ [])
+    (negsuc 3 ∷ pos 4 ∷ pos 2 ∷ negsuc 1 ∷ pos 0 ∷ pos 0 ∷ negsuc 0 ∷ [])
+    (pos 7 ∷ pos 2 ∷ negsuc 4094 ∷ negsuc 0 ∷ [])
+    (4 ∷ 2 ∷ 0 ∷ []) (1 ∷ 2 ∷ 0 ∷ []) (8 ∷ 4 ∷ 0 ∷ []) (replicate 4 0) (replicate 34 0))
     ∷ row (lineIs fourBits frameD) (line (certifiedLine 15 (pos 6400) 3))
     -- a weak frame that leans as 1101 does: the numbers of bits 0 and 1 are below their degrees 3 and 2
     ∷ row (lineIs fourBits (negsuc 1 ∷ negsuc 0 ∷ pos 1 ∷ negsuc 0 ∷ [])) (line (certifiedLine 1 (pos 5) 0))
@@ -276,26 +297,26 @@ wants v n = record { wanted = v; lent = n }
 callsOf : List Call
 callsOf = wants 1025 full ∷ wants 1 full ∷ wants 5 tooShort ∷ wants 0 full ∷ wants 7 full ∷ wants 1 full ∷ []
 
-abbrev place : Reply → ℕ → ℕ → List ℕ → Place
-place a k b w = record { reply = a; rounds = k; multipliers = b ∷ []; word = w }
+abbrev place : Reply → ℕ → ℕ → ℕ → List ℕ → Place
+place a k b d w = record { reply = a; rounds = k; multipliers = b ∷ []; depths = d ∷ []; word = w }
 
 lists : List Case
 lists =
     row (listIs threeBits frameA callsOf (dirty (pos 9) 8)) (places
-    (place (no 17) 0 8 (8 ∷ 8 ∷ 8 ∷ [])
-    ∷ place (yes (pos 0 ∷ [])) 1 1968 (8 ∷ 8 ∷ 8 ∷ [])
-    ∷ place (no 41) 1 1968 (8 ∷ 8 ∷ 8 ∷ [])
-    ∷ place (yes (pos 0 ∷ [])) 1 1968 (8 ∷ 8 ∷ 8 ∷ [])
-    ∷ place (yes (pos 1 ∷ [])) 3 3333 (0 ∷ 0 ∷ 0 ∷ [])
-    ∷ place (no 42) 3 3333 (0 ∷ 0 ∷ 0 ∷ [])
+    (place (no 17) 0 8 8 (8 ∷ 8 ∷ 8 ∷ [])
+    ∷ place (yes (pos 0 ∷ [])) 1 1968 5904 (8 ∷ 8 ∷ 8 ∷ [])
+    ∷ place (no 41) 1 1968 5904 (8 ∷ 8 ∷ 8 ∷ [])
+    ∷ place (yes (pos 0 ∷ [])) 1 1968 5904 (8 ∷ 8 ∷ 8 ∷ [])
+    ∷ place (yes (pos 1 ∷ [])) 3 3333 4794 (0 ∷ 0 ∷ 0 ∷ [])
+    ∷ place (no 42) 3 3333 4794 (0 ∷ 0 ∷ 0 ∷ [])
     ∷ []))
     ∷ row (listIs threeBits (negsuc 3999 ∷ negsuc 3999 ∷ negsuc 1999 ∷ []) callsOf (dirty (negsuc 5) 4)) (places
-    (place (no 17) 0 4 (4 ∷ 4 ∷ 4 ∷ [])
-    ∷ place (yes (pos 0 ∷ [])) 1 1968 (4 ∷ 4 ∷ 4 ∷ [])
-    ∷ place (no 41) 1 1968 (4 ∷ 4 ∷ 4 ∷ [])
-    ∷ place (yes (pos 0 ∷ [])) 1 1968 (4 ∷ 4 ∷ 4 ∷ [])
-    ∷ place (yes (pos 1 ∷ [])) 3 3333 (1 ∷ 1 ∷ 0 ∷ [])
-    ∷ place (no 42) 3 3333 (1 ∷ 1 ∷ 0 ∷ [])
+    (place (no 17) 0 4 4 (4 ∷ 4 ∷ 4 ∷ [])
+    ∷ place (yes (pos 0 ∷ [])) 1 1968 5904 (4 ∷ 4 ∷ 4 ∷ [])
+    ∷ place (no 41) 1 1968 5904 (4 ∷ 4 ∷ 4 ∷ [])
+    ∷ place (yes (pos 0 ∷ [])) 1 1968 5904 (4 ∷ 4 ∷ 4 ∷ [])
+    ∷ place (yes (pos 1 ∷ [])) 3 3333 4794 (1 ∷ 1 ∷ 0 ∷ [])
+    ∷ place (no 42) 3 3333 4794 (1 ∷ 1 ∷ 0 ∷ [])
     ∷ []))
     -- of 1 and 7 rounds wanted, none beyond round 3, which ends the run; a list that wants fewer does all it wants
     ∷ row (countIs threeBits frameA callsOf (dirty (pos 9) 8)) (counts 3 8 3)
@@ -318,9 +339,9 @@ pub cases : List Case
 cases = files ++ cuts ++ certificates ++ empties ++ scales ++ calls ++ rounds ++ lists ++ report
 
 pub examples : asked cases ≡ said cases
-unfolding cases fourBits emptied frameD frameE files cuts certificates empties scales calls rounds lists report
+unfolding cases fourBits emptied frameD frameE frameF files cuts certificates empties scales calls rounds lists report
     regular onBit0 callsOf threeBits oneBit frameA answerTo must then replyOf u16At u32At agreement
     maskRight ones lib.Count.onesIn inRange contents countsRight startsRight totalCount numbersAt bodies ascends membersRight bitsRight fileOf codeFile codeFileReply onFrame onWord
-    onPoint onCheck cut cutSearch cutReply lastWhere multiplier step reduced bound gap total divided spin round certificateOf itemsAt follows onItem onItems onCertificate verdict
+    onPoint onCheck cut violation cutSearch cutReply lastWhere multiplier step reduced bound gap total divided spin round certificateOf itemsAt follows onItem onItems onCertificate verdict
     judge judgeReply fits fitsStart next iterate sumsOf limited sound admits callOn call start lentCall frameLine clipZ
 examples = refl

@@ -64,25 +64,25 @@ cases =
       ask = shows threeBits frameA 1;
       say = leaving running 1
           (pos 4000 ∷ pos 4000 ∷ negsuc 1999 ∷ []) (pos 2032 ∷ pos 2032 ∷ negsuc 31 ∷ []) (pos 1968 ∷ pos 1968 ∷ negsuc 1967 ∷ []) (pos 64 ∷ pos 64 ∷ pos 1936 ∷ [])
-          (1968 ∷ []) (4 ∷ []) word000 blank14;
+          (1968 ∷ []) (4 ∷ []) (5904 ∷ []) word000 blank14;
     }
     ∷ record {
       ask = shows threeBits frameA 2;
       say = leaving running 2
           (pos 4064 ∷ pos 4064 ∷ negsuc 63 ∷ []) (pos 2698 ∷ pos 2698 ∷ pos 1302 ∷ []) (pos 3334 ∷ pos 3334 ∷ negsuc 3333 ∷ []) (negsuc 635 ∷ negsuc 635 ∷ pos 4636 ∷ [])
-          (3334 ∷ []) (4 ∷ []) word000 blank14;
+          (3334 ∷ []) (4 ∷ []) (6128 ∷ []) word000 blank14;
     }
     ∷ record {
       ask = shows threeBits frameA 1024;
       say = leaving certified 3
           (pos 3364 ∷ pos 3364 ∷ pos 2636 ∷ []) (pos 3365 ∷ pos 3365 ∷ pos 2635 ∷ []) (pos 3333 ∷ pos 3333 ∷ negsuc 3332 ∷ []) (pos 32 ∷ pos 32 ∷ pos 5968 ∷ [])
-          (3333 ∷ []) (4 ∷ []) word000 (0x01 ∷ 0x00 ∷ 0x01 ∷ 0x00 ∷ 0x00 ∷ 0x00 ∷ 0x05 ∷ 0x0D ∷ 0x00 ∷ 0x00 ∷ 0x04 ∷ 0x00 ∷ 0x00 ∷ 0x00 ∷ []);
+          (3333 ∷ []) (4 ∷ []) (4794 ∷ []) word000 (0x01 ∷ 0x00 ∷ 0x01 ∷ 0x00 ∷ 0x00 ∷ 0x00 ∷ 0x05 ∷ 0x0D ∷ 0x00 ∷ 0x00 ∷ 0x04 ∷ 0x00 ∷ 0x00 ∷ 0x00 ∷ []);
     }
     ∷ record {
       ask = shows threeBits frameB 1024;
       say = leaving certified 3
           (negsuc 3363 ∷ negsuc 3363 ∷ pos 2636 ∷ []) (negsuc 3364 ∷ negsuc 3364 ∷ pos 2635 ∷ []) (negsuc 3332 ∷ negsuc 3332 ∷ negsuc 3332 ∷ []) (negsuc 31 ∷ negsuc 31 ∷ pos 5968 ∷ [])
-          (3333 ∷ []) (7 ∷ []) (1 ∷ 1 ∷ 0 ∷ []) (0x01 ∷ 0x00 ∷ 0x01 ∷ 0x00 ∷ 0x00 ∷ 0x00 ∷ 0x05 ∷ 0x0D ∷ 0x00 ∷ 0x00 ∷ 0x07 ∷ 0x00 ∷ 0x00 ∷ 0x00 ∷ []);
+          (3333 ∷ []) (7 ∷ []) (4794 ∷ []) (1 ∷ 1 ∷ 0 ∷ []) (0x01 ∷ 0x00 ∷ 0x01 ∷ 0x00 ∷ 0x00 ∷ 0x00 ∷ 0x05 ∷ 0x0D ∷ 0x00 ∷ 0x00 ∷ 0x07 ∷ 0x00 ∷ 0x00 ∷ 0x00 ∷ []);
     }
     ∷ record { ask = judged threeBits frameA word000 (withMultiplier 0xCF 0x07); say = reply (gapOf 2) }
     ∷ record { ask = judged threeBits frameA word000 (withMultiplier 0xD0 0x07); say = reply certified }
@@ -92,7 +92,7 @@ cases =
       ask = shows oneBit frameC 1024;
       say = leaving certified 2
           (pos 4096 ∷ []) (pos 4096 ∷ []) (negsuc 4100 ∷ []) (pos 8197 ∷ [])
-          (4101 ∷ []) (1 ∷ []) (0 ∷ []) (0x01 ∷ 0x00 ∷ 0x01 ∷ 0x00 ∷ 0x00 ∷ 0x00 ∷ 0x05 ∷ 0x10 ∷ 0x00 ∷ 0x00 ∷ 0x01 ∷ 0x00 ∷ 0x00 ∷ 0x00 ∷ []);
+          (4101 ∷ []) (1 ∷ []) (4101 ∷ []) (0 ∷ []) (0x01 ∷ 0x00 ∷ 0x01 ∷ 0x00 ∷ 0x00 ∷ 0x00 ∷ 0x05 ∷ 0x10 ∷ 0x00 ∷ 0x00 ∷ 0x01 ∷ 0x00 ∷ 0x00 ∷ 0x00 ∷ []);
     }
     ∷ record { ask = boundIs oneBit frameC 1024; say = number (negsuc 4) }
     ∷ []

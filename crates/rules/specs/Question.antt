@@ -34,7 +34,7 @@ pub data Question : Type 0 where
   boundIs : List ℕ → List ℤ → ℕ → Question
   -- the report's line of a frame
   lineIs : List ℕ → List ℤ → Question
-  -- answer, rounds, multipliers and word at each place of a list of calls from a fresh start
+  -- answer, rounds, multipliers, depths and word at each place of a list of calls from a fresh start
   listIs : List ℕ → List ℤ → List Call → Buffers → Question
   -- the rounds done after such a list, those that its calls count, and the round that ends the run
   countIs : List ℕ → List ℤ → List Call → Buffers → Question
@@ -43,6 +43,7 @@ pub record Place : Type 0 where
   pub reply : Reply
   pub rounds : ℕ
   pub multipliers : List ℕ
+  pub depths : List ℕ
   pub word : List ℕ
 
 pub data Said : Type 0 where
@@ -57,19 +58,19 @@ pub data Said : Type 0 where
 -- ---- the buffers of examples, listed here alone
 -- of one bit and one check, with these copies, offsets and sums; and of three bits and one check, with one number in those of either sign
 abbrev pub buffers : List ℤ → List ℤ → List ℤ → Buffers
-buffers z y x = lent (pos 9 ∷ []) z y x (8 ∷ []) (7 ∷ []) (6 ∷ []) (replicate 15 5)
+buffers z y x = lent (pos 9 ∷ []) z y x (8 ∷ []) (7 ∷ []) (4 ∷ []) (6 ∷ []) (replicate 15 5)
 
 -- of one bit in 32 checks at the ends of 43's limits before round 1,024, with this sum
 abbrev pub extreme : ℤ → Buffers
 extreme x =
-    lent (pos 9 ∷ []) (replicate 32 (pos unit)) (replicate 32 (negℤ (pos offsetLimit))) (x ∷ []) (replicate 32 8) (replicate 32 7) (6 ∷ []) (replicate 324 5)
+    lent (pos 9 ∷ []) (replicate 32 (pos unit)) (replicate 32 (negℤ (pos offsetLimit))) (x ∷ []) (replicate 32 8) (replicate 32 7) (replicate 32 4) (6 ∷ []) (replicate 324 5)
 
 abbrev pub dirty : ℤ → ℕ → Buffers
-dirty z n = lent (replicate 3 z) (replicate 4 z) (replicate 5 z) (replicate 6 z) (replicate 1 n) (replicate 1 n) (replicate 3 n) (replicate 15 n)
+dirty z n = lent (replicate 3 z) (replicate 4 z) (replicate 5 z) (replicate 6 z) (replicate 1 n) (replicate 1 n) (replicate 1 n) (replicate 3 n) (replicate 15 n)
 
--- what a call leaves: spins, copies, offsets and sums, multipliers and masks, word and certificate
-abbrev pub leaving : Reply → ℕ → List ℤ → List ℤ → List ℤ → List ℤ → List ℕ → List ℕ → List ℕ → List ℕ → Said
-leaving a k s z y x b m w c = shown a k (lent s z y x b m w c)
+-- what a call leaves: spins, copies, offsets and sums, multipliers, masks and depths, word and certificate
+abbrev pub leaving : Reply → ℕ → List ℤ → List ℤ → List ℤ → List ℤ → List ℕ → List ℕ → List ℕ → List ℕ → List ℕ → Said
+leaving a k s z y x b m d w c = shown a k (lent s z y x b m d w c)
 
 -- ---- answers
 abbrev shownIn : Called → Said
@@ -78,7 +79,13 @@ shownIn d = shown (replyOf statusValues (d .answer)) (d .run .progress .rounds) 
 abbrev placesIn : List Called → List Place
 placesIn [] = []
 placesIn (d ∷ ds) =
-    record { reply = replyOf statusValues (d .answer); rounds = d .run .progress .rounds; multipliers = d .run .buffers .multipliers; word = d .run .buffers .word }
+    record {
+      reply = replyOf statusValues (d .answer);
+      rounds = d .run .progress .rounds;
+      multipliers = d .run .buffers .multipliers;
+      depths = d .run .buffers .depths;
+      word = d .run .buffers .word;
+    }
     ∷ placesIn ds
 
 -- with the table that a code file has

@@ -1,6 +1,6 @@
 -- One round (document 01, "One round"). Edge lists are in check order, and each check takes its part off the front. Definitions only. Assumes nothing.
 use mathlib.Core.Bool.{Bool, true, false, _&&_}
-use mathlib.Core.List.{List, [], _∷_, _++_}
+use mathlib.Core.List.{List, [], _∷_, _++_, map}
 use mathlib.Core.Option.{Option, some, none}
 use Prim.Native.Nat.{ℕ, zero, suc}
 use lib.ListN.{length, drop}
@@ -56,8 +56,10 @@ offsetsIn [] = []
 offsetsIn (s ∷ ss) = s .offsets ++ offsetsIn ss
 
 abbrev pub entriesIn : List Step → List Entry
-entriesIn [] = []
-entriesIn (s ∷ ss) = s .entry ∷ entriesIn ss
+entriesIn ss = map (λ s. s .entry) ss
+
+abbrev pub depthsIn : List Step → List ℕ
+depthsIn ss = map (λ s. s .depth) ss
 
 -- ---- step 4
 -- "the candidate has a 1 where the spin is negative. A zero spin means no candidate"
@@ -101,6 +103,7 @@ pub record Round : Type 0 where
   pub state : State
   pub sums : List ℤ
   pub entries : List Entry
+  pub depths : List ℕ
   pub word : Option (List Bool)
 
 abbrev pub roundBy : Table → List ℤ → (ℕ → ℤ) → List Step → Round
@@ -109,6 +112,7 @@ roundBy t l f ss = record {
   state = record { copies = copiesIn ss; offsets = offsetsIn ss };
   sums = sumsOf (t .bits) (edges (t .checks)) (record { copies = copiesIn ss; offsets = offsetsIn ss });
   entries = entriesIn ss;
+  depths = depthsIn ss;
   word = certify t l (rowsOf (t .checks) (entriesIn ss)) (candidate (t .bits) f);
 }
 

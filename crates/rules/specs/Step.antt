@@ -1,4 +1,5 @@
--- One check in a round: the multiplier, the new copies and the new offsets (document 01, "One round", steps 2 and 3). Definitions only. Assumes nothing.
+-- One check in a round: the multiplier, the depth, the new copies and the new offsets (document 01, "One round", steps 2 and 3; the depth: document 02, #101).
+-- Definitions only. Assumes nothing.
 use mathlib.Core.Bool.{Bool, cond}
 use mathlib.Core.List.{List, [], _∷_}
 use mathlib.Core.Option.{Option, some, none}
@@ -7,7 +8,7 @@ use lib.IntN.{ℤ, pos, _+ℤ_, _-ℤ_}
 use lib.Signed.{ltZ}
 use Rattle.integers.specs.Clip.{clipZ}
 use Rattle.rules.specs.Parity.{side, left}
-use Rattle.rules.specs.Cut.{cut}
+use Rattle.rules.specs.Cut.{shortfall, cut}
 
 -- "v clipped"
 abbrev pub clips : ℕ → List ℤ → List ℤ
@@ -46,6 +47,7 @@ pub record Step : Type 0 where
   pub copies : List ℤ
   pub offsets : List ℤ
   pub entry : Entry
+  pub depth : ℕ
 
 abbrev pub minus : List ℤ → List ℤ → List ℤ
 minus [] zs = []
@@ -53,12 +55,13 @@ minus (v ∷ vs) [] = []
 minus (v ∷ vs) (z ∷ zs) = (v -ℤ z) ∷ minus vs zs
 
 -- "New y = v − z"
-abbrev pub settle : List ℤ → List ℤ → Entry → Step
-settle vs zs e = record { copies = zs; offsets = minus vs zs; entry = e }
+abbrev pub settle : List ℤ → List ℤ → Entry → ℕ → Step
+settle vs zs e d = record { copies = zs; offsets = minus vs zs; entry = e; depth = d }
 
+-- the depth is that of the cut "on v clipped", "0 for none"
 abbrev pub stepBy : ℕ → List ℤ → Option (List Bool) → Step
-stepBy u vs none = settle vs (clips u vs) inactive
-stepBy u vs (some ts) = settle vs (moves u (multiplier u ts vs) ts vs) (active (multiplier u ts vs) ts)
+stepBy u vs none = settle vs (clips u vs) inactive 0
+stepBy u vs (some ts) = settle vs (moves u (multiplier u ts vs) ts vs) (active (multiplier u ts vs) ts) (shortfall u ts (clips u vs))
 
 -- "the cut search runs on v clipped"
 unfoldable pub step : ℕ → List ℤ → Step

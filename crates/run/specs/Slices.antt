@@ -19,10 +19,10 @@ abbrev pub left : {A : Type 0} → Slice A → List A
 left x = now (x .exit)
 
 -- ---- all buffers, in the order of a call's parameters
-abbrev pub slices : Slice ℤ → Slice ℤ → Slice ℤ → Slice ℤ → Slice ℕ → Slice ℕ → Slice ℕ → Slice ℕ → Both Buffers Buffers
-slices s z y x b k w c = record {
-  entry = lent (s .entry .now) (z .entry .now) (y .entry .now) (x .entry .now) (b .entry .now) (k .entry .now) (w .entry .now) (c .entry .now);
-  exit = lent (s .exit .now) (z .exit .now) (y .exit .now) (x .exit .now) (b .exit .now) (k .exit .now) (w .exit .now) (c .exit .now);
+abbrev pub slices : Slice ℤ → Slice ℤ → Slice ℤ → Slice ℤ → Slice ℕ → Slice ℕ → Slice ℕ → Slice ℕ → Slice ℕ → Both Buffers Buffers
+slices s z y x b k d w c = record {
+  entry = lent (s .entry .now) (z .entry .now) (y .entry .now) (x .entry .now) (b .entry .now) (k .entry .now) (d .entry .now) (w .entry .now) (c .entry .now);
+  exit = lent (s .exit .now) (z .exit .now) (y .exit .now) (x .exit .now) (b .exit .now) (k .exit .now) (d .exit .now) (w .exit .now) (c .exit .now);
 }
 
 -- their lengths: of copies z, offsets y and sums x they are read, of the others told
@@ -34,6 +34,7 @@ lentOf b z y x = by-name (record {
   sums = length x;
   multipliers = b .multipliers;
   masks = b .masks;
+  depths = b .depths;
   word = b .word;
   certificate = b .certificate;
 })
@@ -44,6 +45,7 @@ toldOf b = record {
   spins = length (b .spins);
   multipliers = length (b .multipliers);
   masks = length (b .masks);
+  depths = length (b .depths);
   word = length (b .word);
   certificate = length (b .certificate);
 }

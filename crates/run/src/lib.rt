@@ -92,6 +92,7 @@ pub struct Lent {
     pub spins: usize,
     pub multipliers: usize,
     pub masks: usize,
+    pub depths: usize,
     pub word: usize,
     pub certificate: usize,
 }
@@ -125,6 +126,9 @@ pub(crate) fn long_enough(
         return false;
     }
     if lent.masks < checks {
+        return false;
+    }
+    if lent.depths < checks {
         return false;
     }
     if lent.word < bits {

@@ -1,10 +1,10 @@
 //! fuzz SEED COUNT [FIRST]: a seeded series of cases to the proved decoder and the independent one.
 //!
-//! Each refusal must be met at least a few times over a whole series. 44 is not among them: no run
-//! that passes 43 can meet it.
+//! Each refusal, and cuts of the least and of the greatest depth, must be met at least a few times over a whole
+//! series. Refusal 44 is not among them: no run that passes 43 can meet it.
 
 use harness::cases::compare::{compare, Tally};
-use harness::cases::{make, Case};
+use harness::cases::{make, Case, GREATEST_DEPTH, LEAST_DEPTH};
 use harness::decoder::{Decoder, Refusal};
 use harness::gen::rng::Rng;
 use harness::independent::Independent;
@@ -14,7 +14,7 @@ use std::process::ExitCode;
 
 const DECODERS: [&dyn Decoder; 2] = [&Independent, &Proved];
 const REFUSALS: [u32; 20] = [1, 2, 3, 4, 5, 6, 7, 8, 9, 10, 11, 12, 13, 14, 15, 16, 17, 41, 42, 43];
-/// The least number of times that each refusal has to be met.
+/// The least number of times that each has to be met.
 const FEW: u64 = 5;
 
 fn try_case(seed: u64, index: u64, tally: &mut Tally) -> Result<(), String> {
@@ -24,9 +24,14 @@ fn try_case(seed: u64, index: u64, tally: &mut Tally) -> Result<(), String> {
     outcome.map_err(|what| format!("seed {seed} case {index} ({}): {what}", case.kind()))
 }
 
-fn met(tally: &Tally, number: u32) -> u64 {
-    let label = format!("{:?}", Refusal(number));
-    tally.iter().filter(|((_, answer), _)| *answer == label).map(|(_, count)| count).sum()
+/// All answers that have to be met, as the tally has them.
+fn wanted() -> impl Iterator<Item = String> {
+    let refusals = REFUSALS.into_iter().map(|number| format!("{:?}", Refusal(number)));
+    refusals.chain([LEAST_DEPTH, GREATEST_DEPTH].map(String::from))
+}
+
+fn met(tally: &Tally, wanted: &str) -> u64 {
+    tally.iter().filter(|((_, answer), _)| answer == wanted).map(|(_, count)| count).sum()
 }
 
 fn print(tally: &Tally) {
@@ -45,9 +50,9 @@ fn series(seed: u64, cases: std::ops::Range<u64>) -> Result<(), String> {
         }
     }
     print(&tally);
-    let missing: Vec<u32> = REFUSALS.into_iter().filter(|&number| met(&tally, number) < FEW).collect();
+    let missing: Vec<String> = wanted().filter(|answer| met(&tally, answer) < FEW).collect();
     if whole && !missing.is_empty() {
-        return Err(format!("refusals {missing:?} were met fewer than {FEW} times"));
+        return Err(format!("{missing:?} were met fewer than {FEW} times"));
     }
     let last = format!("fuzz: {count} inputs, {differences} differences");
     if differences > 0 {

@@ -47,14 +47,18 @@ fn code_file(rng: &mut Rng, mut code: Vec<u8>) -> Case {
 
 fn cut(rng: &mut Rng, code: Vec<u8>, table: &Table) -> Case {
     let mut point = frame::point(rng, table.bits);
-    if rng.one_in(12) {
-        frame::damage_point(rng, &mut point);
-    }
     let check = match empty::one_of(rng, table) {
         Some(empty) if rng.one_in(2) => empty,
         _ if rng.one_in(12) => rng.pick(&[table.checks(), table.checks() + 1, 65_536, usize::MAX]),
         _ => rng.below(table.checks()),
     };
+    if check < table.checks() && rng.one_in(2) {
+        let depth = frame::depth(rng);
+        frame::cut_so_deep(rng, table.members_of(check), depth, &mut point);
+    }
+    if rng.one_in(12) {
+        frame::damage_point(rng, &mut point);
+    }
     Case::Cut { code, point, check }
 }
 

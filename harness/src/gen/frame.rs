@@ -2,7 +2,7 @@
 
 use super::codeword;
 use super::rng::Rng;
-use crate::independent::limits::{FRAME_LIMIT, UNIT};
+use crate::independent::limits::{FACET, FRAME_LIMIT, UNIT};
 use crate::independent::table::Table;
 
 /// A channel's frame of the all-zero word: gaussian-like round the gain, clipped to the limits.
@@ -100,6 +100,28 @@ pub fn point(rng: &mut Rng, bits: usize) -> Vec<i32> {
             _ => rng.pick(&[-1, 1]) * (UNIT / 3 + rng.signed(2)),
         })
         .collect()
+}
+
+/// A depth for `cut_so_deep`, mostly near the edges; with none at all the inequality is met, but only just.
+pub fn depth(rng: &mut Rng) -> i32 {
+    let any = rng.between(1, FACET as usize) as i32;
+    rng.pick(&[0, 1, 2, 3, FACET - 1, FACET, any])
+}
+
+/// Sets a check's members so that the inequality of some odd set of them falls short by so much.
+pub fn cut_so_deep(rng: &mut Rng, members: &[u16], depth: i32, point: &mut [i32]) {
+    // What each member adds to the left side: the distances between marks on the way from 0 to its sum.
+    let left = FACET - depth;
+    let mut marks: Vec<i32> = members.iter().skip(1).map(|_| rng.between(0, left as usize) as i32).collect();
+    marks.extend([0, left]);
+    marks.sort_unstable();
+    let mut in_set: Vec<bool> = members.iter().map(|_| rng.one_in(2)).collect();
+    let odd = in_set.iter().filter(|inside| **inside).count() % 2 == 1;
+    in_set.first_mut().into_iter().for_each(|first| *first ^= !odd);
+    for ((&member, marks), inside) in members.iter().zip(marks.windows(2)).zip(in_set) {
+        let added = marks[1] - marks[0];
+        point[usize::from(member)] = if inside { added - UNIT } else { UNIT - added };
+    }
 }
 
 /// Makes a point's length or a spin wrong (16).

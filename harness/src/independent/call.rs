@@ -56,6 +56,7 @@ fn long_enough(table: &Table, lent: &Buffers) -> bool {
         && lent.sums.len() >= bits
         && lent.multipliers.len() >= checks
         && lent.masks.len() >= checks
+        && lent.depths.len() >= checks
         && lent.word.len() >= bits
         && lent.certificate.len() >= certificate_length(checks)
 }
@@ -88,6 +89,7 @@ fn exact<'a>(table: &Table, lent: Buffers<'a>) -> Buffers<'a> {
         sums: &mut lent.sums[..bits],
         multipliers: &mut lent.multipliers[..checks],
         masks: &mut lent.masks[..checks],
+        depths: &mut lent.depths[..checks],
         word: &mut lent.word[..bits],
         certificate: lent.certificate,
     }

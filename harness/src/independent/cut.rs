@@ -3,10 +3,10 @@
 use super::input::test_point;
 use super::limits::{FACET, UNIT};
 use super::table::Table;
-use crate::decoder::Refusal;
+use crate::decoder::{Cut, Refusal};
 
-/// The odd set which the values, from −U to U, violate; 0 if they violate none.
-pub fn mask_of(values: impl Iterator<Item = i32>) -> u32 {
+/// The odd set which the values, from −U to U, violate, and by how much, or none.
+pub fn cut_of(values: impl Iterator<Item = i32>) -> Option<Cut> {
     // Without values the least stays above U, so nothing is violated.
     let (mut mask, mut left, mut least, mut nearest) = (0u32, 0, UNIT + 1, 0);
     for (place, value) in values.enumerate() {
@@ -20,20 +20,15 @@ pub fn mask_of(values: impl Iterator<Item = i32>) -> u32 {
         mask ^= 1 << nearest;
         left += 2 * least;
     }
-    if left < FACET {
-        mask
-    } else {
-        0
-    }
+    (left < FACET).then(|| Cut { mask, depth: (FACET - left) as u32 })
 }
 
-pub fn search(code: &[u8], spins: &[i32], check: usize) -> Result<Option<u32>, Refusal> {
+pub fn search(code: &[u8], spins: &[i32], check: usize) -> Result<Option<Cut>, Refusal> {
     let table = Table::parse(code)?;
     test_point(&table, spins)?;
     if check >= table.checks() {
         return Err(Refusal::REQUEST);
     }
     let members = table.members_of(check).iter();
-    let mask = mask_of(members.map(|&member| spins[usize::from(member)]));
-    Ok((mask != 0).then_some(mask))
+    Ok(cut_of(members.map(|&member| spins[usize::from(member)])))
 }

@@ -1,5 +1,5 @@
-//! The rounds as a receiver would run them. The pass over the checks looks at each edge, finds cut and
-//! multiplier of the check in one, and stores the edge, adding it to its bit's sum for the next round.
+//! The rounds as a receiver would run them. The pass over the checks looks at each edge, finds cut, multiplier
+//! and depth of the check in one, and stores the edge, adding it to its bit's sum for the next round.
 
 use super::certificate::{bound, cuts, write};
 use super::input::agreement;
@@ -104,6 +104,7 @@ fn pass(table: &Table, bits: &mut Bits, lent: &mut Buffers) -> bool {
             offsets: &mut lent.offsets[run.edges.clone()],
             multipliers: &mut lent.multipliers[run.checks.clone()],
             masks: &mut lent.masks[run.checks.clone()],
+            depths: &mut lent.depths[run.checks.clone()],
         };
         broken |= match run.degree {
             0 => part.clear(),
@@ -120,6 +121,7 @@ struct Part<'a> {
     offsets: &'a mut [i32],
     multipliers: &'a mut [u32],
     masks: &'a mut [u32],
+    depths: &'a mut [u32],
 }
 
 impl Part<'_> {
@@ -127,6 +129,7 @@ impl Part<'_> {
     fn clear(self) -> i32 {
         self.multipliers.fill(0);
         self.masks.fill(0);
+        self.depths.fill(0);
         0
     }
 
@@ -136,16 +139,18 @@ impl Part<'_> {
         let members = self.members.as_chunks::<D>().0.iter();
         let copies = self.copies.as_chunks_mut::<D>().0.iter_mut();
         let offsets = self.offsets.as_chunks_mut::<D>().0.iter_mut();
-        let cuts = self.multipliers.iter_mut().zip(self.masks);
-        for (((members, copies), offsets), (multiplier, mask)) in members.zip(copies).zip(offsets).zip(cuts) {
+        let edges = members.zip(copies).zip(offsets);
+        let cuts = self.multipliers.iter_mut().zip(self.masks).zip(self.depths);
+        for (((members, copies), offsets), ((multiplier, mask), depth)) in edges.zip(cuts) {
             let seen = look(bits, members, offsets);
             broken |= seen.spin_signs;
             // The last round's multiplier is mostly near.
-            let b = least(&seen.shares, seen.change(), *multiplier);
+            let (b, lack) = least(&seen.shares, seen.change(), *multiplier);
             let turned = seen.turned();
             move_copies(bits, members, copies, offsets, &seen, b, turned);
             *multiplier = b as u32;
             *mask = if b == 0 { 0 } else { seen.negative ^ turned };
+            *depth = lack as u32;
         }
         broken
     }

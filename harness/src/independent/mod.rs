@@ -16,7 +16,7 @@ pub mod table;
 #[cfg(test)]
 mod tests;
 
-use crate::decoder::{Buffers, Called, Decoder, Record, Refusal, Sizes, StartBuffers, Verdict};
+use crate::decoder::{Buffers, Called, Cut, Decoder, Record, Refusal, Sizes, StartBuffers, Verdict};
 
 pub struct Independent;
 pub struct Plain;
@@ -32,7 +32,7 @@ macro_rules! decoder {
                 Ok(table::Table::parse(code)?.sizes())
             }
 
-            fn search_cut(&self, code: &[u8], spins: &[i32], check: usize) -> Result<Option<u32>, Refusal> {
+            fn search_cut(&self, code: &[u8], spins: &[i32], check: usize) -> Result<Option<Cut>, Refusal> {
                 cut::search(code, spins, check)
             }
 

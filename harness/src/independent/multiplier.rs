@@ -1,10 +1,10 @@
-//! Cut and multiplier of a check in one, by projection onto a simplex.
+//! Cut, multiplier and depth of a check in one, by projection onto a simplex.
 //!
 //! The cut search's set holds the negative v, but for the member nearest to 0, which changes sides if
 //! they are even in number. So the set's inequality after a step by b reads Σ max(h + b, 0) + change ≥ 2U
 //! for the heights h = U − |v|, where change is twice the least |v| or nothing. (The upper clip never
 //! matters: one member that reaches 2U meets the inequality alone.) At b = 0 this is the cut search's
-//! own test, so the least b from 0 on is the multiplier, and 0 without a cut.
+//! own test, on v clipped, so what it lacks there is the depth, and the least b from 0 on is the multiplier.
 
 use super::limits::{DEGREE_LIMIT, FACET, MULTIPLIER_LIMIT};
 
@@ -34,28 +34,28 @@ fn step(lack: i32, sum: i64) -> i32 {
     ((raised * RECIPROCALS[count & (2 * DEGREE_LIMIT - 1)]) >> SHIFT) as i32
 }
 
-/// The least b from 0 on that meets the inequality.
+/// The least b from 0 on that meets the inequality, and what the inequality lacks at 0; without a cut both are 0.
 ///
 /// Each set of members gives a b that is enough. Members with h + b ≤ 0 there add nothing at the least b
 /// either, and those left give a b no greater; where the set stays the same, its b is the least. The
 /// first set is taken at `guess`, which may be any number; a good one saves steps.
 #[inline(always)]
-pub fn least<const D: usize>(shares: &[i64; D], change: i32, guess: u32) -> i32 {
-    let mut sum = above(shares, guess.min(MULTIPLIER_LIMIT) as i32);
+pub fn least<const D: usize>(shares: &[i64; D], change: i32, guess: u32) -> (i32, i32) {
     let enough = FACET - change;
-    if sum == 0 && enough > 0 {
+    let depth = enough - above(shares, 0) as i32;
+    if depth <= 0 {
+        return (0, 0);
+    }
+    let mut sum = above(shares, guess.min(MULTIPLIER_LIMIT) as i32);
+    if sum == 0 {
         sum = shares.iter().sum();
     }
     loop {
-        let lack = enough - sum as i32;
-        if lack <= 0 {
-            return 0;
-        }
-        let b = step(lack, sum);
+        let b = step(enough - sum as i32, sum);
         let before = sum;
         sum = above(shares, b);
         if sum == before {
-            return b;
+            return (b, depth);
         }
     }
 }

@@ -1,11 +1,11 @@
 //! The round as the paper has it, step by step, with no thought of speed.
 
 use super::certificate::{bound, cuts, write};
-use super::cut::mask_of;
+use super::cut::cut_of;
 use super::input::agreement;
 use super::limits::{FACET, GREATEST_MULTIPLIER, MULTIPLIER_LIMIT, ROUND_LIMIT, UNIT};
 use super::table::Table;
-use crate::decoder::{Buffers, Record};
+use crate::decoder::{Buffers, Cut, Record};
 
 pub fn run(table: &Table, frame: &[i16], mut record: Record, wanted: u32, mut lent: Buffers) -> Record {
     for _ in 0..wanted {
@@ -76,8 +76,12 @@ fn relax(table: &Table, check: usize, lent: &mut Buffers) {
     let row = table.row(check);
     let edge_spins = table.members[row.clone()].iter().map(|&member| lent.spins[usize::from(member)]);
     let values: Vec<i32> = edge_spins.zip(&lent.offsets[row.clone()]).map(|(spin, y)| spin + y).collect();
-    let mask = mask_of(values.iter().map(|&v| clip(v)));
-    let multiplier = if mask == 0 { 0 } else { least_multiplier(&values, mask) };
+    let (mask, multiplier, depth) = match cut_of(values.iter().map(|&v| clip(v))) {
+        None => (0, 0, 0),
+        Some(Cut { mask, .. }) => {
+            (mask, least_multiplier(&values, mask), FACET - left_side(&values, mask, 0))
+        }
+    };
     // So no call is refused with 44.
     assert!(multiplier <= GREATEST_MULTIPLIER, "multiplier {multiplier}");
     for (place, edge) in row.enumerate() {
@@ -86,6 +90,7 @@ fn relax(table: &Table, check: usize, lent: &mut Buffers) {
     }
     lent.multipliers[check] = multiplier as u32;
     lent.masks[check] = mask;
+    lent.depths[check] = depth as u32;
 }
 
 fn in_set(mask: u32, place: usize) -> bool {
@@ -98,7 +103,8 @@ fn moved(values: &[i32], mask: u32, multiplier: i32, place: usize) -> i32 {
     clip(values[place] + step)
 }
 
-fn meets(values: &[i32], mask: u32, multiplier: i32) -> bool {
+/// The left side of the set's inequality after the step; at multiplier 0 that of the values clipped.
+fn left_side(values: &[i32], mask: u32, multiplier: i32) -> i32 {
     let term = |place| {
         let z = moved(values, mask, multiplier, place);
         if in_set(mask, place) {
@@ -107,7 +113,7 @@ fn meets(values: &[i32], mask: u32, multiplier: i32) -> bool {
             UNIT - z
         }
     };
-    (0..values.len()).map(term).sum::<i32>() >= FACET
+    (0..values.len()).map(term).sum()
 }
 
 /// The least whole number that meets the set's inequality, by bisection.
@@ -115,7 +121,7 @@ pub fn least_multiplier(values: &[i32], mask: u32) -> i32 {
     let (mut fails, mut met) = (0, MULTIPLIER_LIMIT as i32 + 1);
     while met - fails > 1 {
         let middle = fails + (met - fails) / 2;
-        if meets(values, mask, middle) {
+        if left_side(values, mask, middle) >= FACET {
             met = middle;
         } else {
             fails = middle;

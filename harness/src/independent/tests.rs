@@ -1,10 +1,11 @@
 //! The division of totals, the cut search and the projection against the paper's own words.
 
-use super::cut::mask_of;
+use super::cut::cut_of;
 use super::fast::{reciprocal_of, spin_size};
 use super::limits::{DEGREE_LIMIT, FRAME_LIMIT, OFFSET_STEP, ROUND_LIMIT, UNIT};
 use super::multiplier::{least, MEMBER};
 use super::plain::{least_multiplier, nearest};
+use crate::decoder::Cut;
 use crate::gen::rng::Rng;
 
 #[test]
@@ -42,7 +43,7 @@ fn division_is_exact() {
     }
 }
 
-/// The search's answer is the one odd set whose inequality fails, found by trying them all.
+/// The search's answer is the one odd set whose inequality fails, and what it lacks, found by trying them all.
 #[test]
 fn cut_search_is_exact() {
     let mut rng = Rng::new(1);
@@ -54,10 +55,10 @@ fn cut_search_is_exact() {
             let signed = |k: usize| if mask >> k & 1 == 1 { values[k] } else { -values[k] };
             (0..degree).map(|k| UNIT + signed(k)).sum()
         };
-        let violated: Vec<u32> =
-            (0..1u32 << degree).filter(|mask| mask.count_ones() % 2 == 1 && left(*mask) < 2 * UNIT).collect();
-        let found = mask_of(values.iter().copied());
-        assert_eq!(violated, if found == 0 { vec![] } else { vec![found] }, "{values:?}");
+        let odd = (0..1u32 << degree).filter(|mask| mask.count_ones() % 2 == 1);
+        let lacking = odd.map(|mask| (mask, 2 * UNIT - left(mask))).filter(|&(_, lack)| lack > 0);
+        let violated: Vec<Cut> = lacking.map(|(mask, lack)| Cut { mask, depth: lack as u32 }).collect();
+        assert_eq!(violated, Vec::from_iter(cut_of(values.iter().copied())), "{values:?}");
     }
 }
 
@@ -72,7 +73,7 @@ fn spin_near(rng: &mut Rng, reach: i32) -> i32 {
 }
 
 #[test]
-fn projection_is_the_least_multiplier() {
+fn projection_is_the_least_multiplier_and_the_depth() {
     let mut rng = Rng::new(2);
     let mut cuts = 0;
     for _ in 0..20_000 {
@@ -82,7 +83,7 @@ fn projection_is_the_least_multiplier() {
     assert!(cuts > 4_000, "{cuts}");
 }
 
-/// Compares both ways to the multiplier on random values; answers whether there was a cut.
+/// Compares both ways to multiplier and depth on random values; answers whether there was a cut.
 fn projected<const D: usize>(rng: &mut Rng) -> bool {
     let reach = rng.pick(&[UNIT, 3 * UNIT, 8_380_000]);
     let far = rng.one_in(4);
@@ -92,9 +93,9 @@ fn projected<const D: usize>(rng: &mut Rng) -> bool {
     let nearest = values.iter().map(|v| v.abs()).min().unwrap();
     let change = if negative % 2 == 0 { 2 * nearest } else { 0 };
     let shares = values.map(|v| i64::from(UNIT - v.abs()) + MEMBER);
-    let mask = mask_of(values.iter().map(|v| *v.clamp(&-UNIT, &UNIT)));
-    let expected = if mask == 0 { 0 } else { least_multiplier(&values, mask) };
-    let guess = rng.pick(&[0, 1, expected as u32, 5_000, u32::MAX]);
+    let cut = cut_of(values.iter().map(|v| *v.clamp(&-UNIT, &UNIT)));
+    let expected = cut.map_or((0, 0), |cut| (least_multiplier(&values, cut.mask), cut.depth as i32));
+    let guess = rng.pick(&[0, 1, expected.0 as u32, 5_000, u32::MAX]);
     assert_eq!(least(&shares, change, guess), expected, "{values:?}");
-    mask != 0
+    cut.is_some()
 }

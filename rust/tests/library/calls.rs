@@ -19,7 +19,11 @@ struct Left {
     sums: [i32; 4],
     multipliers: [u32; 2],
     masks: [u32; 2],
+    depths: [u32; 2],
 }
+
+/// How many sums and depths there are to lend.
+const ALL: [usize; 2] = [4, 2];
 
 impl Left {
     /// What a start leaves among numbers that no call writes.
@@ -27,11 +31,12 @@ impl Left {
         let started = [0, 0, 0, -77];
         let junk = [-77; 4];
         let (copies, offsets, sums) = (started, started, started);
-        Left { spins: junk, copies, offsets, sums, multipliers: [77; 2], masks: [77; 2] }
+        let (multipliers, masks, depths) = ([77; 2], [77; 2], [77; 2]);
+        Left { spins: junk, copies, offsets, sums, multipliers, masks, depths }
     }
 
-    /// A call for rounds that lends so many sums.
-    fn call(&mut self, record: Record, wanted: u32, sums: usize) -> Called {
+    /// A call for rounds that lends so many sums and depths.
+    fn call(&mut self, record: Record, wanted: u32, [sums, depths]: [usize; 2]) -> Called {
         let (word, certificate) = (&mut [0; 3], &mut [0; 14]);
         let lent = Buffers {
             spins: &mut self.spins,
@@ -40,15 +45,16 @@ impl Left {
             sums: &mut self.sums[..sums],
             multipliers: &mut self.multipliers,
             masks: &mut self.masks,
+            depths: &mut self.depths[..depths],
             word,
             certificate,
         };
         rounds(three().file(), &FRAME, record, wanted, lent)
     }
 
-    fn is_refused(&mut self, record: Record, wanted: u32, sums: usize, refusal: Refusal) {
+    fn is_refused(&mut self, record: Record, wanted: u32, lent: [usize; 2], refusal: Refusal) {
         let before = self.clone();
-        assert_eq!(self.call(record, wanted, sums), Called::refused(refusal, record));
+        assert_eq!(self.call(record, wanted, lent), Called::refused(refusal, record));
         assert_eq!(*self, before);
     }
 }
@@ -69,24 +75,41 @@ fn start_wants_a_sum_for_each_bit() {
 fn round_takes_and_leaves_sums() {
     let mut left = Left::started();
     let first = Record { rounds: 1, status: Record::RUNNING };
-    assert_eq!(left.call(Record::FRESH, 1, 4), Called::done(first));
+    assert_eq!(left.call(Record::FRESH, 1, ALL), Called::done(first));
     assert_eq!(left.sums, [64, 64, 1936, -77]);
-    assert_eq!(left.call(first, 1, 3), Called::done(Record { rounds: 2, status: Record::RUNNING }));
+    assert_eq!(left.call(first, 1, [3, 1]), Called::done(Record { rounds: 2, status: Record::RUNNING }));
     assert_eq!((left.spins, left.sums), ([4064, 4064, -64, -77], [-636, -636, 4636, -77]));
 }
 
 #[test]
 fn wrong_and_missing_sums_are_refused() {
     let mut left = Left::started();
-    let Called { record, .. } = left.call(Record::FRESH, 1, 4);
-    left.is_refused(record, 1, 2, Refusal::BUFFER);
+    let Called { record, .. } = left.call(Record::FRESH, 1, ALL);
+    left.is_refused(record, 1, [2, 2], Refusal::BUFFER);
     for wrong in [65, 63, 0, i32::MIN, i32::MAX] {
         left.sums[1] = wrong;
         for wanted in [0, 1, 1024] {
-            left.is_refused(record, wanted, 4, Refusal::STATE);
+            left.is_refused(record, wanted, ALL, Refusal::STATE);
         }
-        left.is_refused(Record { status: Record::SPENT, ..record }, 1, 4, Refusal::ENDED);
+        left.is_refused(Record { status: Record::SPENT, ..record }, 1, ALL, Refusal::ENDED);
     }
     left.sums[1] = 64;
-    assert_eq!(left.call(record, 0, 4), Called::done(record));
+    assert_eq!(left.call(record, 0, ALL), Called::done(record));
+}
+
+/// Whatever stands in the depths: a round writes them, and is refused without room for them.
+#[test]
+fn round_leaves_depths() {
+    let mut left = Left::started();
+    left.is_refused(Record::FRESH, 1, [4, 0], Refusal::BUFFER);
+    left.is_refused(Record { rounds: 1, status: Record::SPENT }, 0, [4, 0], Refusal::BUFFER);
+    let mut record = Record::FRESH;
+    for depth in [5904, 6128, 4794] {
+        assert_eq!(left.call(record, 0, ALL), Called::done(record));
+        assert_eq!(left.depths[1], 77);
+        left.depths[0] = u32::MAX;
+        record = left.call(record, 1, ALL).record;
+        assert_eq!(left.depths, [depth, 77]);
+    }
+    assert_eq!(record, Record { rounds: 3, status: Record::CERTIFIED });
 }

@@ -1,6 +1,6 @@
 //! Runs, round by round and whole.
 
-use jugnayap::{Answer, Code, Refusal, Run, Verdict};
+use jugnayap::{Answer, Code, Cut, Refusal, Run, Verdict};
 
 use crate::gen::{frame, small, Rng};
 
@@ -10,11 +10,11 @@ fn ring() -> Code {
 }
 
 /// All that a run shows.
-type View<'r> = (u32, [&'r [i32]; 4], [&'r [u32]; 2]);
+type View<'r> = (u32, [&'r [i32]; 4], [&'r [u32]; 3]);
 
 fn view<'r>(run: &'r Run) -> View<'r> {
     let edges_and_bits = [run.spins(), run.copies(), run.offsets(), run.sums()];
-    (run.rounds_done(), edges_and_bits, [run.multipliers(), run.masks()])
+    (run.rounds_done(), edges_and_bits, [run.multipliers(), run.masks(), run.depths()])
 }
 
 /// The first reference frame, after its first round.
@@ -24,7 +24,7 @@ fn shows_what_a_round_leaves() {
     let mut run = Run::start(&code);
     run.rounds(&[4000, 4000, -2000], 1).unwrap();
     let (spins, copies, offsets) = ([4000, 4000, -2000], [2032, 2032, -32], [1968, 1968, -1968]);
-    let left: View = (1, [&spins, &copies, &offsets, &[64, 64, 1936]], [&[1968], &[4]]);
+    let left: View = (1, [&spins, &copies, &offsets, &[64, 64, 1936]], [&[1968], &[4], &[5904]]);
     assert_eq!(view(&run), left);
 }
 
@@ -38,6 +38,7 @@ fn empty_checks_have_no_cut() {
     assert_eq!((found.rounds, found.word.to_string().as_str()), (3, "000"));
     assert_eq!(found.certificate.to_string(), "scale 1 1:3333:4");
     assert_eq!((run.multipliers(), run.masks()), (&[0, 3333, 0][..], &[0, 4, 0][..]));
+    assert_eq!(run.depths(), [0, 4794, 0]);
     assert_eq!(code.search_cut(&[-4096, 4096, 4096], 2), Ok(None));
     assert_eq!(code.judge(&frame, &found.word, &found.certificate), Ok(Verdict::Certified));
     for (entry, refusal) in
@@ -45,6 +46,32 @@ fn empty_checks_have_no_cut() {
     {
         let certificate = format!("scale 1 {entry}").parse().unwrap();
         assert_eq!(code.judge(&frame, &found.word, &certificate), Err(refusal), "{entry}");
+    }
+}
+
+/// Two checks of two members, whose depth is how far v clipped is apart on them: (0, 3000) and (3000, -4000),
+/// then (1500, 2500) and (4096, -4096), then (2000, 2000), which is no cut, and (4096, -4000).
+#[test]
+fn depths_follow_the_cuts() {
+    let code = Code::from_checks(3, &[[0, 1], [1, 2]]).unwrap();
+    let mut run = Run::start(&code);
+    for depths in [[3000, 7000], [1000, 8192], [0, 8096]] {
+        run.rounds(&[0, 6000, -4000], 1).unwrap();
+        assert_eq!(run.depths(), depths);
+    }
+}
+
+#[test]
+fn depths_of_the_cut_search() {
+    let code = Code::from_checks(4, &[vec![0, 1, 2], vec![3]]).unwrap();
+    for (spins, cuts) in [
+        ([1365, 1365, -1366, 4096], [None, None]),
+        ([1365, 1365, -1367, 4095], [Some((4, 1)), Some((1, 1))]),
+        ([4096, -4096, 4096, -4096], [Some((2, 8192)), Some((1, 8192))]),
+        ([-4096, -3000, -2000, 0], [Some((7, 5000)), Some((1, 4096))]),
+    ] {
+        let expected = cuts.map(|cut| Ok(cut.map(|(mask, depth)| Cut { mask, depth })));
+        assert_eq!([0, 1].map(|check| code.search_cut(&spins, check)), expected, "{spins:?}");
     }
 }
 
@@ -162,7 +189,7 @@ fn restarted_is_fresh() {
     }
     let zeros = vec![0; code.edges()];
     let (bits, checks) = (&zeros[..code.bits()], vec![0; code.checks()]);
-    assert_eq!(view(&run), (0, [bits, &zeros, &zeros, bits], [&checks[..], &checks[..]]));
+    assert_eq!(view(&run), (0, [bits, &zeros, &zeros, bits], [&checks[..]; 3]));
 }
 
 /// What a certified run shows is what it answers.

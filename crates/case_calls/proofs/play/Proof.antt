@@ -12,13 +12,13 @@ use Rattle.case_calls.proofs.play.Tie as tie
 
 -- the lengths of the inputs and of the buffers
 abbrev Inv-loop : tie.InvT-loop
-Inv-loop code₀ frame₀ s₀ z₀ y₀ x₀ b₀ k₀ w₀ q₀ run₀ command₀ left₀ code frame s z y x b k w q run command left =
+Inv-loop code₀ frame₀ s₀ z₀ y₀ x₀ b₀ k₀ d₀ w₀ q₀ run₀ command₀ left₀ code frame s z y x b k d w q run command left =
     (length code ≡ length code₀) × (length frame ≡ length frame₀)
-    × (length s ≡ bitsRoom) × (length z ≡ edgesRoom) × (length y ≡ edgesRoom) × (length x ≡ bitsRoom) × (length b ≡ checksRoom) × (length k ≡ checksRoom) × (length w ≡ bitsRoom)
-    × (length q ≡ certificateRoom)
+    × (length s ≡ bitsRoom) × (length z ≡ edgesRoom) × (length y ≡ edgesRoom) × (length x ≡ bitsRoom) × (length b ≡ checksRoom) × (length k ≡ checksRoom) × (length d ≡ checksRoom)
+    × (length w ≡ bitsRoom) × (length q ≡ certificateRoom)
 
 abbrev μ-loop : tie.MeasureT-loop
-μ-loop code₀ frame₀ s₀ z₀ y₀ x₀ b₀ k₀ w₀ q₀ run₀ command₀ left₀ code frame s z y x b k w q run command left = left
+μ-loop code₀ frame₀ s₀ z₀ y₀ x₀ b₀ k₀ d₀ w₀ q₀ run₀ command₀ left₀ code frame s z y x b k d w q run command left = left
 
 -- a part that comes back as long as it was lent leaves the whole as long as it was
 back : {A : Type 0} {size : ℕ} (p : List A) (n : ℕ) (l : List A) → length l ≡ size → length p ≡ length (take n l) → length (p ++ drop n l) ≡ size
@@ -51,6 +51,7 @@ loop-again c =
       search (back, inv .7, kept),
       search (back, inv .8, kept),
       search (back, inv .9, kept),
+      search (back, inv .10, kept),
     )
 
 loop-less-2 : tie.Need-loop-less-2 Inv-loop μ-loop
@@ -75,6 +76,7 @@ loop-again-2 c =
       inv .7,
       inv .8,
       inv .9,
+      inv .10,
     )
 
 slice-aggregate-on-state : tie.Need-slice-aggregate-on-state Inv-loop μ-loop
@@ -102,6 +104,8 @@ play-spec =
     (λ c κs. search needs)
     (λ c. search needs)
     (λ c κs. search needs)
+    (λ c. search needs)
+    (λ c. simp length-take (omega arith))
     (λ c. search needs)
     (λ c. simp length-take (omega arith))
     (λ c. search needs)

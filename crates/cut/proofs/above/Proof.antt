@@ -4,7 +4,8 @@ use lib.IntN.{pos, natAbs}
 use mir.Facts.{toZ-ofZ}
 use Rattle.integers.specs.Linear.{lin, arithZ, _⩽_}
 use Rattle.integers.specs.Machine.{to-unsigned}
-use Rattle.cut.proofs.ValueLaws.{up-none, up-all}
+use Rattle.integers.specs.Order.{up-none}
+use Rattle.cut.proofs.ValueLaws.{up-all}
 use Rattle.cut.proofs.above.Statement.{statement}
 use Rattle.cut.proofs.above.Tie as tie
 

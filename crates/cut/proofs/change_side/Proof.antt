@@ -24,7 +24,7 @@ returns c =
     let put = c .before .before .before in
     let told = put .before .before in
     let args = told .before .args in
-    changes-is (args .s) (args .heights .now) _ _ _ (c .before .bit .ensures) (put .put .ensures)
+    changes-is (args .s) (args .heights .now) (args .depth) _ _ _ (c .before .bit .ensures) (put .put .ensures)
     (toZ-ofZ (sub-raised told) ∙ ap (λ z. pos (2 * unit) -ℤ z) (toZ-ofZ (top-fits told)))
 
 pub change-side-spec : {M : Type 1} → statement M

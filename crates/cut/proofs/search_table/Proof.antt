@@ -1,4 +1,4 @@
--- `search_table` meets its contract: each return has the refusal or the mask. Assumes nothing.
+-- `search_table` meets its contract: each return has the refusal or mask and depth. Assumes nothing.
 use mathlib.Core.Path.{_≡_, sym, _∙_, ap, subst}
 use Prim.Native.Nat.{ℕ}
 use native.Mathlib.Omega.{arith}
@@ -6,7 +6,7 @@ use lib.ListN.{length}
 use Rattle.table.specs.Layout.{checksFrom, Holds}
 use Rattle.table.proofs.LayoutLaws.{starts-long}
 use Rattle.cut.specs.Search.{searchRefusal}
-use Rattle.cut.proofs.ReplyLaws.{point-right, none-refused, search-turned, search-mask}
+use Rattle.cut.proofs.ReplyLaws.{point-right, none-refused, search-turned, search-cut}
 use Rattle.cut.proofs.search_table.Statement.{statement}
 use Rattle.cut.proofs.search_table.Tie as tie
 
@@ -36,7 +36,7 @@ returns-2 : tie.Need-returns-2
 returns-2 c =
     let refused = c .before .before .before in
     let none = sym (refusal-is (refused .before .before .before) _ (refused .refusal .ensures)) ∙ c .before .before .if1 .left in
-    search-mask _ _ _ _ _ none (c .before .check-cut .ensures) (c .answer-of .ensures)
+    search-cut _ _ _ _ _ _ none (c .before .check-cut .ensures) (c .answer-of .ensures)
 
 pub search-table-spec : {M : Type 1} → statement M
 search-table-spec = tie.close (tie.spec (λ c κs. tt) returns check-cut-requires (λ c κs. tt) returns-2)

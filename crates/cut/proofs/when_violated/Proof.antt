@@ -1,7 +1,6 @@
 -- `when_violated` meets its contract. Assumes nothing.
 use Prim.Native.Nat.{_*_, _≤_, _<_}
 use native.Mathlib.Omega.{arith}
-use borrow.Author.Needs.{needs}
 use borrow.Author.Tests.{lt-ltb, le-ltb}
 use Rattle.rules.specs.Limits.{unit}
 use Rattle.inputs.proofs.RefusalLaws.{test-holds, test-fails}
@@ -19,4 +18,4 @@ returns-2 c =
     test-fails _ _ _ (le-ltb _ _ from)
 
 pub when-violated-spec : {M : Type 1} → statement M
-when-violated-spec = tie.close (tie.spec (λ c. search needs) returns returns-2)
+when-violated-spec = tie.close (tie.spec returns returns-2)

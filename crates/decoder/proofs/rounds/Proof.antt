@@ -28,7 +28,7 @@ admitted c = search
 abbrev runAt : tie.Start → Run
 runAt s =
     let a = s .args in
-    runIn (a .run) (lent (a .spins .now) (a .copies .now) (a .offsets .now) (a .sums .now) (a .multipliers .now) (a .masks .now) (a .word .now) (a .certificate .now))
+    runIn (a .run) (lent (a .spins .now) (a .copies .now) (a .offsets .now) (a .sums .now) (a .multipliers .now) (a .masks .now) (a .depths .now) (a .word .now) (a .certificate .now))
 
 perform-requires : tie.Need-perform-requires
 perform-requires c κs =
@@ -66,6 +66,7 @@ rounds-spec =
     (λ c. search needs)
     (λ c. search needs)
     returns
+    (λ c. search needs)
     (λ c. search needs)
     (λ c. search needs)
     (λ c. search needs)

@@ -16,6 +16,7 @@ long-enough-spec =
     (λ c. short _ _ (λ f. omega arith))
     (λ c. short _ _ (λ f. omega arith))
     (λ c. short _ _ (λ f. omega arith))
+    (λ c. short _ _ (λ f. omega arith))
     (λ c. search needs)
     (λ c. search needs)
     (λ c. short _ _ (λ f. omega arith))

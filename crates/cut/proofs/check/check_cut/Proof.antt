@@ -1,5 +1,5 @@
 -- `check_cut` meets its contract. Assumes nothing.
-use mathlib.Core.Path.{sym, _∙_, ap, subst}
+use mathlib.Core.Path.{sym, subst}
 use Prim.Native.Nat.{ℕ, _+_, _≤_, _<_}
 use native.Mathlib.Omega.{arith}
 use lib.ListN.{length, getD}
@@ -7,11 +7,10 @@ use borrow.Author.Needs.{needs}
 use Rattle.rules.specs.Limits.{unit, maxDegree}
 use Rattle.rules.specs.Table.{at, valuesAt}
 use Rattle.rules.specs.Sound.{Below}
-use Rattle.rules.specs.Cut.{cut}
 use Rattle.rules.specs.Step.{clips}
 use Rattle.table.specs.Layout.{checksFrom}
 use Rattle.table.proofs.LayoutLaws.{starts-long, part-in, part-lent, part-degree, part-below}
-use Rattle.cut.specs.CutMask.{cutMask}
+use Rattle.cut.specs.CutMask.{CutIs}
 use Rattle.cut.proofs.check.check_cut.Statement.{statement}
 use Rattle.cut.proofs.check.check_cut.Tie as tie
 
@@ -53,9 +52,9 @@ members-cut-requires c κs =
 returns : tie.Need-returns
 returns c =
     let start = c .before .before .before .before .before .before .before .before in
-    c .members-cut .ensures
-    ∙ ap (λ l. cutMask (cut unit (clips unit (valuesAt (at (start .args .spins .now)) l))))
+    subst (λ l. CutIs (clips unit (valuesAt (at (start .args .spins .now)) l)) (c .members-cut .result .mask) (c .members-cut .result .depth))
     (part-lent _ _ _ (start .pre .0) _ (check start) (c .before .before .before .before .wide .ensures) (c .before .before .wide2 .ensures))
+    (c .members-cut .ensures)
 
 pub check-cut-spec : {M : Type 1} → statement M
 check-cut-spec =

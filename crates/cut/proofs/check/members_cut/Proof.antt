@@ -1,14 +1,13 @@
 -- `members_cut` meets its contract. Assumes nothing.
-use mathlib.Core.Path.{_∙_, ap}
+use mathlib.Core.Path.{subst}
 use native.Mathlib.Omega.{arith}
 use borrow.Author.Needs.{needs}
 use Rattle.rules.specs.Limits.{unit}
 use Rattle.rules.specs.Table.{at}
-use Rattle.rules.specs.Cut.{cut}
 use Rattle.rules.specs.Step.{clips}
-use Rattle.cut.specs.CutMask.{cutMask}
+use Rattle.cut.specs.CutMask.{CutIs}
 use Rattle.cut.proofs.GatherLaws.{front-is, front-length}
-use Rattle.cut.proofs.SeeLaws.{seen-mask}
+use Rattle.cut.proofs.SeeLaws.{seen-cut}
 use Rattle.cut.proofs.check.members_cut.Statement.{statement}
 use Rattle.cut.proofs.check.members_cut.Tie as tie
 
@@ -22,9 +21,9 @@ returns c =
     let start = c .before .before .before .before .before .before .before .before in
     let gathered = c .before .before .before .before .before .gather .ensures in
     let long = front-length (at (start .args .spins .now)) (start .args .members .now) _ _ gathered in
-    ap (λ r. r .mask) (c .before .see .ensures)
-    ∙ seen-mask _ _ (omega (arith, long, start .pre .0)) (omega (arith, long, start .pre .0))
-    ∙ ap (λ l. cutMask (cut unit (clips unit l))) (front-is (at (start .args .spins .now)) (start .args .members .now) _ _ gathered)
+    subst (λ l. CutIs (clips unit l) (c .before .see .result .mask) (c .before .see .result .depth))
+    (front-is (at (start .args .spins .now)) (start .args .members .now) _ _ gathered)
+    (seen-cut _ _ _ (c .before .see .ensures) (omega (arith, long, start .pre .0)) (omega (arith, long, start .pre .0)))
 
 pub members-cut-spec : {M : Type 1} → statement M
 members-cut-spec =

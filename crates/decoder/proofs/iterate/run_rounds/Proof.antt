@@ -2,7 +2,7 @@
 use mathlib.Core.Path.{sym, _∙_, ap}
 use native.Mathlib.Omega.{arith}
 use lib.ListN.{length}
-use Rattle.rules.specs.Buffers.{spins, copies, offsets, sums, multipliers, masks}
+use Rattle.rules.specs.Buffers.{spins, copies, offsets, sums, multipliers, masks, depths}
 use Rattle.run.specs.Reply.{statusOf}
 use Rattle.table.specs.Layout.{tableOf}
 use Rattle.decoder.specs.Lent.{loopIn}
@@ -11,11 +11,11 @@ use Rattle.decoder.proofs.iterate.run_rounds.Statement.{statement}
 use Rattle.decoder.proofs.iterate.run_rounds.Tie as tie
 
 abbrev Inv-loop : tie.InvT-loop
-Inv-loop frame starts members degrees wanted s₀ z₀ y₀ x₀ b₀ m₀ at₀ k₀ s z y x b m at k =
-    Going (tableOf (length frame) starts members) frame wanted (loopIn at₀ s₀ z₀ y₀ x₀ b₀ m₀) k (loopIn at s z y x b m)
+Inv-loop frame starts members degrees wanted s₀ z₀ y₀ x₀ b₀ m₀ d₀ at₀ k₀ s z y x b m d at k =
+    Going (tableOf (length frame) starts members) frame wanted (loopIn at₀ s₀ z₀ y₀ x₀ b₀ m₀ d₀) k (loopIn at s z y x b m d)
 
 abbrev μ-loop : tie.MeasureT-loop
-μ-loop frame starts members degrees wanted s₀ z₀ y₀ x₀ b₀ m₀ at₀ k₀ s z y x b m at k = k
+μ-loop frame starts members degrees wanted s₀ z₀ y₀ x₀ b₀ m₀ d₀ at₀ k₀ s z y x b m d at k = k
 
 loop-holds : tie.Need-loop-holds Inv-loop μ-loop
 loop-holds c =
@@ -77,6 +77,11 @@ same-length-6 c =
     let start : tie.Start Inv-loop μ-loop = search in
     ap (λ n. n masks) (c .before .loop .inv .sizes ∙ sym (start .pre .1 .sizes))
 
+same-length-7 : tie.Need-same-length-7 Inv-loop μ-loop
+same-length-7 c =
+    let start : tie.Start Inv-loop μ-loop = search in
+    ap (λ n. n depths) (c .before .loop .inv .sizes ∙ sym (start .pre .1 .sizes))
+
 returns : tie.Need-returns Inv-loop μ-loop
 returns c = going-last _ _ _ _ _ _ _ (omega arith) (c .before .loop .inv)
 
@@ -97,4 +102,5 @@ run-rounds-spec =
     same-length-4
     same-length-5
     same-length-6
+    same-length-7
     returns)

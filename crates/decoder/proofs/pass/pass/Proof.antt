@@ -11,11 +11,11 @@ use Rattle.decoder.proofs.pass.pass.Statement.{statement}
 use Rattle.decoder.proofs.pass.pass.Tie as tie
 
 abbrev Inv-loop : tie.InvT-loop
-Inv-loop starts members spins z₀ y₀ x₀ bs₀ ks₀ j₀ a₀ z y x bs ks j a =
-    Passing (at spins) starts members (passedTo z₀ y₀ x₀ bs₀ ks₀) (passedTo z y x bs ks) j × (a ≡ getD starts j 0)
+Inv-loop starts members spins z₀ y₀ x₀ bs₀ ks₀ ds₀ j₀ a₀ z y x bs ks ds j a =
+    Passing (at spins) starts members (passedTo z₀ y₀ x₀ bs₀ ks₀ ds₀) (passedTo z y x bs ks ds) j × (a ≡ getD starts j 0)
 
 abbrev μ-loop : tie.MeasureT-loop
-μ-loop starts members spins z₀ y₀ x₀ bs₀ ks₀ j₀ a₀ z y x bs ks j a = length starts - j
+μ-loop starts members spins z₀ y₀ x₀ bs₀ ks₀ ds₀ j₀ a₀ z y x bs ks ds j a = length starts - j
 
 loop-holds : tie.Need-loop-holds Inv-loop μ-loop
 loop-holds c =
@@ -86,6 +86,11 @@ same-length-5 c =
     let start : tie.Start Inv-loop μ-loop = search in
     passing-long (start .pre) (c .before .loop .inv .0) .4
 
+same-length-6 : tie.Need-same-length-6 Inv-loop μ-loop
+same-length-6 c =
+    let start : tie.Start Inv-loop μ-loop = search in
+    passing-long (start .pre) (c .before .loop .inv .0) .5
+
 returns : tie.Need-returns Inv-loop μ-loop
 returns c =
     let start : tie.Start Inv-loop μ-loop = search in
@@ -111,4 +116,5 @@ pass-spec =
     same-length-3
     same-length-4
     same-length-5
+    same-length-6
     returns)

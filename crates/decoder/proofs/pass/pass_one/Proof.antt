@@ -24,15 +24,21 @@ store-requires-2 c κs =
     let start : tie.Start = search in
     start .pre .maskThere
 
+store-requires-3 : tie.Need-store-requires-3
+store-requires-3 c κs =
+    let start : tie.Start = search in
+    start .pre .depthThere
+
 returns : tie.Need-returns
 unfolding onePassed part splice
 returns c =
     let after-store : tie.After-store = search in
+    let after-store2 : tie.After-store2 = search in
     let after-step : tie.After-step = search in
     let start : tie.Start = search in
     let a = start .args in
-    let came = passedTo (a .copies .now) (a .offsets .now) (a .sums .now) (a .multipliers .now) (a .masks .now) in
-    passed-eq refl refl refl (after-store .store .ensures) (c .before .before .store2 .ensures)
+    let came = passedTo (a .copies .now) (a .offsets .now) (a .sums .now) (a .multipliers .now) (a .masks .now) (a .depths .now) in
+    passed-eq refl refl refl (after-store .store .ensures) (after-store2 .store2 .ensures) (c .before .before .store3 .ensures)
     ∙ ap (λ (t : Stepped). placed (a .j) (a .a) (a .e) t came) (after-step .step .ensures)
 
 pub pass-one-spec : {M : Type 1} → statement M
@@ -54,6 +60,8 @@ pass-one-spec =
     step-requires
     store-requires
     store-requires-2
+    store-requires-3
+    (λ c. search needs)
     (λ c. search needs)
     (λ c. search needs)
     (λ c. search needs)

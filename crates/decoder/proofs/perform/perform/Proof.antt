@@ -6,7 +6,7 @@ use native.Mathlib.Omega.{arith}
 use lib.ListN.{length, drop}
 use lib.Seq.{length-take-le, length-front}
 use borrow.Author.Needs.{needs}
-use Rattle.rules.specs.Buffers.{spins, copies, offsets, sums, multipliers, masks}
+use Rattle.rules.specs.Buffers.{spins, copies, offsets, sums, multipliers, masks, depths}
 use Rattle.table.proofs.LayoutLaws.{members-fit}
 use Rattle.decoder.proofs.PerformLaws.{given-all, parts-ready, room-after, finish-fits, performed}
 use Rattle.decoder.proofs.perform.perform.Statement.{statement}
@@ -37,6 +37,9 @@ multipliers-kept c = length-front (begun c .args .multipliers .now) (c .run-roun
 
 masks-kept : (c : tie.After-run-rounds) → KeptBy (begun c .args .m) (c .run-rounds .last .1 .1 .1 .1 .1 .1 .1 .1 .1 .1 .1 .0) (begun c .args .masks .now)
 masks-kept c = length-front (begun c .args .masks .now) (c .run-rounds .last .1 .1 .1 .1 .1 .1 .1 .1 .1 .1 .1 .0) (begun c .args .m) (c .run-rounds .kept .1 .1 .1 .1 .1 .1 .1 .1 .1 .1 .1 .0)
+
+depths-kept : (c : tie.After-run-rounds) → KeptBy (begun c .args .m) (c .run-rounds .last .1 .1 .1 .1 .1 .1 .1 .1 .1 .1 .1 .1 .0) (begun c .args .depths .now)
+depths-kept c = length-front (begun c .args .depths .now) (c .run-rounds .last .1 .1 .1 .1 .1 .1 .1 .1 .1 .1 .1 .1 .0) (begun c .args .m) (c .run-rounds .kept .1 .1 .1 .1 .1 .1 .1 .1 .1 .1 .1 .1 .0)
 
 add-end : tie.Need-add-end
 add-end c =
@@ -123,6 +126,16 @@ slice-aggregate-run-rounds-9 c =
     let start : tie.Start = search in
     sym (length-take-le _ _ (start .pre .room masks))
 
+slice-relend-prefix-run-rounds-7 : tie.Need-slice-relend-prefix-run-rounds-7
+slice-relend-prefix-run-rounds-7 c =
+    let start : tie.Start = search in
+    start .pre .room depths
+
+slice-aggregate-run-rounds-10 : tie.Need-slice-aggregate-run-rounds-10
+slice-aggregate-run-rounds-10 c =
+    let start : tie.Start = search in
+    sym (length-take-le _ _ (start .pre .room depths))
+
 run-rounds-requires : tie.Need-run-rounds-requires
 run-rounds-requires c κs =
     let after-count-degrees : tie.After-count-degrees = search in
@@ -196,11 +209,16 @@ same-length-6 c =
 
 same-length-7 : tie.Need-same-length-7
 same-length-7 c =
-    let after-finish : tie.After-finish = search in
-    after-finish .finish .kept .1 .1 .1 .1 .0
+    let after-run-rounds : tie.After-run-rounds = search in
+    depths-kept (after-run-rounds)
 
 same-length-8 : tie.Need-same-length-8
 same-length-8 c =
+    let after-finish : tie.After-finish = search in
+    after-finish .finish .kept .1 .1 .1 .1 .0
+
+same-length-9 : tie.Need-same-length-9
+same-length-9 c =
     let after-finish : tie.After-finish = search in
     after-finish .finish .kept .1 .1 .1 .1 .1 .0
 
@@ -232,6 +250,8 @@ perform-spec =
     slice-aggregate-run-rounds-8
     slice-relend-prefix-run-rounds-6
     slice-aggregate-run-rounds-9
+    slice-relend-prefix-run-rounds-7
+    slice-aggregate-run-rounds-10
     run-rounds-requires
     slice-reshare-prefix-finish
     slice-aggregate-finish
@@ -248,4 +268,5 @@ perform-spec =
     same-length-6
     same-length-7
     same-length-8
+    same-length-9
     returns)

@@ -53,6 +53,11 @@ same-length-6 c =
     let after-pass : tie.After-pass = search in
     after-pass .pass .kept .1 .1 .1 .1 .1 .1 .1 .0
 
+same-length-7 : tie.Need-same-length-7
+same-length-7 c =
+    let after-pass : tie.After-pass = search in
+    after-pass .pass .kept .1 .1 .1 .1 .1 .1 .1 .1 .0
+
 returns : tie.Need-returns
 returns c =
     let after-pass : tie.After-pass = search in
@@ -74,4 +79,5 @@ do-round-spec =
     same-length-4
     same-length-5
     same-length-6
+    same-length-7
     returns)

@@ -17,7 +17,7 @@ returns c =
     let after-step-of : tie.After-step-of = search in
     let start : tie.Start = search in
     let a = start .args in
-    part-left 6 (a .spins .now) (a .members .now) (a .copies .now) (a .offsets .now) (a .sums .now) (omega arith) (start .pre) _ _ _ _ _ (after-step-of .step-of .ensures)
+    part-left 6 (a .spins .now) (a .members .now) (a .copies .now) (a .offsets .now) (a .sums .now) (omega arith) (start .pre) _ _ _ _ _ _ (after-step-of .step-of .ensures)
 
 step-of-requires-2 : tie.Need-step-of-requires-2
 step-of-requires-2 c κs =
@@ -30,7 +30,7 @@ returns-2 c =
     let after-step-of2 : tie.After-step-of2 = search in
     let start : tie.Start = search in
     let a = start .args in
-    part-left 8 (a .spins .now) (a .members .now) (a .copies .now) (a .offsets .now) (a .sums .now) (omega arith) (start .pre) _ _ _ _ _ (after-step-of2 .step-of2 .ensures)
+    part-left 8 (a .spins .now) (a .members .now) (a .copies .now) (a .offsets .now) (a .sums .now) (omega arith) (start .pre) _ _ _ _ _ _ (after-step-of2 .step-of2 .ensures)
 
 pub step-spec : {M : Type 1} → statement M
 step-spec =

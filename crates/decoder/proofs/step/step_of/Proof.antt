@@ -15,9 +15,10 @@ multiplier-for-requires c κs f =
     let after-add-spins : tie.After-add-spins = search in
     let start : tie.Start = search in
     let a = start .args in
+    let told = c .struct-told .given in
     subst (Rising _) (sym (toZ-ofZ (fit w32 (after-see .see .result .top) search)))
     (multiplier-asks (a .spins .now) (a .members .now) (a .copies .now) (a .offsets .now) (a .sums .now) _ (start .pre) (after-add-spins .add-spins .ensures) _ _
-    (after-see .see .result .mask) (after-see .see .result .top) (after-see .see .ensures) f)
+    (after-see .see .result .mask) (after-see .see .result .depth) (after-see .see .result .top) (after-see .see .ensures) f)
 
 move-all-requires : tie.Need-move-all-requires
 move-all-requires c κs =
@@ -27,7 +28,7 @@ move-all-requires c κs =
     let start : tie.Start = search in
     let a = start .args in
     move-asks (a .spins .now) (a .members .now) (a .copies .now) (a .offsets .now) (a .sums .now) _ (start .pre) (after-add-spins .add-spins .ensures) _ _
-    (after-see .see .result .mask) (after-see .see .result .top) (after-see .see .ensures)
+    (after-see .see .result .mask) (after-see .see .result .depth) (after-see .see .result .top) (after-see .see .ensures)
     (after-multiplier-for .multiplier-for .result) (after-multiplier-for .multiplier-for .ensures)
 
 returns : tie.Need-returns
@@ -39,7 +40,7 @@ returns c =
     let start : tie.Start = search in
     let a = start .args in
     step-left (a .spins .now) (a .members .now) (a .copies .now) (a .offsets .now) (a .sums .now) _ (start .pre) (after-add-spins .add-spins .ensures) _ _
-    (after-see .see .result .mask) (after-see .see .result .top) (after-see .see .ensures)
+    (after-see .see .result .mask) (after-see .see .result .depth) (after-see .see .result .top) (after-see .see .ensures)
     (after-multiplier-for .multiplier-for .result) (after-multiplier-for .multiplier-for .ensures) _ _ _ (after-move-all .move-all .ensures)
 
 pub step-of-spec : {M : Type 1} → statement M

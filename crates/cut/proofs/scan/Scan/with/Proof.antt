@@ -12,7 +12,8 @@ use Rattle.integers.specs.Machine.{fit}
 use Rattle.rules.specs.Limits.{unit}
 use Rattle.rules.specs.Mask.{digit}
 use Rattle.rules.specs.Cut.{isNeg}
-use Rattle.cut.proofs.ValueLaws.{bit-above, up-mono}
+use Rattle.integers.specs.Order.{up-mono}
+use Rattle.cut.proofs.ValueLaws.{bit-above}
 use Rattle.cut.proofs.ScanLaws.{with-higher, with-other}
 use Rattle.cut.proofs.scan.Scan.with.Statement.{statement}
 use Rattle.cut.proofs.scan.Scan.with.Tie as tie
