@@ -124,6 +124,16 @@ static JugnayapCalled rounds_on_nothing(const int16_t *frame, size_t frame_len, 
     return jugnayap_rounds(code, sizeof code, frame, frame_len, run, wanted EACH_BUFFER(LEND_NONE));
 }
 
+/* One round more of a run that goes on: the record after it, and what it leaves. */
+static void goes_on(const char *what, const int16_t *frame, JugnayapRun run, const Shown *shown, Buffers *b,
+                    Buffers *wanted)
+{
+    JugnayapRun after = {run.rounds + 1, JUGNAYAP_RUNNING};
+    same_called(what, rounds(frame, run, 1, lent, b), (JugnayapCalled){.run = after});
+    show(wanted, shown);
+    same_buffers(what, *b, *wanted);
+}
+
 /* (4000, 4000, -2000), a round at a time: word 000 after round 3. In rounds 2 and 3 spin plus offset goes
  * beyond U, and the depth is that of the clipped numbers. */
 static void three_rounds(void)
@@ -138,12 +148,8 @@ static void three_rounds(void)
     Buffers b = started(), wanted = started();
     same_called("0 rounds", rounds(leaning, fresh, 0, lent, &b), (JugnayapCalled){.run = fresh});
     same_buffers("0 rounds", b, wanted);
-    same_called("round 1", rounds(leaning, fresh, 1, lent, &b), (JugnayapCalled){.run = first});
-    show(&wanted, &shown[0]);
-    same_buffers("round 1", b, wanted);
-    same_called("round 2", rounds(leaning, first, 1, lent, &b), (JugnayapCalled){.run = second});
-    show(&wanted, &shown[1]);
-    same_buffers("round 2", b, wanted);
+    goes_on("round 1", leaning, fresh, &shown[0], &b, &wanted);
+    goes_on("round 2", leaning, first, &shown[1], &b, &wanted);
     same_called("round 3", rounds(leaning, second, 1, lent, &b), (JugnayapCalled){.run = third});
     show_certified(&wanted, &shown[2], word, certificate, sizeof certificate);
     same_buffers("round 3", b, wanted);
@@ -194,12 +200,8 @@ static void cut_once(void)
                                   {{0, 4096, 2}, {1, 4096, 1}, {0, 1, 0}, {1, 4095, 1}, 0, 0, 0}};
     const JugnayapRun first = {1, JUGNAYAP_RUNNING}, second = {2, JUGNAYAP_RUNNING};
     Buffers b = started(), wanted = started();
-    same_called("cut", rounds(frame, fresh, 1, lent, &b), (JugnayapCalled){.run = first});
-    show(&wanted, &shown[0]);
-    same_buffers("cut", b, wanted);
-    same_called("cut no more", rounds(frame, first, 1, lent, &b), (JugnayapCalled){.run = second});
-    show(&wanted, &shown[1]);
-    same_buffers("cut no more", b, wanted);
+    goes_on("cut", frame, fresh, &shown[0], &b, &wanted);
+    goes_on("cut no more", frame, first, &shown[1], &b, &wanted);
     b = started();
     same_called("both rounds", rounds(frame, fresh, 2, lent, &b), (JugnayapCalled){.run = second});
     same_buffers("both rounds", b, wanted);

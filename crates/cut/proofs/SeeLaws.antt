@@ -41,8 +41,8 @@ seen-eq : (m m′ d d′ : ℕ) (t t′ : ℤ) (hs hs′ : List ℤ) → m ≡ m
 seen-eq m m′ d d′ t t′ hs hs′ p k q r = cc
 
 -- ---- a set of odd size that is kept below 2U, and its depth
-odd-some : (m : ℕ) → ones m % 2 ≡ 1 → m ≡ 0 → ⊥
-odd-some m o z = omega (arith, ones-le 0 m (omega arith))
+ones-some : (m : ℕ) → ones m % 2 ≡ 1 → m ≡ 0 → ⊥
+ones-some m o z = omega (arith, ones-le 0 m (omega arith))
 
 module _ (m k r : ℕ) (e : k ≡ cond (ltb r (2 * unit)) m 0) where
   pub kept-below : (k ≡ 0 → ⊥) → r < 2 * unit
@@ -63,7 +63,7 @@ module _ (m k r : ℕ) (e : k ≡ cond (ltb r (2 * unit)) m 0) where
 module _ (s : Scan) (hs : List ℤ) where
   pub decided-odd : (m d : ℕ) (t : ℤ) → ones (s .mask) % 2 ≡ 1 → m ≡ cond (ltb (s .room) (2 * unit)) (s .mask) 0 → d ≡ cond (eqb m 0) 0 (2 * unit - s .room) → t ≡ s .top
       → stays m d t hs ≡ decided s hs
-  decided-odd m d t o e k p = seen-eq _ _ _ _ _ _ _ _ e (kept-depth (s .mask) m (s .room) e d (odd-some (s .mask) o) k) p refl
+  decided-odd m d t o e k p = seen-eq _ _ _ _ _ _ _ _ e (kept-depth (s .mask) m (s .room) e d (ones-some (s .mask) o) k) p refl
       ∙ ap (λ b. cond b (whenOdd s hs) (whenEven s hs)) (sym (eq-eqb (ones (s .mask) % 2) 1 o))
 
   decided-even : (b : Bool) → (ones (s .mask) % 2 ≡ 1 → ⊥) → ltb (s .room) (2 * up (s .top)) ≡ b

@@ -16,7 +16,7 @@ use Rattle.integers.specs.Clip.{clipZ, clip-within}
 use Rattle.integers.specs.Sum.{AllWithin}
 use Rattle.rules.specs.Table.{at}
 use Rattle.rules.specs.Parity.{_⊕_, turn, side, plus, turns, odd, Alike, left}
-use Rattle.rules.specs.Cut.{cut, shortfall, depthBy, depth}
+use Rattle.rules.specs.Cut.{cut, shortfall, depth}
 use Rattle.rules.specs.Step.{clips, move, moves, short, lastWhere, multiplier, Entry, inactive, active, Step, minus, settle, stepBy, step}
 use Rattle.rules.specs.Buffers.{multiplierOf}
 use Rattle.rules.proofs.Signs.{turn-sum, turn-diff, turn-side, clip-turn, left-turn, alike-sym, alike-trans}
@@ -197,11 +197,7 @@ step-turn u cs vs e h = ap (stepBy u (turns cs vs)) same ∙ go (cut u (clips u 
 -- ---- the depth that a check leaves is that of its clipped values, and 0 exactly if it has no cut
 pub step-depth : (u : ℕ) (vs : List ℤ) → step u vs .depth ≡ depth u (clips u vs)
 unfolding step depth
-step-depth u vs = go (cut u (clips u vs))
-  where
-    go : (o : Option (List Bool)) → stepBy u vs o .depth ≡ depthBy u (clips u vs) o
-    go none = refl
-    go (some ts) = refl
+step-depth u vs = refl
 
 -- the values are still there afterwards: copy plus offset
 abbrev pub together : List ℤ → List ℤ → List ℤ

@@ -8,7 +8,7 @@ use lib.IntN.{ℤ, pos, _+ℤ_, _-ℤ_}
 use lib.Signed.{ltZ}
 use Rattle.integers.specs.Clip.{clipZ}
 use Rattle.rules.specs.Parity.{side, left}
-use Rattle.rules.specs.Cut.{shortfall, cut}
+use Rattle.rules.specs.Cut.{cut, depthBy}
 
 -- "v clipped"
 abbrev pub clips : ℕ → List ℤ → List ℤ
@@ -58,10 +58,19 @@ minus (v ∷ vs) (z ∷ zs) = (v -ℤ z) ∷ minus vs zs
 abbrev pub settle : List ℤ → List ℤ → Entry → ℕ → Step
 settle vs zs e d = record { copies = zs; offsets = minus vs zs; entry = e; depth = d }
 
--- the depth is that of the cut "on v clipped", "0 for none"
+-- "No cut: z = v clipped", or moved by the multiplier
+abbrev pub copiesBy : ℕ → List ℤ → Option (List Bool) → List ℤ
+copiesBy u vs none = clips u vs
+copiesBy u vs (some ts) = moves u (multiplier u ts vs) ts vs
+
+-- what the check adds to the round's entries
+abbrev pub entryBy : ℕ → List ℤ → Option (List Bool) → Entry
+entryBy u vs none = inactive
+entryBy u vs (some ts) = active (multiplier u ts vs) ts
+
+-- the depth is that of the cut "on v clipped"
 abbrev pub stepBy : ℕ → List ℤ → Option (List Bool) → Step
-stepBy u vs none = settle vs (clips u vs) inactive 0
-stepBy u vs (some ts) = settle vs (moves u (multiplier u ts vs) ts vs) (active (multiplier u ts vs) ts) (shortfall u ts (clips u vs))
+stepBy u vs o = settle vs (copiesBy u vs o) (entryBy u vs o) (depthBy u (clips u vs) o)
 
 -- "the cut search runs on v clipped"
 unfoldable pub step : ℕ → List ℤ → Step
