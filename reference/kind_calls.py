@@ -9,6 +9,7 @@ import make_scripts as scripts
 import make_spoilt_scripts as spoilt
 from call_script import play
 from make_depth_scripts import depth_scripts
+from make_edge_scripts import edge_scripts
 from make_sum_scripts import sum_scripts
 from make_weak_scripts import weak_scripts
 from packing import lines
@@ -27,7 +28,8 @@ def call_script():
             + scripts.emptied_runs(rng) + scripts.mostly_empty(rng)
             + scripts.empty_checks_put_in() + spoilt.emptied_half_done(rng)
             + spoilt.emptied_edges() + spoilt.emptied_parts() + spoilt.emptied_files(rng)
-            + weak_scripts(Prng(20_07)) + sum_scripts(Prng(20_09)) + depth_scripts(Prng(20_11)))
+            + weak_scripts(Prng(20_07)) + sum_scripts(Prng(20_09)) + depth_scripts(Prng(20_11))
+            + edge_scripts(Prng(20_13)))
 
 
 def case_calls():

@@ -11,8 +11,10 @@ import traceback
 import test_calls
 import test_depths
 import test_division
+import test_edges
 import test_empty
 import test_examples
+import test_from_above
 import test_kinds
 import test_mutants
 import test_optimal
@@ -22,7 +24,8 @@ import test_sums
 from support import Account
 
 PARTS = [test_examples, test_division, test_search, test_optimal, test_calls, test_sums,
-         test_depths, test_empty, test_refusals, test_kinds, test_mutants]
+         test_depths, test_from_above, test_edges, test_empty, test_refusals, test_kinds,
+         test_mutants]
 
 
 def run_test(test, account):

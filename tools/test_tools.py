@@ -3,7 +3,8 @@
 import unittest
 
 PARTS = ["test_codefile", "test_alist", "test_frames", "test_report_text", "test_histogram",
-         "test_sort_frames", "test_picture", "test_channel", "test_samples"]
+         "test_sort_frames", "test_picture", "test_channel", "test_samples",
+         "test_narrow_sources"]
 
 
 def load_tests(loader, tests, pattern):

@@ -4,8 +4,9 @@ use mathlib.Core.Bool.{Bool, true, false, cond}
 use mathlib.Core.List.{List, [], _∷_, _++_}
 use Prim.Native.Nat.{ℕ, suc, _+_, _*_, _^_, _≤_, _<_}
 use native.Mathlib.Omega.{arith}
-use native.Mathlib.Nat.{pow-suc}
+use native.Mathlib.Nat.{pow-suc, add-comm}
 use native.Mathlib.Numerals.{add-one}
+use lib.Bits.{bitOr, or-shifted-r}
 use lib.ListN.{length, take, drop, set, length-append, List·getD-append}
 use lib.Seq.{take-suc, getD-append-seam, length-take-le}
 use lib.IntN.{ℤ, pos}
@@ -37,18 +38,21 @@ scanOf m r t k = record { mask = m; room = r; top = t; place = k }
 scan-eq : (m m′ r r′ : ℕ) (t t′ : ℤ) (k k′ : ℕ) → m ≡ m′ → r ≡ r′ → t ≡ t′ → k ≡ k′ → scanOf m r t k ≡ scanOf m′ r′ t′ k′
 scan-eq m m′ r r′ t t′ k k′ p q e f = cc
 
-module _ (s : Scan) (x h : ℤ) (k b a : ℕ) (hb : b ≡ digit (isNeg x) * 2 ^ k) (ha : a ≡ up h) (top now : ℤ) (ht : top ≡ s .top) (hn : now ≡ h) where
+module _ (s : Scan) (x h : ℤ) (k b a : ℕ) (small : s .mask < 2 ^ k) (hb : b ≡ digit (isNeg x) * 2 ^ k) (ha : a ≡ up h) (top now : ℤ) (ht : top ≡ s .top) (hn : now ≡ h) where
+  put-bit : bitOr (s .mask) b ≡ s .mask + digit (isNeg x) * 2 ^ k
+  put-bit = ap (bitOr (s .mask)) hb ∙ or-shifted-r (digit (isNeg x)) k (s .mask) small ∙ add-comm (digit (isNeg x) * 2 ^ k) (s .mask)
+
   compared : (t : Bool) → ltZ top now ≡ t → ltZ (s .top) h ≡ t
   compared t e = sym (ap₂ ltZ ht hn) ∙ e
 
-  pub with-higher : ltZ top now ≡ true → scanOf (s .mask + b) (s .room + a) now k ≡ scanned s x h k
+  pub with-higher : ltZ top now ≡ true → scanOf (bitOr (s .mask) b) (s .room + a) now k ≡ scanned s x h k
   with-higher e =
-      scan-eq _ _ _ _ _ _ _ _ (ap (λ n. s .mask + n) hb) (ap (λ n. s .room + n) ha)
+      scan-eq _ _ _ _ _ _ _ _ put-bit (ap (λ n. s .room + n) ha)
       (hn ∙ ap (λ t. cond t h (s .top)) (sym (compared true e))) (ap (λ t. cond t k (s .place)) (sym (compared true e)))
 
-  pub with-other : ltZ top now ≡ false → scanOf (s .mask + b) (s .room + a) top (s .place) ≡ scanned s x h k
+  pub with-other : ltZ top now ≡ false → scanOf (bitOr (s .mask) b) (s .room + a) top (s .place) ≡ scanned s x h k
   with-other e =
-      scan-eq _ _ _ _ _ _ _ _ (ap (λ n. s .mask + n) hb) (ap (λ n. s .room + n) ha)
+      scan-eq _ _ _ _ _ _ _ _ put-bit (ap (λ n. s .room + n) ha)
       (ht ∙ ap (λ t. cond t h (s .top)) (sym (compared false e))) (ap (λ t. cond t k (s .place)) (sym (compared false e)))
 
 -- ---- one value more, at the end

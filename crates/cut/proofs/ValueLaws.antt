@@ -1,12 +1,11 @@
 -- One value: its sign as a bit, its bit alone, its height above 0. Assumes nothing.
 use mathlib.Core.Path.{_≡_, refl, _∙_}
-use mathlib.Core.Bool.{Bool, true, false}
-use Prim.Native.Nat.{ℕ, suc, _+_, _*_, _%_, _^_, _≤_, _<_}
+use Prim.Native.Nat.{ℕ, _*_, _%_, _^_, _≤_, _<_}
 use native.Mathlib.Omega.{arith}
-use native.Mathlib.Nat.{one-mul, pow-suc}
+use native.Mathlib.Nat.{one-mul}
 use lib.Dec.{lit<}
 use lib.IntN.{ℤ, pos, negsuc, natAbs}
-use lib.Pow.{shl-exact, pow-mono}
+use lib.Pow.{shl-exact}
 use lib.Signed.{_≤ℤ_, _<ℤ_}
 use Rattle.integers.specs.Linear.{arithZ, _⩽_, up}
 use Rattle.rules.specs.Mask.{digit}
@@ -28,11 +27,3 @@ other-bit (negsuc n) p h = absurd (h .le)
 pub up-all : (z : ℤ) → pos 0 ⩽ z → natAbs z ≡ up z
 up-all (pos n) h = refl
 up-all (negsuc n) h = absurd (h .le)
-
--- bit k on top of a mask of k bits
-pub bit-above : (t : Bool) (m b k : ℕ) → k < 32 → m < 2 ^ k → b ≡ digit t * 2 ^ k → m + b < 2 ^ 32
-bit-above t m b k h p e = fits (pow-mono {i = suc k} {j = 32} (omega arith)) t e
-  where
-    fits : 2 ^ suc k ≤ 2 ^ 32 → (t : Bool) → b ≡ digit t * 2 ^ k → m + b < 2 ^ 32
-    fits q true e = omega (arith, pow-suc 2 k)
-    fits q false e = omega (arith, pow-suc 2 k)

@@ -73,7 +73,7 @@ impl Scan {
         requires { ⌜ (k < maxDegree) × (self .mask < 2 ^ k) × (self .room ≤ unit * k) × (h ⩽ pos unit) ⌝ }
         ensures { λ r. ⌜ r ≡ scanned self x h k ⌝ }
     {
-        let mask = self.mask + sign_bit(x, k);
+        let mask = self.mask | sign_bit(x, k);
         let room = self.room + above(h);
         let top = self.top;
         if top < h {

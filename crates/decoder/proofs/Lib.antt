@@ -8,9 +8,6 @@ pub mod DivideLaws
 pub mod PerformLaws
 pub mod CallLaws
 pub mod MaskLaws
-pub mod LiftedLaws
-pub mod MultiplierSumLaws
-pub mod MultiplierLaws
 pub mod StepListLaws
 pub mod MoveAllLaws
 pub mod StepLaws

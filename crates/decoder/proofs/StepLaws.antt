@@ -28,10 +28,10 @@ use Rattle.cut.specs.CutMask.{cutMask}
 use Rattle.cut.specs.Heights.{heightsOf, highest, sideBy, seenTo, seenOn, seen}
 use Rattle.cut.proofs.MaskLaws.{mask-none, mask-some}
 use Rattle.cut.proofs.SeeLaws.{seen-whole}
-use Rattle.decoder.specs.Lifted.{Rising, LeastAt, MultiplierOf}
+use Rattle.multiplier_search.specs.Lifted.{Rising, LeastAt, MultiplierOf}
 use Rattle.decoder.specs.Stepped.{Stepped, steppedTo, summed, steppedBy, steppedOn, stepped, newCopies, StepFits, MoveFits, Moved}
 use Rattle.decoder.proofs.MaskLaws.{set-alike}
-use Rattle.decoder.proofs.MultiplierLaws.{heights-length, heights-few, rising, least-is}
+use Rattle.multiplier_search.proofs.StartLaws.{heights-length, heights-few, rising, least-is}
 use Rattle.decoder.proofs.PartLaws.{none-after}
 use Rattle.decoder.proofs.StepListLaws.{values-length}
 

@@ -1,5 +1,4 @@
 pub mod Spins
-pub mod Lifted
 pub mod Stepped
 pub mod Parts
 pub mod Passed

@@ -1,15 +1,16 @@
 // The least multiplier of a cut, found from above on the heights that the cut search leaves. With F the
-// sum of the lifted heights above 0 and k their number, b falls by (F - 2U) / k until that is 0.
+// sum of the lifted heights above 0 and k their number, b falls by (F - 2U) / k until that is 0. All is added
+// in 32 bits: each function asks that the sums which it forms are below 2^31 in size (multiplier_search/specs/Sums),
+// and multiplier_search/proofs/Narrow says that they are.
 use limits::RIGHT_SIDE;
 use limits::UNIT;
 ghost use mathlib.Core.Path.{_≡_};
-ghost use Prim.Native.Nat.{_-_, _/_, _≤_};
-ghost use lib.IntN.{pos, natAbs, _-ℤ_};
+ghost use Prim.Native.Nat.{_≤_};
+ghost use lib.IntN.{pos, _-ℤ_};
 ghost use lib.ListN.{length};
-ghost use Rattle.integers.specs.Linear.{_⩽_};
-ghost use Rattle.integers.specs.Sum.{AllWithin};
-ghost use Rattle.rules.specs.Limits.{maxDegree, stepLimit};
-ghost use Rattle.decoder.specs.Lifted.{packed, sumAt, countAt, sumZ, AllUpTo, Rising, LeastAt, reach};
+ghost use Rattle.rules.specs.Limits.{maxDegree};
+ghost use Rattle.multiplier_search.specs.Lifted.{packed, sumAt, countAt, sumZ, firstStep, fallAt, AllUpTo, Rising, LeastAt, reach};
+ghost use Rattle.multiplier_search.specs.Sums.{AllNarrow, partials, firstSums, shareSums, slopeSums, fallSums};
 
 // The sum of the heights above 0, and their number.
 pub struct Slope {
@@ -22,7 +23,7 @@ const ONE: u32 = 0x10_0000;
 
 // A member's share of that number: ONE and its height lifted by b, or nothing where that is not above 0.
 fn share(h: i32, b: u32) -> u32
-    requires { ⌜ (b ≤ stepLimit) × (h ⩽ pos reach -ℤ pos b) ⌝ }
+    requires { ⌜ AllNarrow (shareSums b h) ⌝ }
     ensures { λ r. ⌜ r ≡ packed b h ⌝ }
 {
     let up = b as i32;
@@ -34,7 +35,7 @@ fn share(h: i32, b: u32) -> u32
 
 // At most 32 members of at most 2U: the sum stays below ONE.
 fn slope_at(heights: &[i32], b: u32) -> Slope
-    requires { ⌜ (length (now heights) ≤ maxDegree) × (b ≤ stepLimit) × AllUpTo (pos reach -ℤ pos b) (now heights) ⌝ }
+    requires { ⌜ (length (now heights) ≤ maxDegree) × AllUpTo (pos reach -ℤ pos b) (now heights) × AllNarrow (slopeSums (now heights) b) ⌝ }
     ensures { λ r. ⌜ (r .sum ≡ sumAt (now (heights .entry)) b) × (r .count ≡ countAt (now (heights .entry)) b) ⌝ }
 {
     let mut both: u32 = 0;
@@ -51,8 +52,8 @@ fn slope_at(heights: &[i32], b: u32) -> Slope
 
 // How far b can fall at once.
 fn fall(heights: &[i32], b: u32) -> u32
-    requires { ⌜ (length (now heights) ≤ maxDegree) × (b ≤ stepLimit) × AllUpTo (pos reach -ℤ pos b) (now heights) × (reach ≤ sumAt (now heights) b) ⌝ }
-    ensures { λ r. ⌜ r ≡ (sumAt (now (heights .entry)) b - reach) / countAt (now (heights .entry)) b ⌝ }
+    requires { ⌜ (length (now heights) ≤ maxDegree) × AllUpTo (pos reach -ℤ pos b) (now heights) × (reach ≤ sumAt (now heights) b) × AllNarrow (fallSums (now heights) b) ⌝ }
+    ensures { λ r. ⌜ r ≡ fallAt (now (heights .entry)) b ⌝ }
 {
     let slope = slope_at(heights, b);
     let sum = slope.sum;
@@ -61,7 +62,7 @@ fn fall(heights: &[i32], b: u32) -> u32
 }
 
 fn sum_of(heights: &[i32]) -> i32
-    requires { ⌜ (length (now heights) ≤ maxDegree) × AllWithin stepLimit (now heights) ⌝ }
+    requires { ⌜ AllNarrow (partials (pos 0) (now heights)) ⌝ }
     ensures { λ r. ⌜ r ≡ sumZ (now (heights .entry)) ⌝ }
 {
     let mut sum: i32 = 0;
@@ -76,8 +77,8 @@ fn sum_of(heights: &[i32]) -> i32
 // A step that is enough: the lesser of the one that lifts all heights to 2U together and the one that
 // lifts the greatest alone. Mostly it is the least already.
 fn first_step(heights: &[i32], top: i32) -> u32
-    requires { ⌜ Rising (now heights) top ⌝ }
-    ensures { λ r. ⌜ (r ≤ natAbs (pos reach -ℤ top)) × (reach ≤ sumAt (now (heights .entry)) r) ⌝ }
+    requires { ⌜ Rising (now heights) top × AllNarrow (firstSums (now heights) top) ⌝ }
+    ensures { λ r. ⌜ r ≡ firstStep (now (heights .entry)) top ⌝ }
 {
     let d = heights.len() as u32;
     let together = (2 * UNIT - sum_of(heights)) as u32;

@@ -18,7 +18,7 @@ ghost use Rattle.rules.specs.Table.{at};
 ghost use Rattle.rules.specs.Sound.{Below};
 ghost use Rattle.rules.specs.Step.{move};
 ghost use Rattle.rules.specs.Round.{values};
-ghost use Rattle.decoder.specs.Lifted.{Rising, MultiplierOf};
+ghost use Rattle.multiplier_search.specs.Lifted.{Rising, MultiplierOf};
 ghost use Rattle.decoder.specs.Stepped.{steppedTo, stepped, StepFits, MoveFits, Moved};
 
 // What a check adds to the round's multipliers, masks and depths: zeros without a cut.

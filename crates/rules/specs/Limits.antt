@@ -63,10 +63,6 @@ weightLimit = unit + offsetPerRound * roundLimit
 abbrev pub sumLimit : ℕ
 sumLimit = maxBitDegree * weightLimit
 
--- the greatest multiplier times a check's degree
-abbrev pub priceLimit : ℕ
-priceLimit = maxDegree * stepLimit
-
 -- ---- of the bound's numbers: a 16-bit number, it times the scale, what one entry adds or costs, a reduced number or the sum of prices, the bound
 abbrev pub frameSize : ℕ
 frameSize = 32768

@@ -1,6 +1,6 @@
 -- `sum_of` meets its contract: the sum of the first i heights. Assumes nothing.
 use mathlib.Core.Path.{_≡_, refl, sym, _∙_, ap, subst}
-use Prim.Native.Nat.{_+_, _*_, _-_, _≤_}
+use Prim.Native.Nat.{_+_, _-_, _≤_}
 use native.Mathlib.Omega.{arith}
 use lib.IntN.{ℤ, _+ℤ_}
 use lib.ListN.{length, take}
@@ -8,25 +8,22 @@ use lib.Seq.{take-all}
 use mir.Syntax.{w32}
 use mir.Val.{SFits, toZ, ofZ}
 use mir.Facts.{toZ-ofZ}
-use Rattle.rules.specs.Limits.{stepLimit}
-use Rattle.integers.specs.Linear.{Within}
 use Rattle.integers.specs.Machine.{fit}
 use Rattle.rules.specs.Table.{at}
-use Rattle.rules.proofs.Optimal.{within-at}
-use Rattle.decoder.specs.Lifted.{sumZ}
-use Rattle.decoder.proofs.MultiplierSumLaws.{sum-take}
-use Rattle.decoder.proofs.MultiplierLaws.{sum-next}
+use Rattle.multiplier_search.specs.Lifted.{sumZ}
+use Rattle.multiplier_search.proofs.PackedLaws.{sum-take}
+use Rattle.multiplier_search.proofs.SumsLaws.{sum-narrow}
 use Rattle.decoder.proofs.multiplier.sum_of.Statement.{statement}
 use Rattle.decoder.proofs.multiplier.sum_of.Tie as tie
 
 abbrev Inv-loop : tie.InvT-loop
-Inv-loop heights sum₀ i₀ sum i = (i ≤ length heights) × (toZ w32 sum ≡ sumZ (take i heights)) × Within (stepLimit * i) (toZ w32 sum)
+Inv-loop heights sum₀ i₀ sum i = (i ≤ length heights) × (toZ w32 sum ≡ sumZ (take i heights))
 
 abbrev μ-loop : tie.MeasureT-loop
 μ-loop heights sum₀ i₀ sum i = length heights - i
 
 loop-holds : tie.Need-loop-holds Inv-loop μ-loop
-loop-holds c = (omega arith, refl, record { hi = omega arith; lo = omega arith })
+loop-holds c = (omega arith, refl)
 
 -- the sum so far, and the height that was read
 abbrev sumBefore : tie.After-sum Inv-loop μ-loop → ℤ
@@ -38,14 +35,11 @@ height c = at (c .before .before .before .args .heights .now) (c .before .before
 next-is : (c : tie.After-sum Inv-loop μ-loop) → sumBefore c +ℤ toZ w32 (ofZ w32 (height c)) ≡ sumBefore c +ℤ height c
 next-is c = ap (λ z. sumBefore c +ℤ z) (toZ-ofZ (fit w32 (height c) (c .sum .given)))
 
-next : (c : tie.After-sum Inv-loop μ-loop) → SFits w32 (sumBefore c +ℤ height c) × Within (stepLimit * (c .before .before .loop .i + 1)) (sumBefore c +ℤ height c)
-next c =
+add-sum : tie.Need-add-sum Inv-loop μ-loop
+add-sum c =
     let start = c .before .before .before in
     let l = c .before .before .loop in
-    sum-next (l .i) (sumBefore c) (height c) (omega (arith, start .pre .0)) (l .inv .2) (within-at stepLimit (start .args .heights .now) (start .pre .1) (l .i))
-
-add-sum : tie.Need-add-sum Inv-loop μ-loop
-add-sum c = subst (SFits w32) (sym (next-is c)) (next c .0)
+    subst (SFits w32) (sym (next-is c ∙ ap (λ z. z +ℤ height c) (l .inv .1))) (sum-narrow (start .args .heights .now) (l .i) (omega arith) (start .pre))
 
 loop-again : tie.Need-loop-again Inv-loop μ-loop
 loop-again c =
@@ -54,7 +48,6 @@ loop-again c =
     let e = toZ-ofZ (add-sum c) ∙ next-is c in (
       omega arith,
       e ∙ ap (λ z. z +ℤ height c) (l .inv .1) ∙ sym (sum-take (a .heights .now) (l .i) (omega arith)),
-      subst (Within (stepLimit * (l .i + 1))) (sym e) (next c .1),
     )
 
 returns : tie.Need-returns Inv-loop μ-loop

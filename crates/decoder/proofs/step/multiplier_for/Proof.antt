@@ -1,7 +1,7 @@
 -- `multiplier_for` meets its contract. Assumes nothing.
 use mathlib.Core.Path.{refl, sym, subst}
 use mir.Facts.{toZ-ofZ}
-use Rattle.decoder.specs.Lifted.{Rising}
+use Rattle.multiplier_search.specs.Lifted.{Rising}
 use Rattle.decoder.proofs.step.multiplier_for.Statement.{statement}
 use Rattle.decoder.proofs.step.multiplier_for.Tie as tie
 

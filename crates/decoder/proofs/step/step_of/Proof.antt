@@ -4,7 +4,7 @@ use mir.Syntax.{w32}
 use mir.Facts.{toZ-ofZ}
 use borrow.Author.Needs.{needs}
 use Rattle.integers.specs.Machine.{fit}
-use Rattle.decoder.specs.Lifted.{Rising}
+use Rattle.multiplier_search.specs.Lifted.{Rising}
 use Rattle.decoder.proofs.StepLaws.{multiplier-asks, move-asks, step-left}
 use Rattle.decoder.proofs.step.step_of.Statement.{statement}
 use Rattle.decoder.proofs.step.step_of.Tie as tie

@@ -16,7 +16,7 @@ use Rattle.integers.specs.Clip.{clipZ, clip-low, clip-high, clip-mid, Place, be
 use Rattle.rules.specs.Parity.{side, left}
 use Rattle.rules.specs.Step.{move, moves, short}
 use Rattle.cut.specs.Heights.{height, heightsOf}
-use Rattle.decoder.specs.Lifted.{lifted, lifting, tally, sumAt, countAt, LeastAt, reach}
+use Rattle.multiplier_search.specs.Lifted.{lifted, lifting, tally, sumAt, countAt, fallAt, LeastAt, reach}
 
 -- ---- a member's share of the left side is what is lifted, at most 2U
 share-low : (x : ℤ) → x <ℤ negℤ (pos unit) → pos unit +ℤ negℤ (pos unit) ≡ pos (min (up (pos unit +ℤ x)) reach)
@@ -183,8 +183,8 @@ module _ (hs : List ℤ) where
   abbrev count : ℕ → ℕ
   count b = tally (lifting b) hs
 
-  pub next-step : (b d : ℕ) → reach ≤ sumAt hs b → sumAt hs 0 < reach → d ≡ (sumAt hs b - reach) / countAt hs b → (d < b) × (reach ≤ sumAt hs (b - d))
-  unfolding sumAt countAt
+  pub next-step : (b d : ℕ) → reach ≤ sumAt hs b → sumAt hs 0 < reach → d ≡ fallAt hs b → (d < b) × (reach ≤ sumAt hs (b - d))
+  unfolding sumAt countAt fallAt
   next-step b d h z e = (under, after (sum b) (sum (b - d)) (count b * d) h paid down)
     where
       paid : count b * d ≤ sum b - reach
@@ -227,8 +227,8 @@ module _ (hs : List ℤ) where
       few : (x n : ℕ) → 0 < n → x / n ≡ 0 → x < n
       few x n h q = subst (λ y. y < n) (ap (λ k. k * n + x % n) (sym q) ∙ div-add-mod' x n) (omega (arith, mod-lt x h))
 
-  pub least-found : (b d : ℕ) → reach ≤ sumAt hs b → b ≤ stepLimit → d ≡ (sumAt hs b - reach) / countAt hs b → d ≡ 0 → LeastAt hs b
-  unfolding sumAt countAt
+  pub least-found : (b d : ℕ) → reach ≤ sumAt hs b → b ≤ stepLimit → d ≡ fallAt hs b → d ≡ 0 → LeastAt hs b
+  unfolding sumAt countAt fallAt
   least-found b d h k e q = record { met = h; last = under; bounded = k }
     where
       at-next : (a : ℕ) → b ≡ suc a → b ≡ a + 1

@@ -3,37 +3,36 @@ use mathlib.Core.Path.{_≡_, refl, sym, ap, subst}
 use mathlib.Core.Bool.{Bool, true, false, cond, false≢true}
 use mathlib.Core.List.{List, [], _∷_}
 use mathlib.Core.Logic.{_⊎_, inl, inr}
-use Prim.Native.Nat.{ℕ, zero, suc, _+_, _*_, _-_, _/_, _≤_, _<_}
-use native.Mathlib.Nat.{mul-comm, suc-mul, lt-div-mul-add, le-add-right}
+use Prim.Native.Nat.{ℕ, zero, suc, _+_, _*_, _-_, _/_, _≤_, _<_, min}
+use native.Mathlib.Nat.{mul-comm, suc-mul, lt-div-mul-add, le-add-right, min-eq-left, min-eq-right, min-le-right}
+use native.Mathlib.Decide.{decLe}
 use native.Mathlib.Omega.{arith}
 use lib.ListN.{length}
 use lib.IntN.{ℤ, pos, negsuc, negℤ, natAbs, _+ℤ_, _-ℤ_}
 use lib.Signed.{_≤ℤ_, _<ℤ_, ltZ}
-use mir.Syntax.{w32}
-use mir.Val.{SFits}
-use Rattle.rules.specs.Limits.{offsetLimit, priceLimit, stepLimit, valueLimit, maxDegree, unit}
+use Rattle.rules.specs.Limits.{stepLimit, valueLimit, maxDegree, unit}
 use Rattle.integers.specs.Linear.{lin, arithZ, _⩽_, Within, up, le-out, lt-ltZ}
-use Rattle.integers.specs.Product.{natAbs-≤, abs-pos}
+use Rattle.integers.specs.Product.{abs-pos}
 use Rattle.integers.specs.Sum.{AllWithin}
 use Rattle.rules.specs.Parity.{left, odd, Alike}
 use Rattle.rules.specs.Step.{clips, moves, short, multiplier}
 use Rattle.rules.proofs.CutRule.{Cuts}
 use Rattle.rules.proofs.Multiplier.{moves-zero, multiplier-least, multiplier-unique}
-use Rattle.cut.specs.Heights.{height, heightsOf, higher, highest}
-use Rattle.decoder.specs.Lifted.{lifted, tally, sumAt, sumZ, AllUpTo, Rising, LeastAt, lack, lackLimit, reach}
-use Rattle.decoder.proofs.MultiplierSumLaws.{sum-within, up-to-more}
-use Rattle.decoder.proofs.LiftedLaws.{short-of, met-of, of-short}
+use Rattle.cut.specs.Heights.{height, heightsOf, leastHeight, higher, highest}
+use Rattle.multiplier_search.specs.Lifted.{lifted, tally, sumAt, sumZ, AllUpTo, Rising, LeastAt, lack, firstStep, lowest, reach}
+use Rattle.multiplier_search.proofs.PackedLaws.{up-to-more}
+use Rattle.multiplier_search.proofs.LiftedLaws.{short-of, met-of, of-short}
 
 -- ---- the greatest height is one of them
 abbrev In : ℤ → List ℤ → Type 0
 In x [] = ⊥
 In x (h ∷ hs) = (x ≡ h) ⊎ In x hs
 
-floor-low : (h : ℤ) → Within stepLimit h → ltZ h (negℤ (pos 2147479552)) ≡ false
+floor-low : (h : ℤ) → Within stepLimit h → ltZ h leastHeight ≡ false
 floor-low h = simp lin (omega arithZ)
 
 highest-in : (h : ℤ) (hs : List ℤ) → AllWithin stepLimit (h ∷ hs) → In (highest (h ∷ hs)) (h ∷ hs)
-highest-in h [] w = inl (ap (λ b. cond b (negℤ (pos 2147479552)) h) (floor-low h (w .0)))
+highest-in h [] w = inl (ap (λ b. cond b leastHeight h) (floor-low h (w .0)))
 highest-in h (k ∷ hs) w = go (ltZ h (highest (k ∷ hs))) (highest-in k hs (w .1))
   where
     go : (b : Bool) → In (highest (k ∷ hs)) (k ∷ hs) → In (cond b (highest (k ∷ hs)) h) (h ∷ k ∷ hs)
@@ -69,23 +68,33 @@ in-sum b x (h ∷ hs) (inr i) = later (lifted b h) (lifted b x) (tally (lifted b
     later c a n h = omega arith
 
 -- ---- the heights of values that are small
-bounds : (t : Bool) (v : ℤ) → Within valueLimit v → (negℤ (pos offsetLimit) ⩽ height t v) × (height t v ⩽ pos stepLimit)
-bounds true v w = (simp lin (omega arithZ), simp lin (omega arithZ))
-bounds false v w = (simp lin (omega arithZ), simp lin (omega arithZ))
+small : (t : Bool) (v : ℤ) → Within valueLimit v → Within stepLimit (height t v)
+small true v = simp lin (omega arithZ)
+small false v = simp lin (omega arithZ)
 
-in-low : (x : ℤ) (ts : List Bool) (vs : List ℤ) → AllWithin valueLimit vs → In x (heightsOf ts vs) → negℤ (pos offsetLimit) ⩽ x
-in-low x [] vs w i = absurd i
-in-low x (t ∷ ts) [] w i = absurd i
-in-low x (t ∷ ts) (v ∷ vs) w (inl e) = subst (λ z. negℤ (pos offsetLimit) ⩽ z) (sym e) (bounds t v (w .0) .0)
-in-low x (t ∷ ts) (v ∷ vs) w (inr i) = in-low x ts vs (w .1) i
-
-box : (z : ℤ) → negℤ (pos offsetLimit) ⩽ z → z ⩽ pos stepLimit → Within stepLimit z
-box z = simp lin (omega arithZ)
-
-pub heights-small : (ts : List Bool) (vs : List ℤ) → AllWithin valueLimit vs → AllWithin stepLimit (heightsOf ts vs)
+heights-small : (ts : List Bool) (vs : List ℤ) → AllWithin valueLimit vs → AllWithin stepLimit (heightsOf ts vs)
 heights-small [] vs w = tt
 heights-small (t ∷ ts) [] w = tt
-heights-small (t ∷ ts) (v ∷ vs) w = (box (height t v) (bounds t v (w .0) .0) (bounds t v (w .0) .1), heights-small ts vs (w .1))
+heights-small (t ∷ ts) (v ∷ vs) w = (small t v (w .0), heights-small ts vs (w .1))
+
+low : (t : Bool) (v : ℤ) → Within valueLimit v → negℤ (pos lowest) ⩽ height t v
+low true v = simp lin (omega arithZ)
+low false v = simp lin (omega arithZ)
+
+in-low : (x : ℤ) (ts : List Bool) (vs : List ℤ) → AllWithin valueLimit vs → In x (heightsOf ts vs) → negℤ (pos lowest) ⩽ x
+in-low x [] vs w i = absurd i
+in-low x (t ∷ ts) [] w i = absurd i
+in-low x (t ∷ ts) (v ∷ vs) w (inl e) = subst (λ z. negℤ (pos lowest) ⩽ z) (sym e) (low t v (w .0))
+in-low x (t ∷ ts) (v ∷ vs) w (inr i) = in-low x ts vs (w .1) i
+
+-- on a cut's side none is above 2U, so that what is lowest bounds their sizes
+pub heights-within : (ts : List Bool) (vs : List ℤ) → AllWithin valueLimit vs → AllUpTo (pos reach) (heightsOf ts vs) → AllWithin lowest (heightsOf ts vs)
+heights-within [] vs w a = tt
+heights-within (t ∷ ts) [] w a = tt
+heights-within (t ∷ ts) (v ∷ vs) w a = (box (height t v) (low t v (w .0)) (a .0), heights-within ts vs (w .1) (a .1))
+  where
+    box : (z : ℤ) → negℤ (pos lowest) ⩽ z → z ⩽ pos reach → Within lowest z
+    box z = simp lin (omega arithZ)
 
 pub heights-length : (ts : List Bool) (vs : List ℤ) → Alike ts vs → length (heightsOf ts vs) ≡ length vs
 heights-length [] [] a = refl
@@ -137,7 +146,7 @@ module _ (ts : List Bool) (vs : List ℤ) (few : length vs ≤ maxDegree) (small
   rising = record {
     some = nonempty hs member;
     few = subst (λ n. n ≤ maxDegree) (sym (heights-length ts vs alike)) few;
-    small = heights-small ts vs small;
+    small = heights-within ts vs small (up-to-more (highest hs) (pos reach) hs short-top (highest-most hs));
     short = at-zero;
     low = in-low (highest hs) ts vs small member;
     high = short-top;
@@ -199,46 +208,37 @@ sum-under (h ∷ hs) = both h (sumZ hs) (lifted 0 h) (tally (lifted 0) hs) (up-l
     both : (h s : ℤ) (m n : ℕ) → h +ℤ pos 0 ⩽ pos m → s ⩽ pos n → h +ℤ s ⩽ pos (m + n)
     both h s m n = simp lin (omega arithZ)
 
-pub together-fits : (hs : List ℤ) → length hs ≤ maxDegree → AllWithin stepLimit hs → sumAt hs 0 < reach
-    → SFits w32 (lack hs) × (pos 0 ≤ℤ lack hs) × (natAbs (lack hs) ≤ lackLimit)
+pub lack-above : (hs : List ℤ) → sumAt hs 0 < reach → pos 0 ≤ℤ lack hs
 unfolding sumAt
-together-fits hs h w k = (fits (sumZ hs) within, not-less (sumZ hs) (tally (lifted 0) hs) (sum-under hs) k, size (lack hs) (lacking (sumZ hs) within))
+lack-above hs k = above (sumZ hs) (tally (lifted 0) hs) (sum-under hs) k
   where
-    wide : (n : ℕ) (z : ℤ) → n ≤ maxDegree → Within (stepLimit * n) z → Within priceLimit z
-    wide n z = simp lin (omega arithZ)
+    above : (z : ℤ) (n : ℕ) → z ⩽ pos n → n < reach → pos 0 ≤ℤ (pos reach -ℤ z)
+    above z n = simp lin (omega arithZ)
 
-    within : Within priceLimit (sumZ hs)
-    within = wide (length hs) (sumZ hs) h (sum-within stepLimit hs w)
+pub start-above : (x : ℤ) → x ≤ℤ pos reach → pos 0 ≤ℤ (pos reach -ℤ x)
+start-above x = simp lin (omega arithZ)
 
-    fits : (z : ℤ) → Within priceLimit z → SFits w32 (pos reach -ℤ z)
-    fits z = simp lin (omega arithZ)
-
-    lacking : (z : ℤ) → Within priceLimit z → Within lackLimit (pos reach -ℤ z)
-    lacking z = simp lin (omega arithZ)
-
-    size : (z : ℤ) → Within lackLimit z → natAbs z ≤ lackLimit
-    size z = natAbs-≤ z lackLimit
-
-    not-less : (z : ℤ) (n : ℕ) → z ⩽ pos n → n < reach → pos 0 ≤ℤ (pos reach -ℤ z)
-    not-less z n = simp lin (omega arithZ)
-
--- ---- machine words
-pub sum-next : (n : ℕ) (z h : ℤ) → n < maxDegree → Within (stepLimit * n) z → Within stepLimit h → SFits w32 (z +ℤ h) × Within (stepLimit * (n + 1)) (z +ℤ h)
-sum-next n z h k w x = (fits n z h k w x, within n z h w x)
+-- the first step is enough, and no more than the greatest height lacks
+pub first-met : (hs : List ℤ) (top : ℤ) → Rising hs top → reach ≤ sumAt hs (firstStep hs top)
+unfolding firstStep
+first-met hs top r = lesser ((natAbs (lack hs) + (length hs - 1)) / length hs) (natAbs (pos reach -ℤ top)) (λ n. reach ≤ sumAt hs n)
+    (level-met hs (natAbs (lack hs)) (r .some) (abs-pos (lack hs) (lack-above hs (r .short)))) (r .met)
   where
-    fits : (n : ℕ) (z h : ℤ) → n < maxDegree → Within (stepLimit * n) z → Within stepLimit h → SFits w32 (z +ℤ h)
-    fits n z h = simp lin (omega arithZ)
+    lesser : (a b : ℕ) (P : ℕ → Type 0) → P a → P b → P (min a b)
+    lesser a b P p q = go (decLe a b)
+      where
+        go : Dec (a ≤ b) → P (min a b)
+        go (yes h) = subst P (sym (min-eq-left h)) p
+        go (no f) = subst P (sym (min-eq-right (omega arith))) q
 
-    within : (n : ℕ) (z h : ℤ) → Within (stepLimit * n) z → Within stepLimit h → Within (stepLimit * (n + 1)) (z +ℤ h)
-    within n z h = simp lin (omega arithZ)
+pub first-most : (hs : List ℤ) (top : ℤ) → firstStep hs top ≤ natAbs (pos reach -ℤ top)
+unfolding firstStep
+first-most hs top = min-le-right ((natAbs (lack hs) + (length hs - 1)) / length hs) (natAbs (pos reach -ℤ top))
 
-pub start-fits : (x : ℤ) → negℤ (pos offsetLimit) ≤ℤ x → x ≤ℤ pos reach → SFits w32 (pos reach -ℤ x) × (pos 0 ≤ℤ (pos reach -ℤ x))
-start-fits x h k = (simp lin (omega arithZ), simp lin (omega arithZ))
-
-pub start-most : (x : ℤ) → negℤ (pos offsetLimit) ≤ℤ x → x ≤ℤ pos reach → natAbs (pos reach -ℤ x) ≤ stepLimit
+pub start-most : (x : ℤ) → negℤ (pos lowest) ≤ℤ x → x ≤ℤ pos reach → natAbs (pos reach -ℤ x) ≤ reach + lowest
 start-most x h k = size (pos reach -ℤ x) (simp lin (omega arithZ)) (simp lin (omega arithZ))
   where
-    size : (z : ℤ) → pos 0 ≤ℤ z → z ≤ℤ pos stepLimit → natAbs z ≤ stepLimit
+    size : (z : ℤ) → pos 0 ≤ℤ z → z ≤ℤ pos (reach + lowest) → natAbs z ≤ reach + lowest
     size (pos n) h k = omega (arith, le-out k)
     size (negsuc n) h k = absurd (omega arithZ)
 

@@ -2,11 +2,11 @@
 -- reach 2U together (document 01, "One round", step 2). Definitions only. Assumes nothing.
 use mathlib.Core.Path.{_≡_}
 use mathlib.Core.List.{List, [], _∷_}
-use Prim.Native.Nat.{ℕ, suc, _+_, _*_, _^_, _≤_, _<_, min}
+use Prim.Native.Nat.{ℕ, suc, _+_, _-_, _*_, _/_, _^_, _≤_, _<_, min}
 use lib.ListN.{length}
 use lib.IntN.{ℤ, pos, negℤ, natAbs, _+ℤ_, _-ℤ_}
 use lib.Signed.{_≤ℤ_}
-use Rattle.rules.specs.Limits.{unit, maxDegree, offsetLimit, stepLimit, priceLimit}
+use Rattle.rules.specs.Limits.{unit, maxDegree, offsetLimit, stepLimit}
 use Rattle.integers.specs.Linear.{up}
 use Rattle.integers.specs.Sum.{AllWithin}
 
@@ -14,9 +14,13 @@ use Rattle.integers.specs.Sum.{AllWithin}
 abbrev pub reach : ℕ
 reach = 2 * unit
 
+-- how far a height can be below 0: a value's size is at most U and an offset's, which 43 holds to 8,192 × 1,023
+abbrev pub lowest : ℕ
+lowest = offsetLimit
+
 -- the most that a check's heights lack together
 abbrev pub lackLimit : ℕ
-lackLimit = reach + priceLimit
+lackLimit = reach + maxDegree * lowest
 
 -- a height and b, and 0 for what is negative
 abbrev pub lifted : ℕ → ℤ → ℕ
@@ -54,6 +58,14 @@ sumZ (h ∷ hs) = h +ℤ sumZ hs
 abbrev pub lack : List ℤ → ℤ
 lack hs = pos reach -ℤ sumZ hs
 
+-- where the search starts, enough for them: the lesser of the step that lifts all to 2U together and the one that lifts the greatest alone
+unfoldable pub firstStep : List ℤ → ℤ → ℕ
+firstStep hs top = min ((natAbs (lack hs) + (length hs - 1)) / length hs) (natAbs (pos reach -ℤ top))
+
+-- how far a step that is enough can fall at once
+unfoldable pub fallAt : List ℤ → ℕ → ℕ
+fallAt hs b = (sumAt hs b - reach) / countAt hs b
+
 -- no height is above t
 abbrev pub AllUpTo : ℤ → List ℤ → Type 0
 AllUpTo t [] = Unit {0}
@@ -63,9 +75,9 @@ AllUpTo t (h ∷ hs) = (h ≤ℤ t) × AllUpTo t hs
 pub record Rising (hs : List ℤ) (top : ℤ) : Type 0 where
   pub some : 0 < length hs
   pub few : length hs ≤ maxDegree
-  pub small : AllWithin stepLimit hs
+  pub small : AllWithin lowest hs
   pub short : sumAt hs 0 < reach
-  pub low : negℤ (pos offsetLimit) ≤ℤ top
+  pub low : negℤ (pos lowest) ≤ℤ top
   pub high : top ≤ℤ pos reach
   pub most : AllUpTo top hs
   pub met : reach ≤ sumAt hs (natAbs (pos reach -ℤ top))

@@ -9,13 +9,11 @@ use native.Mathlib.Numerals.{add-one}
 use lib.ListN.{length, getD, take}
 use lib.Seq.{take-suc, take-all}
 use lib.IntN.{ℤ, pos, negsuc, natAbs, _+ℤ_, _-ℤ_}
-use lib.Signed.{_≤ℤ_, _<ℤ_, ltZ}
-use mir.Syntax.{w32}
-use mir.Val.{SFits}
-use Rattle.rules.specs.Limits.{stepLimit, maxDegree}
+use lib.Signed.{_<ℤ_, ltZ}
+use Rattle.rules.specs.Limits.{maxDegree}
 use Rattle.integers.specs.Linear.{lin, arithZ, _⩽_, Within, up, le-out, lt-out}
 use Rattle.integers.specs.Sum.{AllWithin}
-use Rattle.decoder.specs.Lifted.{lifted, lifting, tally, sumAt, countAt, one, packed, sumZ, AllUpTo, reach}
+use Rattle.multiplier_search.specs.Lifted.{lifted, lifting, tally, sumAt, countAt, one, packed, sumZ, AllUpTo, reach}
 
 -- ---- of all heights: the first places, one more, and bounds
 add-first : (x a b c : ℤ) → a ≡ b +ℤ c → x +ℤ a ≡ (x +ℤ b) +ℤ c
@@ -58,11 +56,6 @@ unfolding packedFirst
 first-next hs b i k = sym (tally-take (packed b) i hs k) ∙ ap (λ n. tally (packed b) (take n hs)) (sym (add-one i))
 
 -- ---- sum and number in one: a sum of at most 32 heights that are lifted to 2U at most is less than `one`
-pub up-to-at : (t : ℤ) (hs : List ℤ) (i : ℕ) → i < length hs → AllUpTo t hs → getD hs i (pos 0) ⩽ t
-up-to-at t [] i k a = absurd (omega arith)
-up-to-at t (h ∷ hs) zero k a = a .0
-up-to-at t (h ∷ hs) (suc i) k a = up-to-at t hs i (omega arith) (a .1)
-
 pub up-to-more : (s t : ℤ) (hs : List ℤ) → s ⩽ t → AllUpTo s hs → AllUpTo t hs
 up-to-more s t [] l a = tt
 up-to-more s t (h ∷ hs) l a = (trans h s t (a .0) l, up-to-more s t hs l (a .1))
@@ -90,6 +83,13 @@ sum-le b (h ∷ hs) a = next (lifted b h) (tally (lifted b) hs) (length hs) (lif
     next : (x y n : ℕ) → x ≤ reach → y ≤ reach * n → x + y ≤ reach * suc n
     next x y n h k = omega arith
 
+pub sum-most : (hs : List ℤ) (b : ℕ) → length hs ≤ maxDegree → AllUpTo (pos reach -ℤ pos b) hs → sumAt hs b ≤ reach * maxDegree
+unfolding sumAt
+sum-most hs b few a = most (length hs) (tally (lifted b) hs) few (sum-le b hs a)
+  where
+    most : (n x : ℕ) → n ≤ maxDegree → x ≤ reach * n → x ≤ reach * maxDegree
+    most n x h k = omega arith
+
 both : (b : ℕ) (hs : List ℤ) → tally (packed b) hs ≡ one * tally (lifting b) hs + tally (lifted b) hs
 both b [] = refl
 both b (h ∷ hs) = ap (λ n. packed b h + n) (both b hs) ∙ shuffle (lifting b h) (lifted b h) (tally (lifting b) hs) (tally (lifted b) hs)
@@ -110,19 +110,7 @@ unpacked hs b i few a k =
     apart p n x e h = (omega arith, omega arith)
 
 -- ---- a member by the code's test
-pub down-fits : (b : ℕ) → b ≤ stepLimit → SFits w32 (pos 0 -ℤ pos b)
-down-fits b = simp lin (omega arithZ)
-
 module _ (b : ℕ) (h : ℤ) where
-  pub above-fits : ltZ (pos 0 -ℤ pos b) h ≡ true → h ⩽ pos reach -ℤ pos b → SFits w32 (pos b +ℤ h) × (pos 0 ≤ℤ (pos b +ℤ h))
-  above-fits t l = (fits b h t l, above b h t)
-    where
-      fits : (b : ℕ) (h : ℤ) → ltZ (pos 0 -ℤ pos b) h ≡ true → h ⩽ pos reach -ℤ pos b → SFits w32 (pos b +ℤ h)
-      fits b h = simp lin (omega arithZ)
-
-      above : (b : ℕ) (h : ℤ) → ltZ (pos 0 -ℤ pos b) h ≡ true → pos 0 ≤ℤ (pos b +ℤ h)
-      above b h = simp lin (omega arithZ)
-
   pub above-packed : ltZ (pos 0 -ℤ pos b) h ≡ true → one + natAbs (pos b +ℤ h) ≡ packed b h
   above-packed t = ap (λ z. one + natAbs z) (turned b h) ∙ some (h +ℤ pos b) (above b h t)
     where

@@ -1,0 +1,3 @@
+pub mod Lifted
+pub mod Sums
+pub mod Examples
