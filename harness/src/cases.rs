@@ -1,10 +1,12 @@
 //! Cases: one call, or a list of calls on the same buffers, put to several decoders at once.
 
 pub mod compare;
+pub mod digest;
 pub mod make;
 
 use crate::decoder::{Called, Cut, Record, Refusal, Sizes, Verdict};
 use crate::gen::state::{Lengths, State};
+use digest::Digest;
 use jugnayap::limits::DEPTH;
 
 pub enum Case {
@@ -36,6 +38,45 @@ impl Case {
             Case::Run(_) => "run",
         }
     }
+
+    /// Adds the inputs to a digest.
+    pub fn put(&self, digest: &mut Digest) {
+        digest.numbers(self.kind().as_bytes());
+        match self {
+            Case::Table { code } => digest.numbers(code),
+            Case::Cut { code, point, check } => {
+                digest.numbers(code);
+                digest.numbers(point);
+                digest.size(*check);
+            }
+            Case::Judge { code, frame, word, certificate } => {
+                digest.numbers(code);
+                digest.numbers(frame);
+                digest.numbers(word);
+                digest.numbers(certificate);
+            }
+            Case::Agreement { code, frame, word } => {
+                digest.numbers(code);
+                digest.numbers(frame);
+                digest.numbers(word);
+            }
+            Case::Run(run) => run.put(digest),
+        }
+    }
+}
+
+impl Run {
+    fn put(&self, digest: &mut Digest) {
+        digest.numbers(&self.code);
+        digest.numbers(&self.frame);
+        digest.numbers(&[self.record.rounds, self.record.status]);
+        self.state.put(digest);
+        self.start.iter().for_each(|lengths| digest.sizes(lengths));
+        for (wanted, lengths) in &self.calls {
+            digest.number(*wanted);
+            digest.sizes(lengths);
+        }
+    }
 }
 
 #[derive(Clone, Copy, Debug, PartialEq, Eq)]
@@ -51,6 +92,11 @@ pub enum Answer {
 /// The tally's words for cuts of depth 1 and of depth 2U.
 pub const LEAST_DEPTH: &str = "least depth";
 pub const GREATEST_DEPTH: &str = "greatest depth";
+
+/// Multipliers that only a run resumed at 43's limits has, and the tally's words for calls that left one: that
+/// of 32 members whose values are all as far out as can be, where the sum of heights is the least, and the
+/// greatest that there is, on one member.
+pub const EDGES: [(u32, &str); 2] = [(8_380_672, "edge of 32"), (8_388_608, "edge of 1")];
 
 impl Answer {
     /// The call and its kind of answer, for the tally.

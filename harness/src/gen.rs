@@ -4,6 +4,7 @@ pub mod certificate;
 pub mod code;
 pub mod codeword;
 pub mod damage;
+pub mod edge;
 pub mod empty;
 pub mod frame;
 pub mod rng;

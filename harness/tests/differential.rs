@@ -1,19 +1,19 @@
 //! A small seeded series of cases to the proved decoder, the independent one and the plain one.
 
-use harness::cases::compare::{compare, Tally};
+use harness::cases::compare::{compare, Seen, Tally};
 use harness::cases::make;
 use harness::decoder::Decoder;
 use harness::independent::{Independent, Plain};
 use harness::proved::Proved;
 
 fn series(decoders: &[&dyn Decoder], seed: u64, count: u64) -> Tally {
-    let mut tally = Tally::new();
+    let mut seen = Seen::default();
     for (index, case) in make::series(seed, count).enumerate() {
-        if let Err(what) = compare(decoders, &case, &mut tally) {
+        if let Err(what) = compare(decoders, &case, &mut seen) {
             panic!("seed {seed} case {index} ({}): {what}", case.kind());
         }
     }
-    tally
+    seen.tally
 }
 
 #[test]

@@ -8,15 +8,16 @@ use lib.Dec.{ltb}
 use native.Mathlib.Nat.{mul-le-mul-left}
 use lib.ListN.{length, length-map}
 use borrow.Author.Tests.{ltb-true}
-use lib.IntN.{ℤ, pos, _+ℤ_, _-ℤ_}
+use lib.IntN.{ℤ, pos, negsuc, negℤ, _+ℤ_, _-ℤ_}
+use lib.Signed.{_≤ℤ_}
 use Rattle.integers.specs.Linear.{lin, arithZ, _⩽_, Within, up}
 use Rattle.integers.specs.Order.{up-mono, within-add, within-wider, within-zero}
 use Rattle.integers.specs.Sum.{AllWithin}
 use Rattle.rules.specs.Limits.{unit, valueLimit, maxDegree}
 use Rattle.rules.specs.Parity.{odd}
-use Rattle.rules.specs.Cut.{negatives}
+use Rattle.rules.specs.Cut.{isNeg, negatives}
 use Rattle.rules.proofs.Pass.{append-within, all-wider}
-use Rattle.cut.specs.Heights.{highest}
+use Rattle.cut.specs.Heights.{height, highest}
 use Rattle.cut.specs.Scan.{sights, rooms}
 use Rattle.cut.proofs.HeightLaws.{height-top, sights-top, sights-length}
 use Rattle.cut.proofs.SeeLaws.{above-within}
@@ -65,55 +66,68 @@ mapped-partials m n t f xs h few k a = few-partials m n (map (λ x. pos (f x)) x
     each [] a = tt
     each (x ∷ xs) a = (size (f x) (h x (a .0)), each xs (a .1))
 
--- ---- the cut search
-module _ (vs : List ℤ) (few : length vs ≤ maxDegree) (small : AllWithin valueLimit vs) where
-  sights-few : length (sights vs) ≤ maxDegree
-  sights-few = subst (λ n. n ≤ maxDegree) (sym (sights-length vs)) few
+-- ---- the cut search: but for the heights themselves no sum is above 32 times U
+sights-up : (vs : List ℤ) → AllUpTo (pos unit) (sights vs)
+sights-up [] = tt
+sights-up (v ∷ vs) = (height-top v, sights-up vs)
 
-  sights-up : AllUpTo (pos unit) (sights vs)
-  sights-up = go vs
-    where
-      go : (vs : List ℤ) → AllUpTo (pos unit) (sights vs)
-      go [] = tt
-      go (v ∷ vs) = (height-top v, go vs)
-
-  sights-within : AllWithin lowest (sights vs)
-  sights-within = heights-within (negatives vs) vs small (up-to-more (pos unit) (pos reach) (sights vs) (simp lin (omega arithZ)) sights-up)
-
-  scan-within : AllWithin widest (scanSums vs)
-  scan-within = append-within widest (sights vs) (partials (pos 0) (map (λ h. pos (up h)) (sights vs)))
-      (all-wider lowest widest (sights vs) (omega arith) sights-within)
-      (mapped-partials unit widest (pos unit) up (sights vs) (λ h. up-mono h (pos unit)) sights-few (omega arith) sights-up)
-
-  odd-within : (room : ℕ) → AllWithin widest (oddSums room)
+module _ (m : ℕ) (wide : unit * maxDegree ≤ m) where
+  odd-within : (room : ℕ) → AllWithin m (oddSums room)
   odd-within room = go (ltb room reach) refl
     where
-      size : (room : ℕ) → room < reach → Within widest (pos reach -ℤ pos room)
-      size room = simp lin (omega arithZ)
+      size : (m room : ℕ) → unit * maxDegree ≤ m → room < reach → Within m (pos reach -ℤ pos room)
+      size m room = simp lin (omega arithZ)
 
-      go : (t : Bool) → ltb room reach ≡ t → AllWithin widest (cond t ((pos reach -ℤ pos room) ∷ []) [])
-      go true e = (size room (ltb-true room reach e), tt)
+      go : (t : Bool) → ltb room reach ≡ t → AllWithin m (cond t ((pos reach -ℤ pos room) ∷ []) [])
+      go true e = (size m room wide (ltb-true room reach e), tt)
       go false e = tt
 
-  even-within : (room : ℕ) (top : ℤ) → top ⩽ pos unit → AllWithin widest (evenSums room top)
+  even-within : (room : ℕ) (top : ℤ) → top ⩽ pos unit → AllWithin m (evenSums room top)
   even-within room top h = (double (up top) (up-mono top (pos unit) h), go (ltb room (2 * up top)) refl)
     where
-      double : (n : ℕ) → n ≤ unit → Within widest (pos (2 * n))
+      double : (n : ℕ) → n ≤ unit → Within m (pos (2 * n))
       double n k = record { hi = omega arith; lo = omega arith }
 
-      lacks : (room n : ℕ) → n ≤ unit → room < 2 * n → Within widest (pos (2 * n) -ℤ pos room)
-      lacks room n = simp lin (omega arithZ)
+      lacks : (m room n : ℕ) → unit * maxDegree ≤ m → n ≤ unit → room < 2 * n → Within m (pos (2 * n) -ℤ pos room)
+      lacks m room n = simp lin (omega arithZ)
 
-      raised : (z : ℤ) → Within unit z → Within widest (pos reach -ℤ z)
-      raised z = simp lin (omega arithZ)
+      raised : (m : ℕ) (z : ℤ) → unit * maxDegree ≤ m → Within unit z → Within m (pos reach -ℤ z)
+      raised m z = simp lin (omega arithZ)
 
-      go : (t : Bool) → ltb room (2 * up top) ≡ t → AllWithin widest (cond t ((pos (2 * up top) -ℤ pos room) ∷ (pos reach -ℤ top) ∷ []) [])
-      go true e = let k = ltb-true room (2 * up top) e in (lacks room (up top) (up-mono top (pos unit) h) k, (raised top (above-within top room h k), tt))
+      go : (t : Bool) → ltb room (2 * up top) ≡ t → AllWithin m (cond t ((pos (2 * up top) -ℤ pos room) ∷ (pos reach -ℤ top) ∷ []) [])
+      go true e =
+          let k = ltb-true room (2 * up top) e in
+          (lacks m room (up top) wide (up-mono top (pos unit) h) k, (raised m top wide (above-within top room h k), tt))
       go false e = tt
 
-  pub see-within : AllWithin widest (seeSums vs)
-  see-within = append-within widest (scanSums vs) (cond (odd (negatives vs)) (oddSums (rooms (sights vs))) (evenSums (rooms (sights vs)) (highest (sights vs)))) scan-within (go (odd (negatives vs)))
+  sums-within : (vs : List ℤ) → length vs ≤ maxDegree → AllWithin m (sights vs) → AllWithin m (seeSums vs)
+  sums-within vs few w = append-within m (scanSums vs) (cond (odd (negatives vs)) (oddSums (rooms (sights vs))) (evenSums (rooms (sights vs)) (highest (sights vs))))
+      (append-within m (sights vs) (partials (pos 0) (map (λ h. pos (up h)) (sights vs))) w
+      (mapped-partials unit m (pos unit) up (sights vs) (λ h. up-mono h (pos unit)) (subst (λ n. n ≤ maxDegree) (sym (sights-length vs)) few) wide (sights-up vs)))
+      (go (odd (negatives vs)))
     where
-      go : (t : Bool) → AllWithin widest (cond t (oddSums (rooms (sights vs))) (evenSums (rooms (sights vs)) (highest (sights vs))))
+      go : (t : Bool) → AllWithin m (cond t (oddSums (rooms (sights vs))) (evenSums (rooms (sights vs)) (highest (sights vs))))
       go true = odd-within (rooms (sights vs))
       go false = even-within (rooms (sights vs)) (highest (sights vs)) (sights-top vs)
+
+pub see-within : (vs : List ℤ) → length vs ≤ maxDegree → AllWithin valueLimit vs → AllWithin widest (seeSums vs)
+see-within vs few small = sums-within widest (omega arith) vs few (all-wider lowest widest (sights vs) (omega arith)
+    (heights-within (negatives vs) vs small (up-to-more (pos unit) (pos reach) (sights vs) (simp lin (omega arithZ)) (sights-up vs))))
+
+-- of any 32-bit values too, which anybody may hand to `cut::see`
+pub see-narrow : (vs : List ℤ) → length vs ≤ maxDegree → AllWithin (2 ^ 31) vs → AllNarrow (seeSums vs)
+see-narrow vs few w = sums-within (2 ^ 31 - 1) (omega arith) vs few (each vs w)
+  where
+    own : (v : ℤ) → Within (2 ^ 31) v → Within (2 ^ 31 - 1) (height (isNeg v) v)
+    own (pos n) h = plain n (h .hi)
+      where
+        plain : (n : ℕ) → n ≤ 2 ^ 31 → Within (2 ^ 31 - 1) (pos unit +ℤ negℤ (pos n))
+        plain n = simp lin (omega arithZ)
+    own (negsuc n) h = plain (negsuc n) h (record { le = tt })
+      where
+        plain : (v : ℤ) → Within (2 ^ 31) v → v ≤ℤ pos 0 → Within (2 ^ 31 - 1) (pos unit +ℤ v)
+        plain v = simp lin (omega arithZ)
+
+    each : (vs : List ℤ) → AllWithin (2 ^ 31) vs → AllWithin (2 ^ 31 - 1) (sights vs)
+    each [] w = tt
+    each (v ∷ vs) w = (own v (w .0), each vs (w .1))

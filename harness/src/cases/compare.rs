@@ -1,6 +1,7 @@
 //! The same case to every decoder: answers, records and whole buffers must be equal.
 
-use super::{Answer, Case, Run};
+use super::digest::Digest;
+use super::{Answer, Case, Run, EDGES};
 use crate::decoder::{Decoder, Record};
 use crate::gen::state::{Lengths, State};
 use std::collections::BTreeMap;
@@ -8,19 +9,36 @@ use std::collections::BTreeMap;
 /// How often each call gave each kind of answer.
 pub type Tally = BTreeMap<(&'static str, String), u64>;
 
+/// What was seen of the cases so far.
+#[derive(Default)]
+pub struct Seen {
+    pub tally: Tally,
+    /// Of the inputs, and of what the last decoder answered and left in all its buffers. Another decoder's is
+    /// the same as long as nothing differs.
+    pub digest: Digest,
+}
+
+impl Seen {
+    fn count(&mut self, label: (&'static str, String)) {
+        *self.tally.entry(label).or_default() += 1;
+    }
+}
+
 /// Puts a case to all decoders. Says what differs from the first one's, if anything does.
-pub fn compare(decoders: &[&dyn Decoder], case: &Case, tally: &mut Tally) -> Result<(), String> {
+pub fn compare(decoders: &[&dyn Decoder], case: &Case, seen: &mut Seen) -> Result<(), String> {
+    case.put(&mut seen.digest);
     match case {
-        Case::Run(run) => compare_run(decoders, run, tally),
+        Case::Run(run) => compare_run(decoders, run, seen),
         _ => {
             let answers: Vec<Answer> = decoders.iter().map(|decoder| single(*decoder, case)).collect();
-            agree(decoders, &answers, tally)
+            agree(decoders, &answers, seen)
         }
     }
 }
 
-fn agree(decoders: &[&dyn Decoder], answers: &[Answer], tally: &mut Tally) -> Result<(), String> {
-    *tally.entry(answers[0].label()).or_default() += 1;
+fn agree(decoders: &[&dyn Decoder], answers: &[Answer], seen: &mut Seen) -> Result<(), String> {
+    seen.count(answers[0].label());
+    seen.digest.numbers(format!("{:?}", answers.last()).as_bytes());
     match answers.iter().position(|answer| *answer != answers[0]) {
         None => Ok(()),
         Some(k) => {
@@ -64,29 +82,44 @@ impl Side<'_> {
     }
 }
 
-fn compare_run(decoders: &[&dyn Decoder], run: &Run, tally: &mut Tally) -> Result<(), String> {
+fn compare_run(decoders: &[&dyn Decoder], run: &Run, seen: &mut Seen) -> Result<(), String> {
     let new = |decoder| Side { decoder, record: run.record, state: run.state.clone() };
     let mut sides: Vec<Side> = decoders.iter().copied().map(new).collect();
     if let Some(lengths) = &run.start {
         let answers: Vec<Answer> = sides.iter_mut().map(|side| side.start(run, lengths)).collect();
-        agree(decoders, &answers, tally)?;
-        same_buffers(&sides).map_err(|what| format!("after the start, {what}"))?;
+        agree(decoders, &answers, seen)?;
+        same_buffers(&sides, seen).map_err(|what| format!("after the start, {what}"))?;
     }
     for (place, (wanted, lengths)) in run.calls.iter().enumerate() {
+        let before = sides[0].record.rounds;
         let answers: Vec<Answer> = sides.iter_mut().map(|side| side.call(run, *wanted, lengths)).collect();
-        agree(decoders, &answers, tally).map_err(|what| format!("call {place}: {what}"))?;
-        same_buffers(&sides).map_err(|what| format!("after call {place}, {what}"))?;
+        agree(decoders, &answers, seen).map_err(|what| format!("call {place}: {what}"))?;
+        same_buffers(&sides, seen).map_err(|what| format!("after call {place}, {what}"))?;
+        if sides[0].record.rounds > before {
+            count_edges(&sides[0].state, seen);
+        }
     }
     Ok(())
 }
 
 /// Whole buffers, with what was not lent and the guards.
-fn same_buffers(sides: &[Side]) -> Result<(), String> {
+fn same_buffers(sides: &[Side], seen: &mut Seen) -> Result<(), String> {
     let first = &sides[0];
     for other in &sides[1..] {
         if let Some(buffer) = first.state.differing(&other.state) {
             return Err(format!("{buffer} of {} and {} differ", first.decoder.name(), other.decoder.name()));
         }
     }
+    sides[sides.len() - 1].state.put(&mut seen.digest);
     Ok(())
+}
+
+/// Counts a call that has left one of the multipliers at the edge.
+fn count_edges(state: &State, seen: &mut Seen) {
+    let left = state.multipliers.lent();
+    for (multiplier, word) in EDGES {
+        if left.contains(&multiplier) {
+            seen.count(("left", word.into()));
+        }
+    }
 }

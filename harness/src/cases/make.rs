@@ -5,12 +5,15 @@ use crate::decoder::Record;
 use crate::gen::certificate::{self, Draft};
 use crate::gen::rng::Rng;
 use crate::gen::state::{lent_lengths, Lengths, Shape, State};
-use crate::gen::{code, damage, empty, frame};
+use crate::gen::{code, damage, edge, empty, frame};
 use crate::independent::limits::ROUND_LIMIT;
 use crate::independent::table::Table;
 
 /// Edges, or checks where they are more, times rounds of a usual case; few are longer.
 const USUAL_WORK: usize = 60_000;
+
+/// One case in so many is a run at 43's limits.
+const EDGE: usize = 400;
 
 fn usual_rounds(checks: usize, edges: usize) -> u32 {
     (USUAL_WORK / edges.max(checks)).clamp(1, ROUND_LIMIT as usize) as u32
@@ -22,6 +25,9 @@ pub fn series(seed: u64, count: u64) -> impl Iterator<Item = Case> {
 }
 
 pub fn case(rng: &mut Rng) -> Case {
+    if rng.one_in(EDGE) {
+        return Case::Run(Box::new(at_edge(rng)));
+    }
     let sound = code::any(rng);
     let table = Table::parse(&sound).expect("a sound code");
     let mut code = sound.clone();
@@ -158,5 +164,13 @@ fn half_done(rng: &mut Rng, code: Vec<u8>, table: &Table) -> Run {
         state.overstep(rng, table, &mut record);
     }
     let calls = calls(rng, shape, &state);
+    Run { code, frame, record, state, start: None, calls }
+}
+
+/// A list of calls on a run that stands at 43's limits.
+fn at_edge(rng: &mut Rng) -> Run {
+    let edge::Resumed { code, table, record, state } = edge::resumed(rng);
+    let frame = any_frame(rng, &table);
+    let calls = calls(rng, &Shape::of_table(&table), &state);
     Run { code, frame, record, state, start: None, calls }
 }

@@ -104,7 +104,7 @@ fn entry(rng: &mut Rng, table: &Table, checks: &[usize], large: bool) -> Entry {
     let check = rng.pick(checks);
     let degree = table.row(check).len() as u32;
     let mut mask = rng.draw() as u32 & (u32::MAX >> (32 - degree));
-    if mask.count_ones().is_multiple_of(2) {
+    if mask.count_ones() % 2 == 0 {
         mask ^= 1 << rng.below(degree as usize);
     }
     let multiplier = if large { MULTIPLIER_LIMIT } else { rng.between(1, 6000) as u32 };

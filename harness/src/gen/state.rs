@@ -1,6 +1,7 @@
 //! Lent buffers with guards, and half-done runs.
 
 use super::rng::Rng;
+use crate::cases::digest::Digest;
 use crate::decoder::{Buffers, Record, Refusal};
 use crate::independent::limits::{certificate_length, OFFSET_STEP, ROUND_LIMIT, UNIT};
 use crate::independent::table::Table;
@@ -86,6 +87,11 @@ macro_rules! buffers {
             pub fn lend(&mut self, lengths: &Lengths) -> Buffers<'_> {
                 let [$($name),*] = *lengths;
                 Buffers { $($name: self.$name.first($name),)* }
+            }
+
+            /// Adds all buffers to a digest, whole.
+            pub fn put(&self, digest: &mut Digest) {
+                $(digest.numbers(&self.$name.whole);)*
             }
 
             /// The first buffer that is not the other's.

@@ -47,7 +47,7 @@ fn test_entry(table: &Table, before: Option<&Entry>, entry: &Entry) -> Result<()
     }
     let degree = table.row(entry.check).len();
     let inside = u64::from(entry.mask) < 1 << degree;
-    if entry.mask.count_ones().is_multiple_of(2) || !inside {
+    if entry.mask.count_ones() % 2 == 0 || !inside {
         return Err(Refusal::ENTRY_MASK);
     }
     match before {

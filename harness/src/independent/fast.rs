@@ -4,24 +4,17 @@
 use super::certificate::{bound, cuts, write};
 use super::input::agreement;
 use super::limits::{DEGREE_LIMIT, ROUND_LIMIT, SIZE_LIMIT, UNIT};
-use super::multiplier::{least, MEMBER};
+use super::multiplier::{least, reciprocal_of, upper};
 use super::table::{place, Table};
 use crate::decoder::{Buffers, Record};
 
-/// Shift of the bits' reciprocals, which are too large by 1 at most. Quotients matter up to U, so totals to
-/// 2^17: products are too large by that at most. Degrees go to 2^5, so a quotient plus a half, if not whole,
-/// is short of the next whole number by 2^-6 at least, which is 2^18 in a product.
-const SHIFT: u32 = 24;
-
-pub fn reciprocal_of(degree: u16) -> u32 {
-    (1 << SHIFT) / u32::from(degree) + 1
-}
-
 /// The spin's size: the nearest whole number to the total's size over its bit's degree, halves up, clipped.
+/// `reciprocal` is the degree's. Twice the size over the degree is exact far beyond 2U, and further out never
+/// too small. Four times the size is below 2^31.
 #[inline(always)]
 pub fn spin_size(total: i32, reciprocal: u32) -> i32 {
-    let product = u64::from(total.unsigned_abs()) * u64::from(reciprocal);
-    (((product + (1 << (SHIFT - 1))) >> SHIFT) as i32).min(UNIT)
+    let halves = upper(total.unsigned_abs() << 2, reciprocal);
+    (halves.div_ceil(2) as i32).min(UNIT)
 }
 
 /// Per-bit state. Full-sized, so that a masked member needs no bounds check.
@@ -72,7 +65,7 @@ impl Bits {
         let zero = [0; SIZE_LIMIT];
         let mut bits = Bits { sums: zero, spins: zero, reciprocals: [0; SIZE_LIMIT] };
         for (reciprocal, &degree) in bits.reciprocals.iter_mut().zip(&table.degrees) {
-            *reciprocal = reciprocal_of(degree);
+            *reciprocal = reciprocal_of(u32::from(degree));
         }
         bits.sums[..table.bits].copy_from_slice(sums);
         bits
@@ -136,16 +129,17 @@ impl Part<'_> {
     /// Answers a negative number if the spins have an odd number of ones on some check.
     fn relax<const D: usize>(self, bits: &mut Bits) -> i32 {
         let mut broken = 0;
-        let members = self.members.as_chunks::<D>().0.iter();
-        let copies = self.copies.as_chunks_mut::<D>().0.iter_mut();
-        let offsets = self.offsets.as_chunks_mut::<D>().0.iter_mut();
+        // Written so that rustc 1.85 has it, which builds the harness for 32 bits.
+        let members = self.members.chunks_exact(D).map(|part| <&[u16; D]>::try_from(part).unwrap());
+        let copies = self.copies.chunks_exact_mut(D).map(|part| <&mut [i32; D]>::try_from(part).unwrap());
+        let offsets = self.offsets.chunks_exact_mut(D).map(|part| <&mut [i32; D]>::try_from(part).unwrap());
         let edges = members.zip(copies).zip(offsets);
         let cuts = self.multipliers.iter_mut().zip(self.masks).zip(self.depths);
         for (((members, copies), offsets), ((multiplier, mask), depth)) in edges.zip(cuts) {
             let seen = look(bits, members, offsets);
             broken |= seen.spin_signs;
             // The last round's multiplier is mostly near.
-            let (b, lack) = least(&seen.shares, seen.change(), *multiplier);
+            let (b, lack) = least(&seen.heights, seen.least_size(), seen.change(), *multiplier);
             let turned = seen.turned();
             move_copies(bits, members, copies, offsets, &seen, b, turned);
             *multiplier = b as u32;
@@ -159,8 +153,8 @@ impl Part<'_> {
 /// What one look at a check's values tells.
 struct Seen<const D: usize> {
     values: [i32; D],
-    /// U − |v|, and a member each.
-    shares: [i64; D],
+    /// U − |v|.
+    heights: [i32; D],
     /// The least |v|, times 32, plus its place.
     nearest: u32,
     /// The members with v below 0.
@@ -174,25 +168,31 @@ struct Seen<const D: usize> {
 #[inline(always)]
 fn look<const D: usize>(bits: &Bits, members: &[u16; D], offsets: &[i32; D]) -> Seen<D> {
     let (mut nearest, mut negative, mut signs, mut spin_signs) = (u32::MAX, 0, 0, 0);
-    let (mut values, mut shares) = ([0; D], [0; D]);
+    let (mut values, mut heights) = ([0; D], [0; D]);
     for k in (0..D).rev() {
         let spin = bits.spins[place(members[k])];
         let v = spin + offsets[k];
         values[k] = v;
-        shares[k] = i64::from(UNIT - v.abs()) + MEMBER;
+        heights[k] = UNIT - v.abs();
         nearest = nearest.min(v.unsigned_abs() << 5 | k as u32);
         negative = negative << 1 | v as u32 >> 31;
         signs ^= v;
         spin_signs ^= spin;
     }
-    Seen { values, shares, nearest, negative, signs, spin_signs }
+    Seen { values, heights, nearest, negative, signs, spin_signs }
 }
 
 impl<const D: usize> Seen<D> {
+    /// The least |v|.
+    #[inline(always)]
+    fn least_size(&self) -> i32 {
+        (self.nearest >> 5) as i32
+    }
+
     /// What the member that changes sides adds to the inequality's left side.
     #[inline(always)]
     fn change(&self) -> i32 {
-        (self.nearest >> 5 << 1) as i32 & !(self.signs >> 31)
+        2 * self.least_size() & !(self.signs >> 31)
     }
 
     /// The member that changes sides, as a mask.
@@ -218,7 +218,7 @@ fn move_copies<const D: usize>(
         let v = seen.values[k];
         let b = if turned >> k & 1 == 1 { -b } else { b };
         let side = v >> 31;
-        let outward = UNIT - (seen.shares[k] as i32 + b).max(0);
+        let outward = UNIT - (seen.heights[k] + b).max(0);
         let z = (outward ^ side) - side;
         copies[k] = z;
         offsets[k] = v - z;

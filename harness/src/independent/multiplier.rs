@@ -5,65 +5,90 @@
 //! for the heights h = U − |v|, where change is twice the least |v| or nothing. (The upper clip never
 //! matters: one member that reaches 2U meets the inequality alone.) At b = 0 this is the cut search's
 //! own test, on v clipped, so what it lacks there is the depth, and the least b from 0 on is the multiplier.
+//!
+//! Every sum is of 32 bits: 43 keeps |v| to U + 8,192 × 1,023, so 32 heights add up to more than −2^28.
 
-use super::limits::{DEGREE_LIMIT, FACET, MULTIPLIER_LIMIT};
+use super::limits::{DEGREE_LIMIT, FACET, MULTIPLIER_LIMIT, UNIT};
 
-/// Counts a member in a share: its height plus this.
-pub const MEMBER: i64 = 1 << 32;
+/// The upper half of a product: one multiplication on a machine of 32 bits too.
+#[inline(always)]
+pub fn upper(a: u32, b: u32) -> u32 {
+    ((u64::from(a) * u64::from(b)) >> 32) as u32
+}
 
-/// Shift of the reciprocals below: a lack is below 2^29 and a count at most 2^5.
-const SHIFT: u32 = 34;
+/// 2^31 over a number from 1 on, upward: ⌊x / number⌋ is upper(2x, this) if x × number is at most 2^31.
+pub const fn reciprocal_of(number: u32) -> u32 {
+    (1u32 << 31).div_ceil(number)
+}
 
-/// ⌊x / count⌋ is (x × RECIPROCALS[count]) >> SHIFT.
-const RECIPROCALS: [u64; 2 * DEGREE_LIMIT] = {
+/// The reciprocals of counts. The rest is there so that a masked count needs no bounds check.
+const RECIPROCALS: [u32; 2 * DEGREE_LIMIT] = {
     let mut table = [0; 2 * DEGREE_LIMIT];
     let mut count = 1;
     while count <= DEGREE_LIMIT {
-        table[count] = (1 << SHIFT) / count as u64 + 1;
+        table[count] = reciprocal_of(count as u32);
         count += 1;
     }
     table
 };
 
-/// ⌈lack / members⌉, where `sum` is a sum of shares.
-#[inline(always)]
-fn step(lack: i32, sum: i64) -> i32 {
-    // Heights may sum below 0; half a member more makes the count exact.
-    let count = ((sum + MEMBER / 2) >> 32) as usize;
-    let raised = (lack + count as i32 - 1) as u64;
-    ((raised * RECIPROCALS[count & (2 * DEGREE_LIMIT - 1)]) >> SHIFT) as i32
+/// Some members of a check: how many, and the sum of their heights.
+#[derive(Clone, Copy)]
+struct Members {
+    count: i32,
+    heights: i32,
+}
+
+impl Members {
+    /// The members with h + b above 0.
+    #[inline(always)]
+    fn above<const D: usize>(heights: &[i32; D], b: i32) -> Members {
+        let mut members = Members { count: 0, heights: 0 };
+        for &height in heights {
+            // All ones if it is: which members are is hard to predict.
+            let inside = -i32::from(height > -b);
+            members.count -= inside;
+            members.heights += height & inside;
+        }
+        members
+    }
+
+    /// The least b at which Σ (h + b) over these is enough.
+    ///
+    /// It is worked out from the top, the greatest height: the members are less than 2U below it, so what is
+    /// divided is at most 2U for each member and once more.
+    #[inline(always)]
+    fn least(self, enough: i32, top: i32) -> i32 {
+        let lack = enough + self.count * top - self.heights;
+        let raised = (lack + self.count - 1) as u32;
+        upper(2 * raised, RECIPROCALS[self.count as usize & (2 * DEGREE_LIMIT - 1)]) as i32 - top
+    }
 }
 
 /// The least b from 0 on that meets the inequality, and what the inequality lacks at 0; without a cut both are 0.
+/// `nearest` is the least |v|.
 ///
 /// Each set of members gives a b that is enough. Members with h + b ≤ 0 there add nothing at the least b
 /// either, and those left give a b no greater; where the set stays the same, its b is the least. The
-/// first set is taken at `guess`, which may be any number; a good one saves steps.
+/// first set is taken at `guess`, which may be any number; a good one saves steps. It is moved to where the
+/// top member is above 0, so that there is one, and at most 2U, which is enough.
 #[inline(always)]
-pub fn least<const D: usize>(shares: &[i64; D], change: i32, guess: u32) -> (i32, i32) {
+pub fn least<const D: usize>(heights: &[i32; D], nearest: i32, change: i32, guess: u32) -> (i32, i32) {
     let enough = FACET - change;
-    let depth = enough - above(shares, 0) as i32;
+    let depth = enough - Members::above(heights, 0).heights;
     if depth <= 0 {
         return (0, 0);
     }
-    let mut sum = above(shares, guess.min(MULTIPLIER_LIMIT) as i32);
-    if sum == 0 {
-        sum = shares.iter().sum();
-    }
+    let top = UNIT - nearest;
+    let guess = (guess.min(MULTIPLIER_LIMIT) as i32 + top).clamp(1, FACET) - top;
+    let mut members = Members::above(heights, guess);
     loop {
-        let b = step(enough - sum as i32, sum);
-        let before = sum;
-        sum = above(shares, b);
-        if sum == before {
+        let b = members.least(enough, top);
+        let before = members.count;
+        members = Members::above(heights, b);
+        // Of two such sets one holds the other.
+        if members.count == before {
             return (b, depth);
         }
     }
-}
-
-/// The sum of the shares of the members with h + b above 0. Two such sums differ if the sets do.
-#[inline(always)]
-fn above<const D: usize>(shares: &[i64; D], b: i32) -> i64 {
-    let limit = MEMBER - i64::from(b);
-    // All ones if the share is above the limit: which members are is hard to predict.
-    shares.iter().map(|&share| share & ((limit - share) >> 63)).sum()
 }

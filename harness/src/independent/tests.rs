@@ -1,9 +1,9 @@
 //! The division of totals, the cut search and the projection against the paper's own words.
 
 use super::cut::cut_of;
-use super::fast::{reciprocal_of, spin_size};
+use super::fast::spin_size;
 use super::limits::{DEGREE_LIMIT, FRAME_LIMIT, OFFSET_STEP, ROUND_LIMIT, UNIT};
-use super::multiplier::{least, MEMBER};
+use super::multiplier::{least, reciprocal_of};
 use super::plain::{least_multiplier, nearest};
 use crate::decoder::Cut;
 use crate::gen::rng::Rng;
@@ -34,7 +34,7 @@ fn sizes(degree: i32) -> impl Iterator<Item = i32> {
 #[test]
 fn division_is_exact() {
     for degree in 1..=DEGREE_LIMIT as i32 {
-        let reciprocal = reciprocal_of(degree as u16);
+        let reciprocal = reciprocal_of(degree as u32);
         for total in sizes(degree).flat_map(|size| [size, -size]) {
             let quotient = nearest(total, degree);
             assert!(is_nearest(quotient, total, degree), "{total} over {degree}: {quotient}");
@@ -92,10 +92,10 @@ fn projected<const D: usize>(rng: &mut Rng) -> bool {
     let negative = values.iter().filter(|v| **v < 0).count();
     let nearest = values.iter().map(|v| v.abs()).min().unwrap();
     let change = if negative % 2 == 0 { 2 * nearest } else { 0 };
-    let shares = values.map(|v| i64::from(UNIT - v.abs()) + MEMBER);
+    let heights = values.map(|v| UNIT - v.abs());
     let cut = cut_of(values.iter().map(|v| *v.clamp(&-UNIT, &UNIT)));
     let expected = cut.map_or((0, 0), |cut| (least_multiplier(&values, cut.mask), cut.depth as i32));
     let guess = rng.pick(&[0, 1, expected.0 as u32, 5_000, u32::MAX]);
-    assert_eq!(least(&shares, change, guess), expected, "{values:?}");
+    assert_eq!(least(&heights, nearest, change, guess), expected, "{values:?}");
     cut.is_some()
 }
