@@ -5,7 +5,8 @@ MODULE is the proved library as LLVM IR. It is made for x86-64, and two things s
 for 32 bits: lengths are 64 bits wide, and structs come and go by the rules of x86-64, in pieces of 8 bytes.
 C and Rust on 32 bits hand over lengths of 32 bits, and a hidden first pointer to where the answer goes. So
 each call gets a wrapper that widens lengths and lays the answer's pieces down; the module's own function
-goes by proved_ in place of jugnayap_. Exit status 3 if the module's functions are not those of the header."""
+goes by proved_ in place of jugnayap_. Exit status 3 if the module hands over the calls of the header in
+another way than this one, as another kit's might; any other failure is this program's own, and fails."""
 import re
 import sys
 
@@ -77,7 +78,10 @@ def main():
     header, module = (open(path, encoding="utf-8").read() for path in sys.argv[1:3])
     calls = list(calls_of(header))
     wanted = {name: in_module(answer, arguments) for name, answer, arguments in calls}
-    if not calls or defined_in(module) != wanted:
+    defined = defined_in(module)
+    if not calls or defined.keys() != wanted.keys():
+        sys.exit(f"wrappers.py: the module has {sorted(defined)}, the header {sorted(wanted)}")
+    if defined != wanted:
         sys.exit(3)
     print('target triple = "i686-unknown-linux-gnu"')
     for call in calls:

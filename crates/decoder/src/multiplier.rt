@@ -1,7 +1,7 @@
 // The least multiplier of a cut, found from above on the heights that the cut search leaves. With F the
 // sum of the lifted heights above 0 and k their number, b falls by (F - 2U) / k until that is 0. All is added
-// in 32 bits: each function asks that the sums which it forms are below 2^31 in size (multiplier_search/specs/Sums),
-// and multiplier_search/proofs/Narrow says that they are.
+// in 32 bits: the functions that the search calls ask that the sums which they form are below 2^31 in size
+// (multiplier_search/specs/Sums), and the heights of a cut see to it (multiplier_search/proofs/ClimbLaws).
 use limits::RIGHT_SIDE;
 use limits::UNIT;
 ghost use mathlib.Core.Path.{_≡_};

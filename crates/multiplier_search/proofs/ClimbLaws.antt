@@ -19,7 +19,7 @@ use Rattle.rules.proofs.Pass.{append-within}
 use Rattle.rules.proofs.CutRule.{Cuts}
 use Rattle.cut.specs.Heights.{heightsOf, highest}
 use Rattle.multiplier_search.specs.Lifted.{reach, one, packed, sumAt, countAt, sumZ, lack, firstStep, fallAt, lowest, AllUpTo, Rising, LeastAt}
-use Rattle.multiplier_search.specs.Sums.{AllNarrow, widest, partials, firstSums, shareSums, sharesSums, slopeSums, fallSums, stepSums, walkSums, walkEnd, stepsSums, climbSums}
+use Rattle.multiplier_search.specs.Sums.{AllNarrow, widest, partials, firstSums, shareSums, sharesSums, slopeSums, fallSums, walkSums, walkEnd, stepsSums, climbSums}
 use Rattle.multiplier_search.proofs.PackedLaws.{sum-within, packed-le, sum-most}
 use Rattle.multiplier_search.proofs.LiftedLaws.{next-step, least-found}
 use Rattle.multiplier_search.proofs.StartLaws.{rising, least-is, first-met, first-most, start-most, start-under}
@@ -94,12 +94,6 @@ module _ (hs : List ℤ) (top : ℤ) (r : Rising hs top) where
     pub fall-narrow : AllNarrow (fallSums hs b)
     fall-narrow = narrow (fallSums hs b) fall-within
 
-    step-within : fallAt hs b ≤ b → AllWithin widest (stepSums hs b)
-    step-within h = append-within widest (fallSums hs b) ((pos b -ℤ pos (fallAt hs b)) ∷ []) fall-within (less b (fallAt hs b) bounded h, tt)
-      where
-        less : (b d : ℕ) → b ≤ reach + lowest → d ≤ b → Within widest (pos b -ℤ pos d)
-        less b d = simp lin (omega arithZ)
-
   -- b meets the inequality, and so does the next
   falls : (b : ℕ) → reach ≤ sumAt hs b → (fallAt hs b < b) × (reach ≤ sumAt hs (b - fallAt hs b))
   falls b m = next-step hs b (fallAt hs b) m (r .short) refl
@@ -118,25 +112,23 @@ module _ (hs : List ℤ) (top : ℤ) (r : Rising hs top) where
   walk-within : (k b d : ℕ) → b ≤ natAbs (pos reach -ℤ top) → reach ≤ sumAt hs b → d ≡ fallAt hs b → AllWithin widest (walkSums k hs b d)
   walk-within zero b d s m e = tt
   walk-within (suc k) b zero s m e = tt
-  walk-within (suc k) b (suc d) s m e =
-      append-within widest (stepSums hs (b - suc d)) (walkSums k hs (b - suc d) (fallAt hs (b - suc d)))
-      (step-within (b - suc d) (less s) (weak (falls (b - suc d) met .0)))
-      (walk-within k (b - suc d) (fallAt hs (b - suc d)) (less s) met refl)
+  walk-within (suc k) b (suc d) s m e = (
+    next b (suc d) (bounded b s) (subst (λ n. n < b) (sym e) (falls b m .0)),
+    append-within widest (fallSums hs (b - suc d)) (walkSums k hs (b - suc d) (fallAt hs (b - suc d)))
+        (fall-within (b - suc d) (less s)) (walk-within k (b - suc d) (fallAt hs (b - suc d)) (less s) met refl),
+  )
     where
+      next : (b d : ℕ) → b ≤ reach + lowest → d < b → Within widest (pos b -ℤ pos d)
+      next b d = simp lin (omega arithZ)
+
       less : {n : ℕ} → b ≤ n → b - suc d ≤ n
       less h = omega arith
-
-      weak : {m n : ℕ} → m < n → m ≤ n
-      weak h = omega arith
 
       met : reach ≤ sumAt hs (b - suc d)
       met = subst (λ n. reach ≤ sumAt hs (b - n)) (sym e) (falls b m .1)
 
   steps-within : (b : ℕ) → b ≤ natAbs (pos reach -ℤ top) → reach ≤ sumAt hs b → AllWithin widest (stepsSums hs b)
-  steps-within b s m = append-within widest (stepSums hs b) (walkSums b hs b (fallAt hs b)) (step-within b s (weak (falls b m .0))) (walk-within b b (fallAt hs b) s m refl)
-    where
-      weak : {m n : ℕ} → m < n → m ≤ n
-      weak h = omega arith
+  steps-within b s m = append-within widest (fallSums hs b) (walkSums b hs b (fallAt hs b)) (fall-within b s) (walk-within b b (fallAt hs b) s m refl)
 
   -- the list of steps is whole: any number that is b at least counts all of them
   pub walk-whole : (k m b d : ℕ) → b ≤ k → b ≤ m → d ≡ fallAt hs b → walkSums k hs b d ≡ walkSums m hs b d
@@ -147,7 +139,7 @@ module _ (hs : List ℤ) (top : ℤ) (r : Rising hs top) where
   walk-whole (suc k) zero b (suc d) h l e = absurd (last l e)
   walk-whole (suc k) (suc m) b zero h l e = refl
   walk-whole (suc k) (suc m) b (suc d) h l e =
-      ap (λ xs. stepSums hs (b - suc d) ++ xs) (walk-whole k m (b - suc d) (fallAt hs (b - suc d)) (less k h) (less m l) refl)
+      ap (λ xs. (pos b -ℤ pos (suc d)) ∷ (fallSums hs (b - suc d) ++ xs)) (walk-whole k m (b - suc d) (fallAt hs (b - suc d)) (less k h) (less m l) refl)
     where
       less : (n : ℕ) → b ≤ suc n → b - suc d ≤ n
       less n h = omega arith

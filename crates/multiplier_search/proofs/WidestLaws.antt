@@ -1,4 +1,4 @@
--- The largest sum fits 32 bits, and no running sum of at most 32 numbers, nor a sum of the cut search, is larger. Assumes nothing.
+-- The largest sum fits 32 bits; running sums of at most 32 small numbers, and the sums of the cut search, are no larger. Assumes nothing.
 use mathlib.Core.Path.{_≡_, refl, sym, subst}
 use mathlib.Core.Bool.{Bool, true, false, cond}
 use mathlib.Core.List.{List, [], _∷_, map}

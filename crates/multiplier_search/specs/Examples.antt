@@ -24,8 +24,8 @@ first-round : searchSums (pos 4000 ∷ pos 4000 ∷ negsuc 1999 ∷ [])
     ∷ pos 96 ∷ pos 192 ∷ pos 2288 ∷ pos 5904 ∷ pos 6096 ∷ pos 2 ∷ pos 5906
     -- at the step 1968: its negative, and each height lifted, alone and with 2^20
     ∷ negsuc 1967 ∷ pos 2064 ∷ pos 1050640 ∷ negsuc 1967 ∷ pos 2064 ∷ pos 1050640 ∷ negsuc 1967 ∷ pos 4064 ∷ pos 1052640
-    -- the sum of these, nothing above 2U, and so the same step
-    ∷ pos 1050640 ∷ pos 2101280 ∷ pos 3153920 ∷ pos 0 ∷ pos 1968 ∷ []
+    -- the sum of these, and nothing above 2U: the search ends
+    ∷ pos 1050640 ∷ pos 2101280 ∷ pos 3153920 ∷ pos 0 ∷ []
 unfolding searchSums firstStep fallAt sumAt countAt cut clipZ
 first-round = refl
 

@@ -1,6 +1,8 @@
--- Every sum that the search for a check's multiplier forms (document 02, #108), in the order of the code, from the heights to the last step. In crate `cut`
--- they are answers that the contracts state, or the double of one. The functions of decoder/src/multiplier.rt ask in their contracts that the sums which
--- they form are narrow; the loop above them asks for the heights of a cut, and proofs/Narrow has the one from the other. Definitions only. Assumes nothing.
+-- Every sum that the search for a check's multiplier forms (document 02, #108), function by function in the order of the code, from the heights to the last
+-- step: sums, differences, doubles and negatives. Constants are none of them: 2U, 2^20, and the least height of a 32-bit value, from which the greatest is
+-- sought. In crate `cut` they are answers that the contracts state, or the double of one. The functions that the loop of decoder/src/multiplier.rt calls ask
+-- in their contracts that the sums which they form are narrow; the loop asks for the heights of a cut, and proofs/ClimbLaws has the one from the other.
+-- Definitions only. Assumes nothing.
 use mathlib.Core.Path.{_≡_}
 use mathlib.Core.Bool.{Bool, cond}
 use mathlib.Core.List.{List, [], _∷_, _++_, map}
@@ -56,7 +58,7 @@ abbrev pub firstSums : List ℤ → ℤ → List ℤ
 firstSums hs top = partials (pos 0) hs
     ++ (lack hs ∷ (pos reach -ℤ top) ∷ (pos (length hs) -ℤ pos 1) ∷ (lack hs +ℤ (pos (length hs) -ℤ pos 1)) ∷ [])
 
--- ---- at a step b: of one member, of all, and the next step
+-- ---- at a step b: of one member, of all, and what they have above 2U
 abbrev pub shareSums : ℕ → ℤ → List ℤ
 shareSums b h = (pos 0 -ℤ pos b) ∷ cond (ltZ (pos 0 -ℤ pos b) h) ((pos b +ℤ h) ∷ (pos one +ℤ (pos b +ℤ h)) ∷ []) []
 
@@ -70,14 +72,11 @@ slopeSums hs b = sharesSums b hs ++ partials (pos 0) (map (λ h. pos (packed b h
 abbrev pub fallSums : List ℤ → ℕ → List ℤ
 fallSums hs b = slopeSums hs b ++ ((pos (sumAt hs b) -ℤ pos reach) ∷ [])
 
-abbrev pub stepSums : List ℤ → ℕ → List ℤ
-stepSums hs b = fallSums hs b ++ ((pos b -ℤ pos (fallAt hs b)) ∷ [])
-
--- the steps after b, which falls by d: none where that is 0. As b falls by 1 at least, there are b at most
+-- the steps after b, which falls by d: none where that is 0, else b less d, and the sums there. As b falls by 1 at least, there are b at most
 abbrev pub walkSums : ℕ → List ℤ → ℕ → ℕ → List ℤ
 walkSums zero hs b d = []
 walkSums (suc k) hs b zero = []
-walkSums (suc k) hs b (suc d) = stepSums hs (b - suc d) ++ walkSums k hs (b - suc d) (fallAt hs (b - suc d))
+walkSums (suc k) hs b (suc d) = (pos b -ℤ pos (suc d)) ∷ (fallSums hs (b - suc d) ++ walkSums k hs (b - suc d) (fallAt hs (b - suc d)))
 
 -- and where they end
 abbrev pub walkEnd : ℕ → List ℤ → ℕ → ℕ → ℕ
@@ -86,7 +85,7 @@ walkEnd (suc k) hs b zero = b
 walkEnd (suc k) hs b (suc d) = walkEnd k hs (b - suc d) (fallAt hs (b - suc d))
 
 abbrev pub stepsSums : List ℤ → ℕ → List ℤ
-stepsSums hs b = stepSums hs b ++ walkSums b hs b (fallAt hs b)
+stepsSums hs b = fallSums hs b ++ walkSums b hs b (fallAt hs b)
 
 -- ---- the whole search: on the heights as a cut sees them, on a check's values, in a pass over the checks cs with the spins f and the offsets ys, in a round
 abbrev pub climbSums : List ℤ → List ℤ

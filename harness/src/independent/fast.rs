@@ -129,7 +129,7 @@ impl Part<'_> {
     /// Answers a negative number if the spins have an odd number of ones on some check.
     fn relax<const D: usize>(self, bits: &mut Bits) -> i32 {
         let mut broken = 0;
-        // Written so that rustc 1.85 has it, which builds the harness for 32 bits.
+        // In the forms that the older rustc has which builds it for 32 bits.
         let members = self.members.chunks_exact(D).map(|part| <&[u16; D]>::try_from(part).unwrap());
         let copies = self.copies.chunks_exact_mut(D).map(|part| <&mut [i32; D]>::try_from(part).unwrap());
         let offsets = self.offsets.chunks_exact_mut(D).map(|part| <&mut [i32; D]>::try_from(part).unwrap());
