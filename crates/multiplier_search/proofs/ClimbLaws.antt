@@ -25,6 +25,13 @@ use Rattle.multiplier_search.proofs.LiftedLaws.{next-step, least-found}
 use Rattle.multiplier_search.proofs.StartLaws.{rising, least-is, first-met, first-most, start-most, start-under}
 use Rattle.multiplier_search.proofs.WidestLaws.{narrow, few-partials, mapped-partials}
 
+-- ---- a step that falls
+lower : (b d : ℕ) {n : ℕ} → b ≤ n → b - suc d ≤ n
+lower b d h = omega arith
+
+fewer : (b d n : ℕ) → b ≤ suc n → b - suc d ≤ n
+fewer b d n h = omega arith
+
 -- ---- on the heights of a cut: the first step, and each step from there
 module _ (hs : List ℤ) (top : ℤ) (r : Rising hs top) where
   total-within : Within (maxDegree * lowest) (sumZ hs)
@@ -115,14 +122,11 @@ module _ (hs : List ℤ) (top : ℤ) (r : Rising hs top) where
   walk-within (suc k) b (suc d) s m e = (
     next b (suc d) (bounded b s) (subst (λ n. n < b) (sym e) (falls b m .0)),
     append-within widest (fallSums hs (b - suc d)) (walkSums k hs (b - suc d) (fallAt hs (b - suc d)))
-        (fall-within (b - suc d) (less s)) (walk-within k (b - suc d) (fallAt hs (b - suc d)) (less s) met refl),
+        (fall-within (b - suc d) (lower b d s)) (walk-within k (b - suc d) (fallAt hs (b - suc d)) (lower b d s) met refl),
   )
     where
       next : (b d : ℕ) → b ≤ reach + lowest → d < b → Within widest (pos b -ℤ pos d)
       next b d = simp lin (omega arithZ)
-
-      less : {n : ℕ} → b ≤ n → b - suc d ≤ n
-      less h = omega arith
 
       met : reach ≤ sumAt hs (b - suc d)
       met = subst (λ n. reach ≤ sumAt hs (b - n)) (sym e) (falls b m .1)
@@ -139,10 +143,7 @@ module _ (hs : List ℤ) (top : ℤ) (r : Rising hs top) where
   walk-whole (suc k) zero b (suc d) h l e = absurd (last l e)
   walk-whole (suc k) (suc m) b zero h l e = refl
   walk-whole (suc k) (suc m) b (suc d) h l e =
-      ap (λ xs. (pos b -ℤ pos (suc d)) ∷ (fallSums hs (b - suc d) ++ xs)) (walk-whole k m (b - suc d) (fallAt hs (b - suc d)) (less k h) (less m l) refl)
-    where
-      less : (n : ℕ) → b ≤ suc n → b - suc d ≤ n
-      less n h = omega arith
+      ap (λ xs. (pos b -ℤ pos (suc d)) ∷ (fallSums hs (b - suc d) ++ xs)) (walk-whole k m (b - suc d) (fallAt hs (b - suc d)) (fewer b d k h) (fewer b d m l) refl)
 
   walk-least : (k b d : ℕ) → b ≤ k → b ≤ natAbs (pos reach -ℤ top) → reach ≤ sumAt hs b → d ≡ fallAt hs b → LeastAt hs (walkEnd k hs b d)
   walk-least zero b d h s m e = absurd (none b (sumAt hs b) h (λ n. subst (λ x. sumAt hs x < reach) n (r .short)) m)
@@ -153,13 +154,7 @@ module _ (hs : List ℤ) (top : ℤ) (r : Rising hs top) where
     where
       small : b ≤ reach + lowest → b ≤ stepLimit
       small h = omega arith
-  walk-least (suc k) b (suc d) h s m e = walk-least k (b - suc d) (fallAt hs (b - suc d)) (less k h) (weak s) (subst (λ n. reach ≤ sumAt hs (b - n)) (sym e) (falls b m .1)) refl
-    where
-      less : (n : ℕ) → b ≤ suc n → b - suc d ≤ n
-      less n h = omega arith
-
-      weak : {n : ℕ} → b ≤ n → b - suc d ≤ n
-      weak h = omega arith
+  walk-least (suc k) b (suc d) h s m e = walk-least k (b - suc d) (fallAt hs (b - suc d)) (fewer b d k h) (lower b d s) (subst (λ n. reach ≤ sumAt hs (b - n)) (sym e) (falls b m .1)) refl
 
 pub climb-within : (hs : List ℤ) → Rising hs (highest hs) → AllWithin widest (climbSums hs)
 climb-within hs r = append-within widest (firstSums hs (highest hs)) (stepsSums hs (firstStep hs (highest hs))) (first-within hs (highest hs) r)

@@ -4,7 +4,7 @@ use mathlib.Core.Path.{_≡_, refl, sym, _∙_, ap, subst}
 use mathlib.Core.Bool.{Bool}
 use mathlib.Core.List.{List, [], _∷_}
 use mathlib.Core.Option.{Option, some, none}
-use Prim.Native.Nat.{ℕ, _*_, _-_, _^_, _≤_, _<_}
+use Prim.Native.Nat.{ℕ, _*_, _-_, _≤_, _<_}
 use native.Mathlib.Omega.{arith}
 use lib.ListN.{length, drop}
 use lib.IntN.{ℤ}
@@ -28,7 +28,7 @@ use Rattle.rules.proofs.Pass.{append-within, drop-within, all-wider, values-wit
 use Rattle.rules.proofs.Runs.{spin-within, iterate-safe, sound-safe, admitted-sound}
 use Rattle.rules.proofs.CutRule.{cut-sound}
 use Rattle.cut.specs.Heights.{heightsOf}
-use Rattle.multiplier_search.specs.Sums.{widest, seeSums, cutSums, searchSums, passSums, roundSums, RoundsWithin}
+use Rattle.multiplier_search.specs.Sums.{narrowLimit, widest, seeSums, cutSums, searchSums, passSums, roundSums, RoundsWithin}
 use Rattle.multiplier_search.proofs.StartLaws.{rising}
 use Rattle.multiplier_search.proofs.WidestLaws.{narrow, see-within}
 use Rattle.multiplier_search.proofs.ClimbLaws.{climb-within}
@@ -72,5 +72,5 @@ call-within file t l v r s isFile e = go (admits t l v (lengthsOf (r .buffers)) 
     go (gives tt) p q = λ k runs. round-within t l (iterate t l k r) (file-sound file t isFile .degrees)
         (iterate-safe t l k r (sound-safe t r (admitted-sound t l v (lengthsOf (r .buffers)) r p))) runs
 
-pub call-narrow : (file : List ℕ) (t : Table) (l : List ℤ) (v : ℕ) (r : Run) (s : Status) → codeFile file ≡ gives t → call file l v r .answer ≡ gives s → RoundsWithin (2 ^ 31 - 1) t l r
+pub call-narrow : (file : List ℕ) (t : Table) (l : List ℤ) (v : ℕ) (r : Run) (s : Status) → codeFile file ≡ gives t → call file l v r .answer ≡ gives s → RoundsWithin narrowLimit t l r
 call-narrow file t l v r s isFile e k runs = narrow (roundSums t l (stateIn t (iterate t l k r .buffers))) (call-within file t l v r s isFile e k runs)

@@ -22,7 +22,7 @@ use Rattle.cut.specs.Scan.{sights, rooms}
 use Rattle.cut.proofs.HeightLaws.{height-top, sights-top, sights-length}
 use Rattle.cut.proofs.SeeLaws.{above-within}
 use Rattle.multiplier_search.specs.Lifted.{reach, lowest, AllUpTo}
-use Rattle.multiplier_search.specs.Sums.{AllNarrow, widest, partials, scanSums, oddSums, evenSums, seeSums}
+use Rattle.multiplier_search.specs.Sums.{narrowLimit, AllNarrow, widest, partials, scanSums, oddSums, evenSums, seeSums}
 use Rattle.multiplier_search.proofs.PackedLaws.{up-to-more}
 use Rattle.multiplier_search.proofs.StartLaws.{heights-within}
 
@@ -34,7 +34,7 @@ named : widest ≡ 268181535
 named = refl
 
 pub narrow : (xs : List ℤ) → AllWithin widest xs → AllNarrow xs
-narrow xs w = all-wider widest (2 ^ 31 - 1) xs (omega (arith, fits)) w
+narrow xs w = all-wider widest narrowLimit xs (omega (arith, fits)) w
 
 -- ---- running sums
 partials-within : (m k : ℕ) (a : ℤ) (xs : List ℤ) → Within k a → AllWithin m xs → AllWithin (k + m * length xs) (partials a xs)
@@ -116,18 +116,18 @@ see-within vs few small = sums-within widest (omega arith) vs few (all-wider low
 
 -- of any 32-bit values too, which anybody may hand to `cut::see`
 pub see-narrow : (vs : List ℤ) → length vs ≤ maxDegree → AllWithin (2 ^ 31) vs → AllNarrow (seeSums vs)
-see-narrow vs few w = sums-within (2 ^ 31 - 1) (omega arith) vs few (each vs w)
+see-narrow vs few w = sums-within narrowLimit (omega arith) vs few (each vs w)
   where
-    own : (v : ℤ) → Within (2 ^ 31) v → Within (2 ^ 31 - 1) (height (isNeg v) v)
+    own : (v : ℤ) → Within (2 ^ 31) v → Within narrowLimit (height (isNeg v) v)
     own (pos n) h = plain n (h .hi)
       where
-        plain : (n : ℕ) → n ≤ 2 ^ 31 → Within (2 ^ 31 - 1) (pos unit +ℤ negℤ (pos n))
+        plain : (n : ℕ) → n ≤ 2 ^ 31 → Within narrowLimit (pos unit +ℤ negℤ (pos n))
         plain n = simp lin (omega arithZ)
     own (negsuc n) h = plain (negsuc n) h (record { le = tt })
       where
-        plain : (v : ℤ) → Within (2 ^ 31) v → v ≤ℤ pos 0 → Within (2 ^ 31 - 1) (pos unit +ℤ v)
+        plain : (v : ℤ) → Within (2 ^ 31) v → v ≤ℤ pos 0 → Within narrowLimit (pos unit +ℤ v)
         plain v = simp lin (omega arithZ)
 
-    each : (vs : List ℤ) → AllWithin (2 ^ 31) vs → AllWithin (2 ^ 31 - 1) (sights vs)
+    each : (vs : List ℤ) → AllWithin (2 ^ 31) vs → AllWithin narrowLimit (sights vs)
     each [] w = tt
     each (v ∷ vs) w = (own v (w .0), each vs (w .1))

@@ -26,8 +26,11 @@ use Rattle.cut.specs.Scan.{sights, rooms}
 use Rattle.multiplier_search.specs.Lifted.{reach, one, packed, sumAt, lack, lackLimit, firstStep, fallAt}
 
 -- "below 2^31 in size"
+abbrev pub narrowLimit : ℕ
+narrowLimit = 2 ^ 31 - 1
+
 abbrev pub AllNarrow : List ℤ → Type 0
-AllNarrow xs = AllWithin (2 ^ 31 - 1) xs
+AllNarrow xs = AllWithin narrowLimit xs
 
 -- the largest of all sums, 268,181,535: what 32 heights lack together, rounded up to the next multiple of 32 by 31 more
 abbrev pub widest : ℕ

@@ -14,7 +14,7 @@ use borrow.Author.Needs.{needs}
 use Rattle.integers.specs.Machine.{fit, to-unsigned}
 use Rattle.integers.specs.Linear.{lin, arithZ, Within}
 use Rattle.multiplier_search.specs.Lifted.{lack, firstStep, reach}
-use Rattle.multiplier_search.specs.Sums.{AllNarrow, partials}
+use Rattle.multiplier_search.specs.Sums.{narrowLimit, AllNarrow, partials}
 use Rattle.multiplier_search.proofs.StartLaws.{lack-above, start-above}
 use Rattle.multiplier_search.proofs.SumsLaws.{narrow-fits, front, rest}
 use Rattle.decoder.proofs.multiplier.first_step.Statement.{statement}
@@ -27,7 +27,7 @@ lack-is c = ap (λ z. pos reach -ℤ z) (toZ-ofZ (fit w32 (c .sum-of .result) (c
 -- the sums after the heights' own
 narrow : (c : tie.After-sum-of) → let a = c .before .args in let d = pos (length (a .heights .now)) -ℤ pos 1 in
     AllNarrow (lack (a .heights .now) ∷ (pos reach -ℤ a .top) ∷ d ∷ (lack (a .heights .now) +ℤ d) ∷ [])
-narrow c = rest (2 ^ 31 - 1) (partials (pos 0) (c .before .args .heights .now)) _ (c .before .pre .1)
+narrow c = rest (partials (pos 0) (c .before .args .heights .now)) _ (c .before .pre .1)
 
 sub-together : tie.Need-sub-together
 sub-together c = subst (SFits w32) (sym (lack-is c)) (narrow-fits _ (narrow c .0))
@@ -55,10 +55,10 @@ cast-alone : tie.Need-cast-alone
 cast-alone c = to-unsigned tt (sub-alone c) (subst (λ z. pos 0 ≤ℤ z) (sym (top-lacks c)) (start-above (c .before .args .top) (c .before .pre .0 .high)))
 
 -- rounded up
-level-narrow : (z : ℤ) (d : ℕ) → pos 0 ≤ℤ z → 0 < d → Within (2 ^ 31 - 1) (z +ℤ (pos d -ℤ pos 1)) → natAbs z + (d - 1) < 2 ^ 31
+level-narrow : (z : ℤ) (d : ℕ) → pos 0 ≤ℤ z → 0 < d → Within narrowLimit (z +ℤ (pos d -ℤ pos 1)) → natAbs z + (d - 1) < 2 ^ 31
 level-narrow (pos n) d k p w = omega (arith, plain n d p w)
   where
-    plain : (n d : ℕ) → 0 < d → Within (2 ^ 31 - 1) (pos n +ℤ (pos d -ℤ pos 1)) → n + d ≤ 2 ^ 31
+    plain : (n d : ℕ) → 0 < d → Within narrowLimit (pos n +ℤ (pos d -ℤ pos 1)) → n + d ≤ 2 ^ 31
     plain n d = simp lin (omega arithZ)
 level-narrow (negsuc n) d k p w = absurd (omega arithZ)
 
@@ -87,7 +87,7 @@ first-step-spec =
     (tie.spec
     (λ c. search needs)
     (λ c. search needs)
-    (λ c κs. front (2 ^ 31 - 1) (partials (pos 0) (c .args .heights .now)) _ (c .pre .1))
+    (λ c κs. front (partials (pos 0) (c .args .heights .now)) _ (c .pre .1))
     sub-together
     cast-together
     (λ c. search needs)

@@ -1,6 +1,6 @@
 -- `slope_at` meets its contract: the first i members in one number. Assumes nothing.
 use mathlib.Core.Path.{_≡_, sym, _∙_, ap, ap₂, subst}
-use Prim.Native.Nat.{_+_, _-_, _/_, _%_, _^_, _≤_}
+use Prim.Native.Nat.{_+_, _-_, _/_, _%_, _≤_}
 use native.Mathlib.Omega.{arith}
 use lib.ListN.{length}
 use mir.Syntax.{w32}
@@ -32,7 +32,7 @@ share-requires c κs =
     let start = c .before .before .before in
     let hs = start .args .heights .now in
     subst (λ h. AllNarrow (shareSums (start .args .b) h)) (sym (toZ-ofZ (element c)))
-    (share-at (2 ^ 31 - 1) (start .args .b) hs (c .before .before .loop .i) (omega arith) (front (2 ^ 31 - 1) (sharesSums (start .args .b) hs) _ (start .pre .2)))
+    (share-at (start .args .b) hs (c .before .before .loop .i) (omega arith) (front (sharesSums (start .args .b) hs) _ (start .pre .2)))
 
 share-is : (c : tie.After-share Inv-loop μ-loop)
     → let l = c .before .before .before in c .share .result ≡ packed (l .before .args .b) (at (l .before .args .heights .now) (l .loop .i))
@@ -49,7 +49,7 @@ add-both : tie.Need-add-both Inv-loop μ-loop
 add-both c =
     let start = c .before .before .before .before in
     let hs = start .args .heights .now in
-    let small = packed-narrow hs (start .args .b) (c .before .before .before .loop .i) (omega arith) (rest (2 ^ 31 - 1) (sharesSums (start .args .b) hs) _ (start .pre .2)) in
+    let small = packed-narrow hs (start .args .b) (c .before .before .before .loop .i) (omega arith) (rest (sharesSums (start .args .b) hs) _ (start .pre .2)) in
     omega (arith, small, both-is c)
 
 loop-again : tie.Need-loop-again Inv-loop μ-loop
