@@ -186,7 +186,7 @@ static void no_cut(void)
     same_verdict("4 + 10q bytes",
                  jugnayap_judge(code, sizeof code, frame, BITS, b.word, BITS, b.certificate,
                                 jugnayap_certificate_length(b.certificate)),
-                 (JugnayapVerdict){.kind = JUGNAYAP_PASSED});
+                 (JugnayapVerdict){.kind = JUGNAYAP_PASSED, .sole = 1});
     same_verdict("all bytes lent",
                  jugnayap_judge(code, sizeof code, frame, BITS, b.word, BITS, b.certificate, CERTIFICATE),
                  (JugnayapVerdict){.number = JUGNAYAP_REFUSED_CERTIFICATE_WRONG});

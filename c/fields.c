@@ -99,13 +99,18 @@ static void depths(void)
                  (JugnayapCut){.mask = spin < UNIT, .depth = (uint32_t)(UNIT - spin)});
 }
 
-/* One entry, scale 1, mask 4, on word 000. */
-static JugnayapVerdict judged(const int16_t *frame, uint16_t multiplier, size_t length)
+/* One entry, mask 4, on word 000. */
+static JugnayapVerdict judged_at(uint8_t scale, const int16_t *frame, uint16_t multiplier, size_t length)
 {
     const uint8_t word[BITS] = {0, 0, 0};
     const uint8_t certificate[CERTIFICATE + 1] = {
-        1, 0, 1, 0, 0, 0, (uint8_t)multiplier, (uint8_t)(multiplier >> 8), 0, 0, 4};
+        1, 0, scale, 0, 0, 0, (uint8_t)multiplier, (uint8_t)(multiplier >> 8), 0, 0, 4};
     return jugnayap_judge(three, sizeof three, frame, BITS, word, BITS, certificate, length);
+}
+
+static JugnayapVerdict judged(const int16_t *frame, uint16_t multiplier, size_t length)
+{
+    return judged_at(1, frame, multiplier, length);
 }
 
 static void verdicts(void)
@@ -115,12 +120,6 @@ static void verdicts(void)
     same_verdict("word that breaks check 2",
                  jugnayap_judge(hamming, sizeof hamming, frame, 7, word, 7, empty, sizeof empty),
                  (JugnayapVerdict){.kind = JUGNAYAP_BROKEN, .value = 2});
-    same_verdict("multiplier 1999", judged(leaning, 1999, CERTIFICATE),
-                 (JugnayapVerdict){.kind = JUGNAYAP_GAP, .value = 2});
-    same_verdict("multiplier 2000", judged(leaning, 2000, CERTIFICATE),
-                 (JugnayapVerdict){.kind = JUGNAYAP_PASSED});
-    same_verdict("multiplier 4001", judged(leaning, 4001, CERTIFICATE),
-                 (JugnayapVerdict){.kind = JUGNAYAP_GAP, .value = 4});
     same_verdict("frame out of range", judged(too_large, 2000, CERTIFICATE),
                  (JugnayapVerdict){.number = JUGNAYAP_REFUSED_FRAME_RANGE});
     same_verdict("certificate longer than 4 + 10q", judged(leaning, 2000, CERTIFICATE + 1),
@@ -129,6 +128,78 @@ static void verdicts(void)
                  (JugnayapVerdict){.number = JUGNAYAP_REFUSED_ENTRY_RANGE});
     same_verdict("no frame", jugnayap_judge(three, sizeof three, NULL, 0, NULL, 0, NULL, 0),
                  (JugnayapVerdict){.number = JUGNAYAP_REFUSED_FRAME_LENGTH});
+}
+
+/* The frame (4000, 4000, -2000) and word 000: at scale S and multiplier b the reduced numbers are 4000S - b,
+ * 4000S - b and b - 2000S. None is below 0 from b = 2000S to 4000S, and one is 0 at each end. */
+static void marks(void)
+{
+    static const struct {
+        const char *call;
+        uint8_t scale;
+        uint16_t multiplier;
+        JugnayapVerdict verdict;
+    } cases[] = {{"1999", 1, 1999, {.kind = JUGNAYAP_GAP, .value = 2}},
+                 {"2000", 1, 2000, {.kind = JUGNAYAP_PASSED, .sole = 0}},
+                 {"2001", 1, 2001, {.kind = JUGNAYAP_PASSED, .sole = 1}},
+                 {"3333", 1, 3333, {.kind = JUGNAYAP_PASSED, .sole = 1}},
+                 {"3999", 1, 3999, {.kind = JUGNAYAP_PASSED, .sole = 1}},
+                 {"4000", 1, 4000, {.kind = JUGNAYAP_PASSED, .sole = 0}},
+                 {"4001", 1, 4001, {.kind = JUGNAYAP_GAP, .value = 4}},
+                 {"13999 at scale 7", 7, 13999, {.kind = JUGNAYAP_GAP, .value = 2}},
+                 {"14000 at scale 7", 7, 14000, {.kind = JUGNAYAP_PASSED, .sole = 0}},
+                 {"14001 at scale 7", 7, 14001, {.kind = JUGNAYAP_PASSED, .sole = 1}},
+                 {"27999 at scale 7", 7, 27999, {.kind = JUGNAYAP_PASSED, .sole = 1}},
+                 {"28000 at scale 7", 7, 28000, {.kind = JUGNAYAP_PASSED, .sole = 0}},
+                 {"28001 at scale 7", 7, 28001, {.kind = JUGNAYAP_GAP, .value = 4}}};
+    for (size_t i = 0; i < COUNT(cases); i++)
+        same_verdict(cases[i].call, judged_at(cases[i].scale, leaning, cases[i].multiplier, CERTIFICATE),
+                     cases[i].verdict);
+}
+
+/* One check on one bit, word 0, mask 1: the reduced number is the frame's plus the multiplier. Multiplier 0
+ * stands for no entry. 0 is the only codeword, whatever the mark. */
+static void marks_of_one_bit(void)
+{
+    static const struct {
+        const char *call;
+        int16_t number;
+        uint8_t multiplier;
+        JugnayapVerdict verdict;
+    } cases[] = {{"0, no entry", 0, 0, {.kind = JUGNAYAP_PASSED, .sole = 0}},
+                 {"1, no entry", 1, 0, {.kind = JUGNAYAP_PASSED, .sole = 1}},
+                 {"-1, no entry", -1, 0, {.kind = JUGNAYAP_GAP, .value = 2}},
+                 {"0, multiplier 1", 0, 1, {.kind = JUGNAYAP_PASSED, .sole = 1}},
+                 {"-5, multiplier 4", -5, 4, {.kind = JUGNAYAP_GAP, .value = 2}},
+                 {"-5, multiplier 5", -5, 5, {.kind = JUGNAYAP_PASSED, .sole = 0}},
+                 {"-5, multiplier 6", -5, 6, {.kind = JUGNAYAP_PASSED, .sole = 1}}};
+    for (size_t i = 0; i < COUNT(cases); i++) {
+        const uint8_t word[] = {0}, entries = cases[i].multiplier != 0;
+        const uint8_t certificate[CERTIFICATE] = {entries, 0, 1, 0, 0, 0, cases[i].multiplier, 0, 0, 0, 1};
+        same_verdict(cases[i].call,
+                     jugnayap_judge(one, sizeof one, &cases[i].number, 1, word, 1, certificate,
+                                    jugnayap_certificate_length(certificate)),
+                     cases[i].verdict);
+    }
+}
+
+/* One check on bits 0 and 1, word 00, masks 1 and 2 with the greatest multiplier each. They cancel: the reduced
+ * numbers are the frame's. Where one is 0 the word is alone, too; where both are, 11 agrees as well. */
+static void marks_of_two_masks(void)
+{
+    static const uint8_t two[] = {2, 0, 1, 0, 0, 0, 2, 0, 0, 0, 1, 0}, word[] = {0, 0};
+    static const uint8_t certificate[] = {2, 0, 1, 0, 0, 0, 0xFF, 0xFF, 0xFF, 0, 0, 0, 0xFF, 0xFF, 0xFF, 0,
+                                          1, 0, 0, 0, 2, 0, 0, 0};
+    static const struct {
+        const char *call;
+        int16_t frame[2];
+        uint32_t sole;
+    } cases[] = {{"7 and 9", {7, 9}, 1}, {"7 and 0", {7, 0}, 0}, {"0 and 9", {0, 9}, 0}, {"0 and 0", {0, 0}, 0}};
+    for (size_t i = 0; i < COUNT(cases); i++)
+        same_verdict(cases[i].call,
+                     jugnayap_judge(two, sizeof two, cases[i].frame, 2, word, 2, certificate,
+                                    sizeof certificate),
+                     (JugnayapVerdict){.kind = JUGNAYAP_PASSED, .sole = cases[i].sole});
 }
 
 /* An entry on one of three checks of which only the second has members; scale 1, word 000. */
@@ -143,7 +214,8 @@ static JugnayapVerdict judged_on(uint8_t check, uint16_t multiplier, uint8_t mas
 /* No mask fits a check without members. */
 static void checks_without_members(void)
 {
-    same_verdict("check 1", judged_on(1, 2000, 4), (JugnayapVerdict){.kind = JUGNAYAP_PASSED});
+    same_verdict("check 1", judged_on(1, 2000, 4), (JugnayapVerdict){.kind = JUGNAYAP_PASSED, .sole = 0});
+    same_verdict("check 1, sole", judged_on(1, 3333, 4), (JugnayapVerdict){.kind = JUGNAYAP_PASSED, .sole = 1});
     for (uint8_t mask = 0; mask < 8; mask++) {
         same_verdict("check 0, without members", judged_on(0, 2000, mask),
                      (JugnayapVerdict){.number = JUGNAYAP_REFUSED_MASK_WRONG});
@@ -194,6 +266,9 @@ int main(void)
     cuts();
     depths();
     verdicts();
+    marks();
+    marks_of_one_bit();
+    marks_of_two_masks();
     checks_without_members();
     large_gap();
     agreements();

@@ -191,7 +191,7 @@ static void written_length(void)
     same_verdict("300 cuts",
                  jugnayap_judge(code.bytes, code.length, frame, COUNT(frame), left.word, COUNT(frame),
                                 left.certificate, length),
-                 (JugnayapVerdict){.kind = JUGNAYAP_PASSED});
+                 (JugnayapVerdict){.kind = JUGNAYAP_PASSED, .sole = 1});
 }
 
 /* One check on one bit at -U: no cut is deeper. */
@@ -250,7 +250,7 @@ static void check_without_members(void)
     same("no members", "length", 0, (int64_t)length, JUGNAYAP_CERTIFICATE_LENGTH(1));
     same_verdict("no members",
                  jugnayap_judge(code.bytes, code.length, frame, 3, left.word, 3, left.certificate, length),
-                 (JugnayapVerdict){.kind = JUGNAYAP_PASSED});
+                 (JugnayapVerdict){.kind = JUGNAYAP_PASSED, .sole = 1});
 }
 
 /* ---- certificates of two entries on each check of the largest code, as far as q goes ---- */

@@ -1,5 +1,5 @@
 /* Has a word and a certificate judged: judge CODE FRAME WORD CERTIFICATE, each a file in the header's format,
- * the frame's numbers in 16 bits each. Prints the verdict; exit status 0 only for certified. */
+ * the frame's numbers in 16 bits each. Prints the verdict; exit status 0 only for certified, sole or not. */
 #include <stdio.h>
 #include <stdlib.h>
 

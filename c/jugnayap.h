@@ -38,9 +38,9 @@ extern "C" {
 
 /* The version of this header. jugnayap_version() is that of the library that the program runs with. */
 #define JUGNAYAP_VERSION_MAJOR 0
-#define JUGNAYAP_VERSION_MINOR 3
+#define JUGNAYAP_VERSION_MINOR 4
 #define JUGNAYAP_VERSION_PATCH 0
-#define JUGNAYAP_VERSION_STRING "0.3.0"
+#define JUGNAYAP_VERSION_STRING "0.4.0"
 #define JUGNAYAP_VERSION \
     (JUGNAYAP_VERSION_MAJOR * 10000 + JUGNAYAP_VERSION_MINOR * 100 + JUGNAYAP_VERSION_PATCH)
 
@@ -124,6 +124,8 @@ typedef struct {
     uint32_t number;
     uint32_t kind;
     int64_t value; /* JUGNAYAP_BROKEN: the first broken check; JUGNAYAP_PASSED: 0; JUGNAYAP_GAP: the gap */
+    uint32_t sole; /* JUGNAYAP_PASSED: 1 if the certificate shows that nothing else agrees as well as the word.
+                      0, which the other kinds always have, claims nothing: it need not mean a tie */
 } JugnayapVerdict;
 
 typedef struct {
@@ -166,6 +168,13 @@ JugnayapCut jugnayap_search_cut(const uint8_t *code, size_t code_len,
 /* Judges a word and anybody's certificate: the first check that the word breaks; if there is none,
  * passed for gap 0, else the gap, which is then positive. A word that passes has the best agreement of
  * all codewords, and of all points of the relaxation.
+ *
+ * `sole` is 1 if the word passes and no bit's reduced number is 0, and 0 otherwise. The reduced number is the
+ * certificate's scale times the bit's frame number, plus each multiplier whose mask holds the bit, minus each
+ * whose check holds the bit and whose mask doesn't. Where `sole` is 1, each other codeword and each other
+ * point of the relaxation has a strictly smaller agreement, whoever wrote the certificate. Where it is 0,
+ * nothing is claimed: the word may be alone all the same, and another certificate may show it.
+ *
  * The certificate's length is exact: jugnayap_certificate_length, where its buffer may be longer.
  * Refusals: the code's, FRAME_LENGTH, FRAME_RANGE, WORD_WRONG, CERTIFICATE_WRONG, SCALE_RANGE, then entry by
  * entry ENTRY_RANGE, MASK_WRONG, ENTRY_ORDER. */

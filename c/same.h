@@ -32,6 +32,7 @@ static void same_verdict(const char *call, JugnayapVerdict got, JugnayapVerdict 
     SAME(number);
     SAME(kind);
     SAME(value);
+    SAME(sole);
 }
 
 /* The program's last line, and its exit status. */

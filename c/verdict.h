@@ -14,7 +14,7 @@ static void print_verdict(JugnayapVerdict v)
     else if (v.kind == JUGNAYAP_BROKEN)
         printf("check %" PRId64 " broken\n", v.value);
     else if (v.kind == JUGNAYAP_PASSED)
-        printf("certified\n");
+        printf(v.sole ? "certified sole\n" : "certified\n");
     else
         printf("gap %" PRId64 "\n", v.value);
 }

@@ -1,7 +1,7 @@
 """Certificates: reading, writing, the dual bound, the gap and the judge.
 
-Document 01, 'Certificates'.  The judge trusts nobody: it works on any bytes, whoever wrote
-them.
+Document 01, 'Certificates'; the mark of a sole winner, document 02.  The judge trusts nobody: it
+works on any bytes, whoever wrote them.
 """
 
 from collections import namedtuple
@@ -17,7 +17,7 @@ MULTIPLIER_LIMIT = 16_777_215
 Entry = namedtuple("Entry", "check multiplier mask")
 BrokenCheck = namedtuple("BrokenCheck", "check")
 Gap = namedtuple("Gap", "gap")
-CERTIFIED = "certified"
+Certified = namedtuple("Certified", "sole")     # a gap of 0, and whether no reduced number is 0
 
 
 def write_certificate(entries, scale=1):
@@ -109,8 +109,21 @@ def gap(code, frame, word, scale, entries):
     return dual_bound(code, frame, scale, entries) - scale * agreement(frame, word)
 
 
+def is_sole(code, frame, scale, entries):
+    """Whether every reduced number differs from 0.  If the gap is 0 as well, a point of the
+    relaxation agrees as the word does only where it is the word's own spins, scaled to its D:
+    each other one agrees strictly less, and so does each other codeword.  A 0 claims nothing."""
+    return 0 not in reduced_numbers(code, frame, scale, entries)
+
+
+def judge_codeword(code, frame, word, scale, entries):
+    """Certified with its mark, or a positive Gap, which has none."""
+    difference = gap(code, frame, word, scale, entries)
+    return Gap(difference) if difference else Certified(is_sole(code, frame, scale, entries))
+
+
 def judge(code_file, frame, word, certificate):
-    """BrokenCheck, CERTIFIED or a positive Gap; or a refusal 1-9, 15, 10-14, in this order."""
+    """BrokenCheck, Certified or a positive Gap; or a refusal 1-9, 15, 10-14, in this order."""
     code = table.parse_code_file(code_file)
     table.check_frame(code, frame)
     table.check_word(code, word)
@@ -118,5 +131,4 @@ def judge(code_file, frame, word, certificate):
     broken = table.first_broken_check(code, word)
     if broken is not None:
         return BrokenCheck(broken)
-    difference = gap(code, frame, word, scale, entries)
-    return CERTIFIED if difference == 0 else Gap(difference)
+    return judge_codeword(code, frame, word, scale, entries)

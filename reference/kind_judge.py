@@ -2,7 +2,8 @@
 
 Document 01, 'Certificates', and the refusals 1-9, 15, 10-14 in this order.  Each record: u32
 length and code file, u32 count and frame (i16), u32 length and word, u32 length and
-certificate.
+certificate.  A line begins with the judge's answer: `refused K`, `broken C`, `gap G`, or
+`certified sole` where no reduced number is 0 and `certified` where one is.
 """
 
 from itertools import permutations, product
@@ -10,9 +11,10 @@ from itertools import permutations, product
 import make_damage as damage
 import make_inputs as inputs
 import make_runs
+import make_soles as soles
 import make_tables as tables
 import make_verdicts as verdicts
-from certificate import MULTIPLIER_LIMIT, BrokenCheck, Entry, Gap, write_certificate
+from certificate import MULTIPLIER_LIMIT, BrokenCheck, Certified, Entry, Gap, write_certificate
 from decoder import answer, judge, syndrome, word_agreement
 from make_tables import code_file
 from make_verdicts import NO_ENTRIES, JudgeCase
@@ -140,7 +142,7 @@ def judge_records():
             + numbers_at_the_ends() + broken_words(rng) + damaged_files(rng) + plain_inputs()
             + claimed_refusals(rng) + named_empty_checks() + named_in_turn() + emptied_runs(rng)
             + mostly_empty() + verdicts.altered_runs(own_rng, 24, inputs.run_certificate)
-            + verdicts.weak_cases(own_rng))
+            + verdicts.weak_cases(own_rng) + soles.sole_cases(Prng(20_14)))
 
 
 def verdict(found, met):
@@ -148,6 +150,8 @@ def verdict(found, met):
         return f"broken {found.check}"
     if isinstance(found, Gap):
         return f"gap {found.gap}"
+    if isinstance(found, Certified):
+        return "certified sole" if found.sole else "certified"
     return met if found is None else str(found)
 
 

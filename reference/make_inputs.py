@@ -266,9 +266,14 @@ def tight_entries(rng, table, word, per_check, largest):
     return entries
 
 
+def pulls_of(table, entries):
+    """What the entries add to each bit's reduced number."""
+    code = parse_code_file(code_file(table))
+    return certificate.reduced_numbers(code, [0] * code.bits, 1, entries)
+
+
 def weakest_frame(table, word, scale, entries):
     """The weakest frame that leaves every reduced number on the word's side, or at 0."""
-    code = parse_code_file(code_file(table))
-    pulls = certificate.reduced_numbers(code, [0] * code.bits, scale, entries)
     # For a 0 bit: scale times the number plus the pull is at least 0; for a 1 bit at most 0.
-    return [-(pull // scale) if bit == 0 else -pull // scale for pull, bit in zip(pulls, word)]
+    return [-(pull // scale) if bit == 0 else -pull // scale
+            for pull, bit in zip(pulls_of(table, entries), word)]

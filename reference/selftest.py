@@ -20,12 +20,14 @@ import test_mutants
 import test_optimal
 import test_refusals
 import test_search
+import test_sole_cases
+import test_soles
 import test_sums
 from support import Account
 
-PARTS = [test_examples, test_division, test_search, test_optimal, test_calls, test_sums,
-         test_depths, test_from_above, test_edges, test_empty, test_refusals, test_kinds,
-         test_mutants]
+PARTS = [test_examples, test_division, test_search, test_optimal, test_soles, test_sole_cases,
+         test_calls, test_sums, test_depths, test_from_above, test_edges, test_empty, test_refusals,
+         test_kinds, test_mutants]
 
 
 def run_test(test, account):

@@ -297,7 +297,7 @@ def larger_tables_run(account):
         account.add("rounds on limit tables", seen.rounds_done)
         if seen.answer == CERTIFIED:
             got = decoder.judge(run.code_file, run.frame, seen.word, bytes(seen.certificate))
-            expect_equal(got, CERTIFIED, "judge")
+            expect(isinstance(got, certificate.Certified), f"judged {got}")
             account.add("limit tables certified")
         expect(seen.answer in (RUNNING, CERTIFIED), f"answer {seen.answer}")
 

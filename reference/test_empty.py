@@ -5,7 +5,7 @@ import decoder
 import make_inputs as inputs
 import make_runs
 import make_tables as tables
-from certificate import BrokenCheck, Entry, write_certificate
+from certificate import BrokenCheck, Certified, Entry, write_certificate
 from make_runs import Call
 from make_tables import code_file
 from prng import Prng
@@ -84,7 +84,7 @@ def judged_alike(account):
             expect_equal(decoder.judge(code_file(holed), frame, word, renumbered(data, numbers)),
                          verdict, f"{frame} {word} on {holed}")
             account.add("pairs judged")
-            account.add("pairs judged certified", verdict == CERTIFIED)
+            account.add("pairs judged certified", isinstance(verdict, Certified))
 
 
 def cuts_alike(account):

@@ -8,7 +8,7 @@ import certificate
 import decoder
 import make_inputs as inputs
 import make_tables as tables
-from certificate import BrokenCheck, Entry, Gap, write_certificate
+from certificate import BrokenCheck, Certified, Entry, Gap, write_certificate
 from cut import Cut, cut_search
 from prng import Prng
 from make_runs import Call
@@ -29,14 +29,16 @@ def expect_round(run, status, **wanted):
         expect_equal(shown[name], values, f"{name} for {run.frame}")
 
 
-def expect_ending(run, rounds_done, word, certificate_hex):
-    """The run is certified with this word and certificate; the buffer's rest is as before."""
+def expect_ending(run, rounds_done, word, certificate_hex, sole=True):
+    """The run is certified with this word and certificate; the buffer's rest is as before.  The
+    judge passes it with this mark."""
     expect_equal((run.record.rounds_done, run.record.status), (rounds_done, CERTIFIED), "record")
     expect_equal(run.lent.word[:run.code.bits], word, f"word for {run.frame}")
     written = list(bytes.fromhex(certificate_hex))
     expect_equal(run.lent.certificate, written + run.junk.certificate[len(written):],
                  f"certificate for {run.frame}")
-    expect_equal(decoder.judge(run.code_file, run.frame, word, bytes(written)), CERTIFIED, "judge")
+    expect_equal(decoder.judge(run.code_file, run.frame, word, bytes(written)), Certified(sole),
+                 "judge")
 
 
 def cut_examples():
@@ -84,12 +86,18 @@ def two_ones_frame():
 
 
 def four_gaps():
+    """With the multiplier b the reduced numbers are 4000 - b twice and b - 2000: at both ends of
+    the gap 0 some are 0, at 3333, which the run writes, none.  Yet 000 has 6000 and is alone."""
     data, frame = tables.code_file(tables.three_bits()), [4000, 4000, -2000]
-    for multiplier, gap in [(1999, 2), (2000, 0), (4000, 0), (4001, 4)]:
-        wanted = Gap(gap) if gap else CERTIFIED
+    for multiplier, wanted in [(1999, Gap(2)), (2000, Certified(False)), (2001, Certified(True)),
+                               (3333, Certified(True)), (3999, Certified(True)),
+                               (4000, Certified(False)), (4001, Gap(4))]:
         written = write_certificate([Entry(0, multiplier, 4)])
         expect_equal(decoder.judge(data, frame, [0, 0, 0], written), wanted, f"gap at {multiplier}")
         expect_equal(decoder.judge(data, frame, [0, 0, 1], written), BrokenCheck(0), "broken word")
+    expect_equal([decoder.word_agreement(data, frame, word)
+                  for word in ([0, 0, 0], [0, 1, 1], [1, 0, 1], [1, 1, 0])],
+                 [6000, 2000, 2000, -10000], "agreements of all four codewords")
 
 
 def one_bit_frame():
@@ -333,11 +341,11 @@ def wide_degree(account):
     for entries in ([Entry(0, 7, 1 << 31)], inputs.many_entries(4096)):
         written = write_certificate(entries)
         got = decoder.judge(data, frame, [0] * 32, written)
-        expect(got == CERTIFIED or isinstance(got, Gap), f"degree 32 judged {got}")
+        expect(isinstance(got, (Certified, Gap)), f"degree 32 judged {got}")
         account.add("degree 32 certificates")
     # Bound: 31 reduced numbers of 999, one of -1 + 1, and 1 x (32 - 2).
     got = decoder.judge(data, frame, [0] * 32, write_certificate([Entry(0, 1, 1 << 31)]))
-    expect_equal(got, CERTIFIED, "31 x 999 + 0 + 30 against 30999")
+    expect_equal(got, Certified(False), "31 x 999 + 0 + 30 against 30999")
     expect_equal(buffer_lengths(parse_code_file(data)).certificate, 14, "certificate length")
 
 

@@ -24,6 +24,7 @@ import report_inputs
 import rounds
 from call_script import (CAPACITY, KEPT, CallRounds, Fill, Program, Put, StartRun, UseCode,
                          UseFrame)
+from certificate import Certified
 from packing import i32, u8, u32
 from prng import Prng
 from rounds import Buffers, Record
@@ -71,8 +72,9 @@ def refusals(*numbers):
 
 
 def kind_of(text):
-    """`refused K` whole, otherwise the first word; a plain number counts as `number`."""
-    if text.startswith("refused"):
+    """`refused K` and `certified sole` whole, otherwise the first word; a plain number counts as
+    `number`."""
+    if text.startswith("refused") or text == "certified sole":
         return text
     return "number" if text.lstrip("-").isdigit() else text.split()[0]
 
@@ -114,7 +116,7 @@ def case_judge_cover_all(account):
                    refusals(12, 13, 14))
     judged, checked, agreed = zip(*(map(kind_of, line.split(" ; ")) for line in said))
     expect_covered(account, "case_judge", judged,
-                   ["broken", "certified", "gap", *refusals(*range(1, 16))])
+                   ["broken", "certified", "certified sole", "gap", *refusals(*range(1, 16))])
     expect_covered(account, "syndromes", checked, ["broken", "met", *refusals(*range(1, 8), 15)])
     expect_covered(account, "agreements", agreed, ["number", *refusals(*range(1, 10), 15)])
 
@@ -135,10 +137,10 @@ def tight_certificates_have_gap_0(account):
     for table in tables.small_tables(rng, 30):
         word, scale = rng.choice(inputs.codewords(table)), rng.choice([1, 5, 1023])
         case = make_verdicts.tight_case(rng, table, word, 2, scale)
-        expect_equal(decoder.judge(*case), "certified", f"{case}")
-        account.add("tight certificates")
         code, (_, entries) = parse_code_file(case.code_file), inputs.read_entries(case.certificate)
         reduced = certificate.reduced_numbers(code, case.frame, scale, entries)
+        expect_equal(decoder.judge(*case), Certified(0 not in reduced), f"{case}")
+        account.add("tight certificates")
         account.add("reduced numbers at 0", reduced.count(0))
 
 

@@ -1,14 +1,19 @@
 """What the mark means: certified words against all codewords and points of the relaxation."""
 
+from itertools import product
+
 import certificate
 import cut
 import decoder
 import make_inputs as inputs
 import make_tables as tables
-from certificate import CERTIFIED, BrokenCheck, Gap
+from certificate import BrokenCheck, Certified, Gap
 from prng import Prng
 from support import expect, expect_equal
 from table import parse_code_file
+
+
+TRIANGLE = (6, [[0, 1, 2], [0, 1, 3], [0, 2, 4], [1, 2, 5], [3, 4, 5]])
 
 
 def certified_words_are_best(account):
@@ -26,7 +31,9 @@ def certified_words_are_best(account):
             best = max(certificate.agreement(frame, other) for other in words)
             expect(word in words, f"{word} is no codeword of {table}")
             expect_equal(certificate.agreement(frame, word), best, f"{table} {frame}")
-            expect_equal(judged(table, frame, word, data), CERTIFIED, f"{table} {frame}")
+            got = judged(table, frame, word, data)
+            expect(isinstance(got, Certified), f"{table} {frame}: judged {got}")
+            expect_equal(got, expected_answer(table, frame, word, data), f"{table} {frame}")
             account.add("runs certified")
             account.add("certificates with cuts", data[0] > 0)
             account.add("negative bounds", best < 0)
@@ -37,13 +44,13 @@ def judged(table, frame, word, data):
 
 
 def expected_answer(table, frame, word, data):
-    """The judge's answer worked out per bit, in another order than the decoder's."""
+    """The judge's answer, and its mark, worked out per bit, in another order than the decoder's."""
     _, checks = table
     for number, members in enumerate(checks):
         if sum(word[bit] for bit in members) % 2 == 1:
             return BrokenCheck(number)
     scale, entries = inputs.read_entries(data)
-    total = sum(entry.multiplier * (len(checks[entry.check]) - 2) for entry in entries)
+    total, zeros = sum(entry.multiplier * (len(checks[entry.check]) - 2) for entry in entries), 0
     for bit, number in enumerate(frame):
         reduced = scale * number
         for entry in entries:
@@ -51,7 +58,8 @@ def expected_answer(table, frame, word, data):
                 place = checks[entry.check].index(bit)
                 reduced += entry.multiplier * (1 if entry.mask & 1 << place else -1)
         total += abs(reduced) - scale * (1 - 2 * word[bit]) * number
-    return Gap(total) if total else CERTIFIED
+        zeros += reduced == 0
+    return Gap(total) if total else Certified(zeros == 0)
 
 
 def gaps_are_never_negative(account):
@@ -68,11 +76,11 @@ def gaps_are_never_negative(account):
             expect_equal(got, expected_answer(table, frame, word, data), f"{table} {frame} {word}")
             expect(not isinstance(got, Gap) or got.gap > 0, f"gap {got}")
             account.add({BrokenCheck: "judged broken", Gap: "judged with a gap",
-                         str: "judged certified"}[type(got)])
+                         Certified: "judged certified"}[type(got)])
 
 
 def altered_certificates(account):
-    """Scaled ones pass alike; a changed multiplier is judged by its own bound."""
+    """Scaled ones pass alike, mark included; a changed multiplier is judged by its own bound."""
     account.announce("scaled certificates", "changed multipliers", "gaps from a changed one")
     rng = Prng(43)
     for table in tables.small_tables(rng, 40):
@@ -81,8 +89,9 @@ def altered_certificates(account):
         if written is None or written[1][0] == 0:
             continue
         word, data = written
+        passed = judged(table, frame, word, data)
         for factor in (2, 1023):
-            expect_equal(judged(table, frame, word, inputs.scaled(data, factor)), CERTIFIED, "scaled")
+            expect_equal(judged(table, frame, word, inputs.scaled(data, factor)), passed, "scaled")
             account.add("scaled certificates")
         least = inputs.read_entries(data)[1][0].multiplier
         for by in (1, 1 - least, 5000):
@@ -124,11 +133,12 @@ def relaxation_points(rng, table, words, count):
     return found
 
 
-def half_points(table):
-    """All points with D = 2 and p of -2, 0 or 2: the usual pseudo-codewords.  Small n only."""
+def grid_points(table, unit):
+    """All points with this D and p of -D, 2 - D and so on to D.  With D = 2 the usual
+    pseudo-codewords.  Small n only."""
     n, checks = table
-    points = [[number // 3 ** bit % 3 * 2 - 2 for bit in range(n)] for number in range(3 ** n)]
-    return [(2, point) for point in points if in_relaxation(checks, point, 2)]
+    points = map(list, product(range(-unit, unit + 1, 2), repeat=n))
+    return [(unit, point) for point in points if in_relaxation(checks, point, unit)]
 
 
 def no_point_agrees_better(account):
@@ -138,7 +148,7 @@ def no_point_agrees_better(account):
     for table in tables.small_tables(rng, 30) + tables.emptied_tables(rng, 10):
         words = inputs.codewords(table)
         points = relaxation_points(rng, table, words, 12)
-        points += half_points(table) if table[0] <= 5 else []
+        points += grid_points(table, 2) if table[0] <= 5 else []
         for frame in inputs.frames(rng, table[0])[1:]:
             compare_points(account, rng, table, frame, points)
 
@@ -163,14 +173,13 @@ def pseudo_codewords_keep_the_mark_away(account):
     """Where a point of the relaxation beats every codeword, no run may certify."""
     account.announce("frames won by a pseudo-codeword")
     rng = Prng(45)
-    triangle = (6, [[0, 1, 2], [0, 1, 3], [0, 2, 4], [1, 2, 5], [3, 4, 5]])
-    words, points = inputs.codewords(triangle), half_points(triangle)
+    words, points = inputs.codewords(TRIANGLE), grid_points(TRIANGLE, 2)
     for _ in range(60):
         frame = inputs.lively_frame(rng, 6)
         best_word = max(certificate.agreement(frame, word) for word in words)
         best_point = max(sum(l * p for l, p in zip(frame, point)) for _, point in points)
         if best_point > 2 * best_word:
-            expect_equal(inputs.run_certificate(triangle, frame), None, f"{frame}")
+            expect_equal(inputs.run_certificate(TRIANGLE, frame), None, f"{frame}")
             account.add("frames won by a pseudo-codeword")
 
 

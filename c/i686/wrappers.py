@@ -3,10 +3,12 @@
 
 MODULE is the proved library as LLVM IR. It is made for x86-64, and two things stay so when it is compiled
 for 32 bits: lengths are 64 bits wide, and structs come and go by the rules of x86-64, in pieces of 8 bytes.
-C and Rust on 32 bits hand over lengths of 32 bits, and a hidden first pointer to where the answer goes. So
-each call gets a wrapper that widens lengths and lays the answer's pieces down; the module's own function
-goes by proved_ in place of jugnayap_. Exit status 3 if the module hands over the calls of the header in
-another way than this one, as another kit's might; any other failure is this program's own, and fails."""
+One or two are answered; more are written through a first pointer, which is answered. To the module this is a
+pointer like others. C and Rust on 32 bits hand over lengths of 32 bits, and for each struct a hidden first
+pointer to where it goes, which the function called takes off the stack. So each call gets a wrapper that
+widens lengths and lays the answer's pieces down; the module's own function goes by proved_ in place of
+jugnayap_. Exit status 3 if the module hands over the calls of the header in another way than this one, as
+another kit's might; any other failure is this program's own, and fails."""
 import re
 import sys
 
@@ -20,10 +22,15 @@ POINTER = ("ptr", "ptr")
 ANSWERS = {
     "JugnayapTable": [("i64", 0), ("i64", 8)],
     "JugnayapCut": [("i64", 0), ("i32", 8)],
-    "JugnayapVerdict": [("i64", 0), ("i64", 8)],
+    "JugnayapVerdict": [("i64", 0), ("i64", 8), ("i32", 16)],
     "JugnayapAgreement": [("i64", 0), ("i64", 4)],
     "JugnayapCalled": [("i64", 0), ("i32", 8)],
 }
+
+
+def is_written(answer):
+    """Whether the module writes the answer through a pointer."""
+    return len(ANSWERS.get(answer, [])) > 2
 
 
 def calls_of(header):
@@ -36,8 +43,11 @@ def calls_of(header):
 
 def in_module(answer, arguments):
     """The types of the module's function; a bare number is answered as it is."""
+    inside = [wide for _, wide in arguments]
+    if is_written(answer):
+        return "ptr", ["ptr", *inside]
     pieces = ", ".join(piece for piece, _ in ANSWERS.get(answer, []))
-    return f"{{ {pieces} }}" if pieces else "i32", [inside for _, inside in arguments]
+    return f"{{ {pieces} }}" if pieces else "i32", inside
 
 
 def defined_in(module):
@@ -47,21 +57,33 @@ def defined_in(module):
     return {name: (answer, [word.split()[0] for word in listed]) for name, (answer, listed) in words.items()}
 
 
+def laid_down(answer, result):
+    """The pieces of the module's answer, each put where it goes. An answer that the module has written stands in
+    %room, a piece every 8 bytes; what it may write behind the last piece has no place on 32 bits."""
+    for k, (piece, place) in enumerate(ANSWERS.get(answer, [])):
+        if is_written(answer):
+            yield f"  %from{k} = getelementptr i8, ptr %room, i32 {8 * k}"
+            yield f"  %p{k} = load {piece}, ptr %from{k}, align 8"
+        else:
+            yield f"  %p{k} = extractvalue {result} %answer, {k}"
+        yield f"  %at{k} = getelementptr i8, ptr %out, i32 {place}"
+        yield f"  store {piece} %p{k}, ptr %at{k}, align 4"
+
+
 def wrapper(name, answer, arguments):
     """A call on 32 bits, by the module's function."""
     result, inside = in_module(answer, arguments)
     taken = ["ptr sret(i8) align 4 %out"] if answer in ANSWERS else []
     widened, given = [], []
+    if is_written(answer):
+        widened.append(f"  %room = alloca [{8 * len(ANSWERS[answer])} x i8], align 8")
+        given.append("ptr %room")
     for k, (outside, wide) in enumerate(arguments):
         taken.append(f"{outside} %a{k}")
         if outside != wide:
             widened.append(f"  %w{k} = zext {outside} %a{k} to {wide}")
         given.append(f"{wide} %{'a' if outside == wide else 'w'}{k}")
-    laid = []
-    for k, (piece, place) in enumerate(ANSWERS.get(answer, [])):
-        laid.append(f"  %p{k} = extractvalue {result} %answer, {k}")
-        laid.append(f"  %at{k} = getelementptr i8, ptr %out, i32 {place}")
-        laid.append(f"  store {piece} %p{k}, ptr %at{k}, align 4")
+    laid = list(laid_down(answer, result))
     returned = "void" if laid else result
     return [
         f"declare {result} @proved_{name}({', '.join(inside)})",

@@ -93,6 +93,10 @@ pub enum Answer {
 pub const LEAST_DEPTH: &str = "least depth";
 pub const GREATEST_DEPTH: &str = "greatest depth";
 
+/// The tally's words for verdicts of gap 0, without the mark and with it.
+pub const CERTIFIED: &str = "certified";
+pub const SOLE: &str = "certified sole";
+
 /// Multipliers that only a run resumed at 43's limits has, and the tally's words for calls that left one: that
 /// of 32 members whose values are all as far out as can be, where the sum of heights is the least, and the
 /// greatest that there is, on one member.
@@ -134,7 +138,8 @@ fn cut_word(cut: Option<Cut>) -> &'static str {
 fn verdict_word(verdict: Verdict) -> &'static str {
     match verdict {
         Verdict::Broken(_) => "broken check",
-        Verdict::Certified => "certified",
+        Verdict::Certified { sole: false } => CERTIFIED,
+        Verdict::Certified { sole: true } => SOLE,
         Verdict::Gap(_) => "gap",
     }
 }

@@ -1,6 +1,7 @@
 //! Seeded inputs of every kind that the documents tell apart.
 
 pub mod certificate;
+pub mod claim;
 pub mod code;
 pub mod codeword;
 pub mod damage;

@@ -1,7 +1,7 @@
 //! A small seeded series of cases to the proved decoder, the independent one and the plain one.
 
 use harness::cases::compare::{compare, Seen, Tally};
-use harness::cases::make;
+use harness::cases::{make, CERTIFIED, SOLE};
 use harness::decoder::Decoder;
 use harness::independent::{Independent, Plain};
 use harness::proved::Proved;
@@ -26,5 +26,8 @@ fn fast_rounds_are_the_plain_ones() {
 
 #[test]
 fn proved_decoder_is_the_independent_one() {
-    series(&[&Independent, &Proved], 2, 20_000);
+    let tally = series(&[&Independent, &Proved], 2, 20_000);
+    for answer in [CERTIFIED, SOLE] {
+        assert!(tally[&("judge", answer.to_string())] >= 100, "{answer}");
+    }
 }

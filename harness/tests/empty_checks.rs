@@ -182,7 +182,7 @@ fn verdicts() {
             assert_eq!(decoder.judge(&pair.wider, &frame, &word, &wider), renumbered(&pair, verdict));
             match verdict.unwrap() {
                 Verdict::Broken(_) => see(&mut seen, "broken", 1),
-                Verdict::Certified => see(&mut seen, "certified", 1),
+                Verdict::Certified { .. } => see(&mut seen, "certified", 1),
                 Verdict::Gap(_) => see(&mut seen, "gap", 1),
             }
         }
@@ -255,7 +255,7 @@ fn all_but_one() {
             let certificate = Draft { scale: 1, entries: vec![entry] }.bytes();
             assert_eq!(state.certificate.lent()[..14], certificate);
             let verdict = decoder.judge(&code, &[4000, 4000, -2000], &[0, 0, 0], &certificate);
-            assert_eq!(verdict, Ok(Verdict::Certified));
+            assert_eq!(verdict, Ok(Verdict::Certified { sole: true }));
         }
     }
 }

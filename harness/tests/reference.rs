@@ -73,8 +73,9 @@ fn one_bit_frame() {
         assert_eq!(state.depths.lent(), [4101]);
         // Bound −5 and agreement −5.
         assert_eq!(decoder.agreement(&code, &[-5], &[0]), Ok(-5));
+        // The reduced number is −5 + 4101.
         let verdict = decoder.judge(&code, &[-5], &[0], state.certificate.lent());
-        assert_eq!(verdict, Ok(Verdict::Certified));
+        assert_eq!(verdict, Ok(Verdict::Certified { sole: true }));
     }
 }
 
@@ -92,12 +93,14 @@ fn frames_of_the_report() {
     }
 }
 
+/// The reduced numbers are 4000 less the multiplier, twice, and the multiplier less 2000.
 #[test]
 fn gaps_of_the_three_bit_frame() {
     for (multiplier, verdict) in [
         (1999u32, Verdict::Gap(2)),
-        (2000, Verdict::Certified),
-        (4000, Verdict::Certified),
+        (2000, Verdict::Certified { sole: false }),
+        (3333, Verdict::Certified { sole: true }),
+        (4000, Verdict::Certified { sole: false }),
         (4001, Verdict::Gap(4)),
     ] {
         let mut certificate = vec![1, 0, 1, 0, 0, 0];

@@ -160,8 +160,9 @@ fn certificates_naming_empty_checks() {
     refused(&[0, 0, 0], &[(0, 5, 2), (0, 5, 1), (1, 5, 1)], 14);
     refused(&[0, 0, 0], &[(3, 5, 1), (1, 5, 1)], 12);
     for decoder in ALL {
+        // The reduced numbers are 6, 5 and 3.
         let passed = decoder.judge(&with_empty(), &[5; 3], &[0; 3], &certificate(&[(0, 1, 1), (2, 1, 1)]));
-        assert_eq!(passed, Ok(Verdict::Certified), "{}", decoder.name());
+        assert_eq!(passed, Ok(Verdict::Certified { sole: true }), "{}", decoder.name());
     }
 }
 
@@ -180,13 +181,13 @@ fn frames_and_words() {
     }
 }
 
-/// At degree 32 every bit of a mask is a member.
+/// At degree 32 every bit of a mask is a member. The last one's reduced number is 2, the others' are 0.
 #[test]
 fn full_mask() {
     let code = bytes_of(32, &[(0..32).collect()]);
     for decoder in ALL {
         let judge = |mask| decoder.judge(&code, &[1; 32], &[0; 32], &certificate(&[(0, 1, mask)]));
-        assert_eq!(judge(1 << 31), Ok(Verdict::Certified));
+        assert_eq!(judge(1 << 31), Ok(Verdict::Certified { sole: false }));
         assert_eq!(judge(u32::MAX), Err(Refusal::ENTRY_MASK));
     }
 }

@@ -32,7 +32,12 @@ pub enum Verdict {
     /// The word breaks this check, the first of those.
     Broken(u32),
     /// No codeword, and no point of the relaxation, agrees better with the frame than the word.
-    Certified,
+    Certified {
+        /// Whether every reduced number of the certificate differs from 0. Then no other codeword, and no other
+        /// point of the relaxation, agrees as well as the word. False claims nothing: the word may be alone, and
+        /// another certificate may show it.
+        sole: bool,
+    },
     /// The bound is this much above the word's agreement times the certificate's scale.
     Gap(i64),
 }
@@ -159,11 +164,11 @@ fn cut(raw: &ffi::Cut) -> Option<Cut> {
 }
 
 fn verdict(raw: &ffi::Verdict) -> Verdict {
-    match (raw.kind, raw.value) {
-        (0, check) => Verdict::Broken(u32::try_from(check).expect("a check number")),
-        (1, 0) => Verdict::Certified,
-        (2, gap) => Verdict::Gap(gap),
-        (kind, value) => panic!("verdict of kind {kind}, value {value}"),
+    match (raw.kind, raw.value, raw.sole) {
+        (0, check, 0) => Verdict::Broken(u32::try_from(check).expect("a check number")),
+        (1, 0, sole @ 0..=1) => Verdict::Certified { sole: sole == 1 },
+        (2, gap @ 1.., 0) => Verdict::Gap(gap),
+        (kind, value, sole) => panic!("verdict of kind {kind}, value {value}, sole {sole}"),
     }
 }
 
@@ -204,7 +209,8 @@ pub fn judge(code: &[u8], frame: &[i16], word: &[u8], certificate: &[u8]) -> Res
             certificate.len(),
         )
     };
-    answer(raw.number, raw.kind == 0 && raw.value == 0, verdict(&raw))
+    let verdict = verdict(&raw);
+    answer(raw.number, verdict == Verdict::Broken(0), verdict)
 }
 
 /// The agreement of a word with a frame: the sum of the frame's numbers, added where the bit is 0 and
@@ -273,6 +279,36 @@ mod tests {
         }
         for (mask, depth) in [(0, 1), (1, 0), (1, 8193), (1, u32::MAX)] {
             assert!(!allowed(mask, depth), "{mask}, {depth}");
+        }
+    }
+
+    #[test]
+    fn verdicts_have_a_mark_only_where_passed() {
+        let read =
+            |kind, value, sole| catch_unwind(|| verdict(&ffi::Verdict { number: 0, kind, value, sole })).ok();
+        for (kind, value, sole, verdict) in [
+            (0, 0, 0, Verdict::Broken(0)),
+            (0, 2047, 0, Verdict::Broken(2047)),
+            (1, 0, 0, Verdict::Certified { sole: false }),
+            (1, 0, 1, Verdict::Certified { sole: true }),
+            (2, 1, 0, Verdict::Gap(1)),
+            (2, i64::MAX, 0, Verdict::Gap(i64::MAX)),
+        ] {
+            assert_eq!(read(kind, value, sole), Some(verdict), "{kind}, {value}, {sole}");
+        }
+        for (kind, value, sole) in [
+            (0, 0, 1),
+            (0, -1, 0),
+            (1, 1, 0),
+            (1, 1, 1),
+            (1, 0, 2),
+            (1, 0, u32::MAX),
+            (2, 0, 0),
+            (2, -1, 0),
+            (2, 5, 1),
+            (3, 0, 0),
+        ] {
+            assert_eq!(read(kind, value, sole), None, "{kind}, {value}, {sole}");
         }
     }
 }

@@ -115,7 +115,8 @@ impl Code {
     /// let code = Code::from_checks(3, &[[0, 1, 2]])?;
     /// let (frame, word) = ([4000, 4000, -2000], "000".parse().unwrap());
     /// let judge = |certificate: &str| code.judge(&frame, &word, &certificate.parse().unwrap());
-    /// assert_eq!(judge("scale 1 0:2000:4")?, Verdict::Certified);
+    /// assert_eq!(judge("scale 1 0:3333:4")?, Verdict::Certified { sole: true });
+    /// assert_eq!(judge("scale 1 0:2000:4")?, Verdict::Certified { sole: false });
     /// assert_eq!(judge("scale 1 0:1999:4")?, Verdict::Gap(2));
     /// # Ok::<(), jugnayap::Refusal>(())
     /// ```

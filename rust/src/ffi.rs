@@ -28,6 +28,7 @@ pub struct Verdict {
     pub number: u32,
     pub kind: u32,
     pub value: i64,
+    pub sole: u32,
 }
 
 #[repr(C)]

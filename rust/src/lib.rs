@@ -4,8 +4,9 @@
 //! A [`Code`] is a parity-check table. It [decodes](Code::decode) a frame, one signed number for each bit,
 //! positive where the bit is likelier 0, by a [`Run`] of at most 1,024 rounds. A frame that comes out
 //! [`Answer::Certified`] has a [`Word`] that agrees with the frame at least as well as every codeword and
-//! every point of the parity relaxation, and a [`Certificate`] by which [`Code::judge`] tells anybody so.
-//! What is wrong with an input is a [`Refusal`] by number.
+//! every point of the parity relaxation, and a [`Certificate`] by which [`Code::judge`] tells anybody so. The
+//! judge also says of many that no other codeword agrees as well: [`Verdict::Certified`]. What is wrong with an
+//! input is a [`Refusal`] by number.
 //!
 //! ```
 //! use jugnayap::{Answer, Code, Verdict};
@@ -16,7 +17,8 @@
 //!     Answer::Certified(found) => {
 //!         assert_eq!(found.word.to_string(), "000");
 //!         assert_eq!(code.agreement(&frame, &found.word)?, 6000);
-//!         assert_eq!(code.judge(&frame, &found.word, &found.certificate)?, Verdict::Certified);
+//!         let verdict = code.judge(&frame, &found.word, &found.certificate)?;
+//!         assert_eq!(verdict, Verdict::Certified { sole: true });
 //!     }
 //!     _ => unreachable!("this frame is certified after 3 rounds"),
 //! }

@@ -5,7 +5,7 @@ use crate::limits;
 /// The greatest scale, 1 to 1,023, at which a frame's numbers are still within the limit; 1 if none is.
 ///
 /// A frame l that is run k times as large gives a certificate at scale 1. With its scale set to k it is a
-/// certificate of l: the judge's answer is proved to be the same.
+/// certificate of l: the judge's answer, its mark included, is proved to be the same.
 ///
 /// ```
 /// use jugnayap::{scale, Answer, Code, Verdict};
@@ -14,7 +14,9 @@ use crate::limits;
 /// let k = scale::greatest(&frame);
 /// assert_eq!(k, 204);
 /// let Answer::Certified(found) = code.decode(&scale::times(k, &frame))? else { panic!("spent") };
-/// assert_eq!(code.judge(&frame, &found.word, &found.certificate.at_scale(k))?, Verdict::Certified);
+/// let certificate = found.certificate.at_scale(k);
+/// assert_eq!(certificate.to_string(), "scale 204 0:6202:4");
+/// assert_eq!(code.judge(&frame, &found.word, &certificate)?, Verdict::Certified { sole: true });
 /// # Ok::<(), jugnayap::Refusal>(())
 /// ```
 pub fn greatest(frame: &[i16]) -> u16 {

@@ -1,9 +1,9 @@
 // Runs words and certificates through judge::judge, judge::syndrome and judge::agreement. Standard
 // input holds records: a 32-bit length and a code file, a 32-bit count and as many signed 16-bit
 // frame numbers, a 32-bit length and a word, a 32-bit length and a certificate. Each gets a line of
-// three answers: `refused K`, `broken C`, `certified` or `gap G`; `refused K`, `broken C` or `met`;
-// `refused K` or the agreement. The end of the input, a longer record or one that is cut short ends
-// the program.
+// three answers: `refused K`, `broken C`, `certified`, `certified sole` or `gap G`; `refused K`,
+// `broken C` or `met`; `refused K` or the agreement. The end of the input, a longer record or one
+// that is cut short ends the program.
 use judge::Agreed;
 use judge::Parity;
 use judge::Verdict;
@@ -25,7 +25,12 @@ fn print_verdict(answer: Verdict) {
     match answer {
         Verdict::Refused(k) => print_number(b"refused ", k as u64),
         Verdict::Broken(j) => print_number(b"broken ", j as u64),
-        Verdict::Certified => print(b"certified"),
+        Verdict::Certified { sole } => {
+            print(b"certified");
+            if sole {
+                print(b" sole");
+            }
+        }
         Verdict::Gap(g) => {
             print(b"gap ");
             print_signed(g);

@@ -28,6 +28,31 @@ module _ {A : Type 0} (d : A) (test : A → Bool) (each : List A → Bool) (nil 
   pub each-end : length l ≤ i → each (drop i l) ≡ true
   each-end h = ap each (drop-of-length-le l h) ∙ nil
 
+-- ---- a test that goes to the end: all pass exactly if those so far do, and those that are left
+pub record SoFar (all so-far left : Bool) : Type 0 where
+  pub both : all ≡ (so-far && left)
+
+pub so-far-none : {all : Bool} → SoFar all true all
+so-far-none = record { both = refl }
+
+and-false : (a : Bool) → a && false ≡ false
+and-false true = refl
+and-false false = refl
+
+and-true : (a : Bool) → a && true ≡ a
+and-true true = refl
+and-true false = refl
+
+module _ {all so-far left : Bool} (h : SoFar all so-far left) where
+  pub one-failed : {next rest : Bool} → left ≡ false → next ≡ false → SoFar all next rest
+  one-failed {next} {rest} e f = record { both = h .both ∙ ap (λ b. so-far && b) e ∙ and-false so-far ∙ ap (λ b. b && rest) (sym f) }
+
+  pub one-held : {next rest : Bool} → left ≡ rest → next ≡ so-far → SoFar all next rest
+  one-held {next} {rest} e f = record { both = h .both ∙ ap (λ b. so-far && b) e ∙ ap (λ b. b && rest) (sym f) }
+
+  pub none-left : left ≡ true → so-far ≡ all
+  none-left e = sym (h .both ∙ ap (λ b. so-far && b) e ∙ and-true so-far)
+
 -- ---- numbers from −k to k
 pub within-end : (k : ℕ) (l : List ℤ) (i : ℕ) → length l ≤ i → eachWithin k (drop i l) ≡ true
 within-end k = each-end (pos 0) (λ x. leb (natAbs x) k) (eachWithin k) refl (λ x xs. refl)

@@ -47,16 +47,17 @@ pub(crate) fn spins_right(s: &[i32]) -> bool
     true
 }
 
-// "A word is n bytes, each 0 or 1."
+// "A word is n bytes, each 0 or 1." The loop goes to the end, so that it can be done in wide steps.
 pub(crate) fn bytes_right(w: &[u8]) -> bool
     ensures { λ r. ⌜ r ≡ eachBit (now (w .entry)) ⌝ }
 {
+    let mut right = true;
     let mut i: usize = 0;
     while i < w.len() {
         if 1 < w[i] {
-            return false;
+            right = false;
         }
         i += 1;
     }
-    true
+    right
 }

@@ -1,13 +1,14 @@
 -- Products on ℤ: the laws of a ring, and how a product stands in the order. Assumes nothing.
 --     simp ring (omega arithZ)    as `simp lin`, with products multiplied out: an equation of ℤ's ring whose monomials have at most two unknown factors
 use mathlib.Core.Path.{_≡_, refl, sym, _∙_, ap}
-use mathlib.Core.Logic.{_↔_}
-use Prim.Native.Nat.{ℕ, suc, _+_, _*_, _≤_}
+use mathlib.Core.Logic.{_↔_, _⊎_, inl, inr}
+use Prim.Native.Nat.{ℕ, zero, suc, _+_, _*_, _≤_}
 use native.Mathlib.Omega.{arith}
 use native.Mathlib.Nat.{mul-le-mul-left, mul-le-mul-right, le-trans}
 use lib.IntN.{ℤ, pos, negsuc, negℤ, _+ℤ_, _*ℤ_, *ℤ-comm, natAbs}
-use lib.Signed.{_≤ℤ_}
+use lib.Signed.{_≤ℤ_, _<ℤ_}
 use Rattle.integers.specs.Linear.{up, dn, up-neg, dn-neg, sum-lin, eq-in, le-in, le-out, lin, arithZ, _⩽_, Within}
+use Rattle.integers.specs.Order.{le-or-lt, le-antisym}
 
 pub mul-lin : (x y : ℤ) → up (x *ℤ y) + (up x * dn y + dn x * up y) ≡ dn (x *ℤ y) + (up x * up y + dn x * dn y)
 mul-lin (pos a) (pos b) = omega arith
@@ -81,11 +82,47 @@ natAbs-is (negsuc n) = omega arith
 -- multiplied out, sorted, and read as `lin` reads
 pub ruleset ring = (*ℤ-+ℤ, +ℤ-*ℤ, negℤ-*ℤ, *ℤ-negℤ, *ℤ-assoc, *ℤ-comm, *ℤ-left-comm, negsuc-*ℤ, *ℤ-negsuc′, lin, up-scale, dn-scale, up-scale′, dn-scale′, up-last, dn-last, up-last′, dn-last′)
 
+pub once : (x : ℤ) → x ≡ pos 1 *ℤ x
+once x = simp ring (omega arithZ)
+
 -- ---- order
 
 pub mul-mono : (c a b : ℤ) → pos 0 ⩽ c → a ⩽ b → c *ℤ a ⩽ c *ℤ b
 mul-mono (pos k) a b hc h = simp ring (omega (arithZ, mul-le-mul-left k (le-out h)))
 mul-mono (negsuc k) a b hc h = absurd (hc .le)
+
+pub mul-cancel-le : (k : ℕ) (x y : ℤ) → 1 ≤ k → pos k *ℤ x ⩽ pos k *ℤ y → x ⩽ y
+mul-cancel-le k x y h e = go (le-or-lt x y)
+  where
+    next : (x y : ℤ) → y <ℤ x → y +ℤ pos 1 ⩽ x
+    next x y = simp lin (omega arithZ)
+
+    spread : (k y : ℤ) → k *ℤ (y +ℤ pos 1) ≡ k *ℤ y +ℤ k
+    spread k y = simp ring (omega arithZ)
+
+    over : (a b c : ℤ) (k : ℕ) → 1 ≤ k → a ⩽ b → c ⩽ a → c ≡ b +ℤ pos k → ⊥
+    over a b c k = simp lin (omega arithZ)
+
+    nonneg : (k : ℕ) → pos 0 ⩽ pos k
+    nonneg k = simp lin (omega arithZ)
+
+    go : (x ≤ℤ y) ⊎ (y <ℤ x) → x ⩽ y
+    go (inl p) = p
+    go (inr p) = absurd (over (pos k *ℤ x) (pos k *ℤ y) (pos k *ℤ (y +ℤ pos 1)) k h e (mul-mono (pos k) (y +ℤ pos 1) x (nonneg k) (next x y p)) (spread (pos k) y))
+
+cancel-pos : (k : ℕ) (x y : ℤ) → pos (suc k) *ℤ x ≡ pos (suc k) *ℤ y → x ≡ y
+cancel-pos k x y e = le-antisym x y (mul-cancel-le (suc k) x y (omega arith) (same _ _ e)) (mul-cancel-le (suc k) y x (omega arith) (same _ _ (sym e)))
+  where
+    same : (a b : ℤ) → a ≡ b → a ⩽ b
+    same a b = simp lin (omega arithZ)
+
+neg-inj : (a b : ℤ) → negℤ a ≡ negℤ b → a ≡ b
+neg-inj a b = simp lin (omega arithZ)
+
+pub mul-cancel : (r x y : ℤ) → (r ≡ pos 0 → ⊥) → x *ℤ r ≡ y *ℤ r → x ≡ y
+mul-cancel (pos zero) x y f e = absurd (f refl)
+mul-cancel (pos (suc k)) x y f e = cancel-pos k x y (*ℤ-comm (pos (suc k)) x ∙ e ∙ *ℤ-comm y (pos (suc k)))
+mul-cancel (negsuc k) x y f e = cancel-pos k x y (neg-inj (pos (suc k) *ℤ x) (pos (suc k) *ℤ y) (sym (*ℤ-negsuc′ k x) ∙ e ∙ *ℤ-negsuc′ k y))
 
 -- the size as a whole number
 abbrev pub abs : ℤ → ℤ

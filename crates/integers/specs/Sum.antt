@@ -1,10 +1,10 @@
 -- Sums of whole numbers over an index, and lists of bounded numbers. Assumes nothing.
-use mathlib.Core.Path.{_≡_, refl, sym, _∙_, ap, ap₂}
+use mathlib.Core.Path.{_≡_, refl, sym, _∙_, ap, ap₂, subst}
 use mathlib.Core.Bool.{Bool, true, false}
 use mathlib.Core.List.{List, [], _∷_}
 use Prim.Native.Nat.{ℕ, zero, suc, _≤_, _<_}
 use native.Mathlib.Omega.{arith}
-use native.Mathlib.Nat.{le-step, lt-suc-self}
+use native.Mathlib.Nat.{le-step, lt-suc-self, not-suc-le-zero}
 use native.Mathlib.Decide.{ℕ-discrete}
 use lib.Dec.{eqb}
 use borrow.Author.Tests.{eq-eqb, ne-eqb}
@@ -55,6 +55,31 @@ pub sumTo-abs : (d n : ℕ) (p r : ℕ → ℤ) → ((i : ℕ) → Within d (p i
 sumTo-abs d zero p r w = abs-end (pos d)
 sumTo-abs d (suc n) p r w = abs-step (pos d) (sumTo n (λ i. p i *ℤ r i)) (p n *ℤ r n) (sumTo n (λ i. abs (r i))) (abs (r n))
     (sumTo-abs d n p r w) (mul-abs (pos d) (p n) (r n) (within-low d (p n) (w n)) (within-high d (p n) (w n)))
+
+-- and where the sums are equal, each p r is d |r|
+tight-before : (d a b x y : ℤ) → b ⩽ d *ℤ y → d *ℤ (x +ℤ y) ⩽ a +ℤ b → d *ℤ x ⩽ a
+tight-before d a b x y = simp ring (omega arithZ)
+
+tight-last : (d a b x y : ℤ) → a ⩽ d *ℤ x → b ⩽ d *ℤ y → d *ℤ (x +ℤ y) ⩽ a +ℤ b → b ≡ d *ℤ y
+tight-last d a b x y = simp ring (omega arithZ)
+
+pub sumTo-tight : (d n : ℕ) (p r : ℕ → ℤ) → ((i : ℕ) → Within d (p i)) → pos d *ℤ sumTo n (λ i. abs (r i)) ⩽ sumTo n (λ i. p i *ℤ r i)
+    → (i : ℕ) → i < n → p i *ℤ r i ≡ pos d *ℤ abs (r i)
+sumTo-tight d zero p r w h i k = absurd (not-suc-le-zero k)
+sumTo-tight d (suc n) p r w h i k = go (ℕ-discrete i n) (sumTo-tight d n p r w before i)
+  where
+    last : p n *ℤ r n ⩽ pos d *ℤ abs (r n)
+    last = mul-abs (pos d) (p n) (r n) (within-low d (p n) (w n)) (within-high d (p n) (w n))
+
+    before : pos d *ℤ sumTo n (λ j. abs (r j)) ⩽ sumTo n (λ j. p j *ℤ r j)
+    before = tight-before (pos d) (sumTo n (λ j. p j *ℤ r j)) (p n *ℤ r n) (sumTo n (λ j. abs (r j))) (abs (r n)) last h
+
+    here : p n *ℤ r n ≡ pos d *ℤ abs (r n)
+    here = tight-last (pos d) (sumTo n (λ j. p j *ℤ r j)) (p n *ℤ r n) (sumTo n (λ j. abs (r j))) (abs (r n)) (sumTo-abs d n p r w) last h
+
+    go : Dec (i ≡ n) → (i < n → p i *ℤ r i ≡ pos d *ℤ abs (r i)) → p i *ℤ r i ≡ pos d *ℤ abs (r i)
+    go (yes e) ih = subst (λ j. p j *ℤ r j ≡ pos d *ℤ abs (r j)) (sym e) here
+    go (no f) ih = ih (omega arith)
 
 -- ---- one place out of n
 abbrev pub pick : Bool → ℤ → ℤ

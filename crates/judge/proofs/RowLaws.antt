@@ -8,9 +8,13 @@ use lib.ListN.{length, getD, take, drop}
 use lib.IntN.{ℤ}
 use Rattle.integers.specs.Count.{left-more}
 use Rattle.rules.specs.Limits.{maxDegree}
-use Rattle.rules.specs.Scatter.{rowOf, Put, Adds}
+use Rattle.rules.specs.Table.{at}
+use Rattle.rules.specs.Bound.{Row, reduced}
+use Rattle.rules.specs.Scatter.{rowOf, Reduces, Put, Adds}
 use Rattle.rules.specs.Certificate.{Item, itemAt, itemsAt}
+use Rattle.rules.specs.Sole.{noneZero, sole}
 use Rattle.rules.proofs.BoundLaws.{row-adds}
+use Rattle.rules.proofs.SoleLaws.{none-zero-same}
 use Rattle.table.specs.Layout.{partAt, Part}
 use Rattle.table.proofs.LayoutLaws.{part-length}
 use Rattle.judge.specs.Rows.{rowIn, rowsIn, rowsLeft, Placed}
@@ -62,3 +66,11 @@ module _ {n : ℕ} {starts members : List ℕ} {j check a e : ℕ} (p : Part n s
 module _ {ms ms′ : List ℕ} {b b′ mask mask′ : ℕ} (hm : ms′ ≡ ms) (hb : b ≡ b′) (hk : mask ≡ mask′) where
   pub row-read : {ls new : List ℤ} {x : ℤ} → Put (rowOf ms b mask ∷ []) ls new x → Put (rowOf ms′ b′ mask′ ∷ []) ls new x
   row-read {ls} {new} {x} = subst (λ r. Put (r ∷ []) ls new x) (ap (λ l. rowOf l b mask) (sym hm) ∙ ap₂ (rowOf ms′) hb hk)
+
+-- ---- numbers that are the reduced ones, by scale and rows as they are read; and their mark
+pub reduces-read : {s k : ℕ} {l : List ℤ} {rs qs : List Row} {r : List ℤ} → s ≡ k → rs ≡ qs → Reduces s l rs r → Reduces k l qs r
+reduces-read {s} {k} {l} e f h = record { number = λ i b. h .number i b ∙ ap₂ (λ x y. reduced x l y i) e f }
+
+pub sole-found : {s : ℕ} {l : List ℤ} {rs : List Row} {r : List ℤ} → Reduces s l rs r → length r ≡ length l → noneZero (length r) (at r) ≡ sole (length l) s l rs
+unfolding sole
+sole-found {s} {l} {rs} {r} h e = ap (λ n. noneZero n (at r)) e ∙ none-zero-same (length l) (at r) (reduced s l rs) (h .number)

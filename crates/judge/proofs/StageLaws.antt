@@ -1,16 +1,14 @@
 -- Document 01's answers on a table that the code holds: the tests as one refusal's number, then the verdict, in the code's own numbers. Assumes nothing.
 use mathlib.Core.Path.{_≡_, refl, sym, _∙_, ap, ap₂}
-use mathlib.Core.Bool.{false, cond, _&&_}
+use mathlib.Core.Bool.{Bool, cond, _&&_}
 use mathlib.Core.List.{List, _∷_}
 use mathlib.Core.Option.{Option, some, none}
 use Prim.Native.Nat.{ℕ, zero, suc, _+_, _≤_, _<_}
 use native.Mathlib.Omega.{arith}
 use lib.Dec.{eqb}
 use lib.ListN.{length}
-use lib.IntN.{ℤ, pos, negsuc}
+use lib.IntN.{ℤ, pos}
 use borrow.Author.Tests.{eqb-true}
-use mir.Syntax.{w64}
-use mir.Val.{ofZ}
 use Rattle.integers.specs.Count.{first-in, rest-in}
 use Rattle.rules.specs.Limits.{frameLimit}
 use Rattle.rules.specs.Refusal.{Answer, refused, gives, then, frameRange}
@@ -20,17 +18,18 @@ use Rattle.rules.specs.Mask.{setOf}
 use Rattle.rules.specs.CodeFile.{codeFile}
 use Rattle.rules.specs.Input.{eachWithin, eachBit, bitsOf}
 use Rattle.rules.specs.Bound.{gap}
-use Rattle.rules.specs.Round.{isZero}
 use Rattle.rules.specs.Certificate.{Item, itemAt, itemsAt, membersAt, entriesOf, scaleOf, itemsOf, rowAt, rowsAt}
+use Rattle.rules.specs.Sole.{sole}
 use Rattle.rules.specs.Judge.{breaks, passes, misses, weigh, verdict, judge, syndrome, agreementOf}
 use Rattle.rules.proofs.Basics.{and-both}
 use Rattle.rules.proofs.AnswerLaws.{then-of}
-use Rattle.rules.proofs.Judged.{gapRead}
+use Rattle.rules.proofs.ZeroLaws.{not-zero}
+use Rattle.rules.proofs.Judged.{gapRead, soleRead}
 use Rattle.inputs.specs.Refusals.{frameRefusal, wordRefusal, turnedDown, orElse}
 use Rattle.inputs.proofs.InputLaws.{frame-law, word-law}
 use Rattle.table.specs.Layout.{checksFrom, tableOf, Holds, degreeAt}
 use Rattle.judge.specs.Refusals.{Ordered, certificateRefusal}
-use Rattle.judge.specs.Rows.{rowIn, rowsIn, AllPlaced}
+use Rattle.judge.specs.Rows.{rowIn, rowsIn, AllPlaced, gapIn, soleIn}
 use Rattle.judge.specs.Stages.{verdictOn, judgeOn, syndromeOn, agreementOn, judgeRefusal}
 use Rattle.table.proofs.LayoutLaws.{starts-long, start-next, part-is, start-held, part-held}
 use Rattle.inputs.proofs.RefusalLaws.{else-none, cond-none, turned-else, turned-refused, turned-none}
@@ -112,29 +111,35 @@ module _ (n m : ℕ) (ss ms : List ℕ) (h : Holds n ss ms) (hm : length ss ≡ 
   rows-from bs q f k zero g = refl
   rows-from bs q f k (suc c) g = ap₂ _∷_ (row-is (itemAt bs q k) (f k (first-in k c q g))) (rows-from bs q f (k + 1) c (rest-in k c q g))
 
-  pub gap-is : (l : List ℤ) (w bs : List ℕ) → length l ≡ n → Passed m bs → gap (length l) (scaleOf bs) l (rowsIn ss ms (itemsOf bs)) (bitsOf w) ≡ gapRead (tableOf n ss ms) l w bs
-  gap-is l w bs long p = ap₂ (λ k rs. gap k (scaleOf bs) l rs (bitsOf w)) long (rows-from bs (entriesOf bs) (listed bs p) 0 (entriesOf bs) (omega arith))
+  module _ (l : List ℤ) (bs : List ℕ) (long : length l ≡ n) (p : Passed m bs) where
+    rows-are : rowsIn ss ms (itemsOf bs) ≡ rowsAt (tableOf n ss ms) (itemsOf bs)
+    rows-are = rows-from bs (entriesOf bs) (listed bs p) 0 (entriesOf bs) (omega arith)
 
-zero-gap : (g : ℤ) → (ofZ w64 g ≡ 0 → ⊥) → isZero g ≡ false
-zero-gap (pos zero) f = absurd (f refl)
-zero-gap (pos (suc k)) f = refl
-zero-gap (negsuc k) f = refl
+    pub gap-is : (w : List ℕ) → gapIn ss ms l w bs ≡ gapRead (tableOf n ss ms) l w bs
+    gap-is w = ap₂ (λ k rs. gap k (scaleOf bs) l rs (bitsOf w)) long rows-are
+
+    pub sole-is : soleIn ss ms l bs ≡ soleRead (tableOf n ss ms) l bs
+    sole-is = ap₂ (λ k rs. sole k (scaleOf bs) l rs) long rows-are
+
+-- ---- certified, or the gap
+module _ (g : ℤ) (s : Bool) where
+  pub weighed-certified : (m : Bool) → g ≡ pos 0 → m ≡ s → gives (passes m) ≡ gives (weigh none g s)
+  weighed-certified m e h = ap₂ (λ z b. gives (weigh none z b)) (sym e) h
+
+  pub weighed-gap : (g ≡ pos 0 → ⊥) → gives (misses g) ≡ gives (weigh none g s)
+  weighed-gap f = ap (λ b. gives (cond b (passes s) (misses g))) (sym (not-zero g f))
 
 -- ---- the verdict
 module _ (t : Table) (l : List ℤ) (w bs : List ℕ) where
-  verdict-is : (o : Option ℕ) (g : ℤ) → o ≡ firstBroken 0 (bitsOf w) (t .checks) → g ≡ gapRead t l w bs → weigh o g ≡ verdictOn t l w bs
+  verdict-is : (o : Option ℕ) → o ≡ firstBroken 0 (bitsOf w) (t .checks) → weigh o (gapRead t l w bs) (soleRead t l bs) ≡ verdictOn t l w bs
   unfolding verdict
-  verdict-is o g ho hg = ap₂ weigh ho hg
+  verdict-is o e = ap (λ x. weigh x (gapRead t l w bs) (soleRead t l bs)) e
 
   pub verdict-broken : (j : ℕ) → some j ≡ firstBroken 0 (bitsOf w) (t .checks) → gives (breaks j) ≡ gives (verdictOn t l w bs)
-  verdict-broken j e = ap gives (verdict-is (some j) (gapRead t l w bs) e refl)
+  verdict-broken j e = ap gives (verdict-is (some j) e)
 
-  module _ (e : none ≡ firstBroken 0 (bitsOf w) (t .checks)) (g : ℤ) (hg : g ≡ gapRead t l w bs) where
-    pub verdict-certified : g ≡ pos 0 → gives passes ≡ gives (verdictOn t l w bs)
-    verdict-certified z = ap gives (ap (weigh none) (sym z) ∙ verdict-is none g e hg)
-
-    pub verdict-gap : (ofZ w64 g ≡ 0 → ⊥) → gives (misses g) ≡ gives (verdictOn t l w bs)
-    verdict-gap f = ap gives (ap (λ b. cond b passes (misses g)) (sym (zero-gap g f)) ∙ verdict-is none g e hg)
+  pub verdict-weighed : (g : ℤ) (m : Bool) → none ≡ firstBroken 0 (bitsOf w) (t .checks) → g ≡ gapRead t l w bs → m ≡ soleRead t l bs → gives (weigh none g m) ≡ gives (verdictOn t l w bs)
+  verdict-weighed g m e hg hm = ap gives (ap₂ (weigh none) hg hm ∙ verdict-is none e)
 
 -- ---- the syndrome
 module _ (t : Table) (w : List ℕ) (r : ℕ) (e : r ≡ wordRefusal (t .bits) w) where

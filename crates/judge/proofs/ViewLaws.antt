@@ -20,13 +20,13 @@ verdict-inj = LeftInverse·injective back verdictOf again
     back : Answer rule.Verdict → Verdict
     back (refused k) = verdict.Refused k
     back (gives (rule.breaks j)) = verdict.Broken j
-    back (gives rule.passes) = verdict.Certified
+    back (gives (rule.passes m)) = verdict.Certified m
     back (gives (rule.misses g)) = verdict.Gap g
 
     again : (a : Verdict) → back (verdictOf a) ≡ a
     again (verdict.Refused k) = refl
     again (verdict.Broken j) = refl
-    again verdict.Certified = refl
+    again (verdict.Certified m) = refl
     again (verdict.Gap g) = refl
 
 pub parity-inj : (a b : Parity) → parityOf a ≡ parityOf b → a ≡ b

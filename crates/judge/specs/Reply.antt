@@ -16,7 +16,7 @@ use Rattle.judge.specs.declared.checks.Found.the-variants.{At, Nothing}
 abbrev pub verdictOf : Verdict → Answer rule.Verdict
 verdictOf (verdict.Refused k) = refused k
 verdictOf (verdict.Broken j) = gives (rule.breaks j)
-verdictOf verdict.Certified = gives rule.passes
+verdictOf (verdict.Certified m) = gives (rule.passes m)
 verdictOf (verdict.Gap g) = gives (rule.misses g)
 
 -- the first broken check, or none

@@ -1,6 +1,8 @@
 -- A certificate's rows as the code reads them (document 01, "Certificates"). Definitions only. Assumes nothing.
 use mathlib.Core.Path.{_≡_}
+use mathlib.Core.Bool.{Bool}
 use mathlib.Core.List.{List, [], _∷_}
+use mathlib.Core.Option.{none}
 use Prim.Native.Nat.{ℕ, _-_, _≤_, _<_}
 use lib.ListN.{length}
 use lib.IntN.{ℤ}
@@ -9,6 +11,8 @@ use Rattle.rules.specs.Input.{bitsOf}
 use Rattle.rules.specs.Bound.{Row, bound, gap}
 use Rattle.rules.specs.Scatter.{rowOf}
 use Rattle.rules.specs.Certificate.{Item, itemAt, itemsAt, entriesOf, scaleOf, itemsOf}
+use Rattle.rules.specs.Sole.{sole}
+use Rattle.rules.specs.Judge.{Verdict, weigh}
 use Rattle.table.specs.Layout.{partAt, Part}
 use Rattle.judge.specs.Refusals.{Long}
 
@@ -39,6 +43,14 @@ boundIn starts members l bs q scale = bound (length l) scale l (rowsIn starts me
 
 abbrev pub gapIn : List ℕ → List ℕ → List ℤ → List ℕ → List ℕ → ℤ
 gapIn starts members l w bs = gap (length l) (scaleOf bs) l (rowsIn starts members (itemsOf bs)) (bitsOf w)
+
+-- and its mark
+abbrev pub soleIn : List ℕ → List ℕ → List ℤ → List ℕ → Bool
+soleIn starts members l bs = sole (length l) (scaleOf bs) l (rowsIn starts members (itemsOf bs))
+
+-- what is answered to a word that breaks no check
+abbrev pub weighedIn : List ℕ → List ℕ → List ℤ → List ℕ → List ℕ → Verdict
+weighedIn starts members l w bs = weigh none (gapIn starts members l w bs) (soleIn starts members l bs)
 
 abbrev pub Weighable : List ℕ → List ℕ → List ℤ → List ℕ → List ℕ → Type 0
 Weighable starts members l w bs =

@@ -5,7 +5,6 @@ use super::entries::mask_at;
 use super::entries::multiplier_at;
 use super::numbers::u16_at;
 use super::starts::start_at;
-use limits::MAX_BITS;
 ghost use mathlib.Core.Path.{_≡_};
 ghost use mathlib.Core.List.{[], _∷_};
 ghost use Prim.Native.Nat.{ℕ, _%_, _*_, _≤_, _<_};
@@ -19,8 +18,9 @@ ghost use Rattle.rules.specs.Limits.{maxBits, maxDegree, maxScale, maxMultiplie
 ghost use Rattle.rules.specs.Table.{at};
 ghost use Rattle.rules.specs.Sound.{Below};
 ghost use Rattle.rules.specs.Parity.{side};
-ghost use Rattle.rules.specs.Scatter.{scatterRow, rowOf, priceOf, EachWithin, Scaled, Put, AllPut};
-ghost use Rattle.rules.specs.Certificate.{itemAt, itemsAt};
+ghost use Rattle.rules.specs.Scatter.{scatterRow, rowOf, priceOf, EachWithin, Scaled, Reduces, Put, AllPut};
+ghost use Rattle.rules.specs.Certificate.{itemAt, itemsAt, scaleOf, itemsOf};
+ghost use Rattle.rules.specs.Sole.{noneZero};
 ghost use Rattle.judge.specs.Refusals.{Listed};
 ghost use Rattle.judge.specs.Rows.{rowIn, rowsIn, Placed, AllPlaced, boundIn, gapIn, Weighable};
 
@@ -164,28 +164,45 @@ pub(crate) fn bound_of(
 ) -> i64
     requires { ⌜ (length (now reduced) ≡ length (now frame)) × (length (now frame) ≤ maxBits) × (scale ≤ maxScale)
         × AllPlaced (length (now frame)) (now starts) (now members) (now bytes) q ⌝ }
-    ensures { λ r. ⌜ (r ≡ boundIn (now (starts .entry)) (now (members .entry)) (now (frame .entry)) (now (bytes .entry)) q scale) × Within boundLimit r ⌝ }
+    ensures { λ r. ⌜ (r ≡ boundIn (now (starts .entry)) (now (members .entry)) (now (frame .entry)) (now (bytes .entry)) q scale) × Within boundLimit r
+        × Reduces scale (now (frame .entry)) (rowsIn (now (starts .entry)) (now (members .entry)) (itemsAt (now (bytes .entry)) q 0 q)) (now (reduced .exit)) ⌝ }
 {
     scale_frame(reduced, frame, scale);
     let price = put_entries(reduced, starts, members, bytes, q);
     sizes(reduced) + price
 }
 
-// "Gap: B − S × agreement."
+// "Gap: B − S × agreement." The reduced numbers are left in the slice.
 pub(crate) fn gap_of(
+    reduced: &mut [i64],
     starts: &[u16],
     members: &[u16],
     frame: &[i16],
     word: &[u8],
     bytes: &[u8],
 ) -> i64
-    requires { ⌜ Weighable (now starts) (now members) (now frame) (now word) (now bytes) ⌝ }
-    ensures { λ r. ⌜ r ≡ gapIn (now (starts .entry)) (now (members .entry)) (now (frame .entry)) (now (word .entry)) (now (bytes .entry)) ⌝ }
+    requires { ⌜ (length (now reduced) ≡ length (now frame)) × Weighable (now starts) (now members) (now frame) (now word) (now bytes) ⌝ }
+    ensures { λ r. ⌜ (r ≡ gapIn (now (starts .entry)) (now (members .entry)) (now (frame .entry)) (now (word .entry)) (now (bytes .entry)))
+        × Reduces (scaleOf (now (bytes .entry))) (now (frame .entry)) (rowsIn (now (starts .entry)) (now (members .entry)) (itemsOf (now (bytes .entry)))) (now (reduced .exit)) ⌝ }
 {
     let q = u16_at(bytes, 0);
     let scale = u16_at(bytes, 2);
-    let n = frame.len();
-    let mut reduced = [0i64; MAX_BITS];
-    let bound = bound_of(&mut reduced[..n], starts, members, frame, bytes, q, scale);
+    let bound = bound_of(reduced, starts, members, frame, bytes, q, scale);
     bound - times(scale, inputs::agreement(frame, word))
+}
+
+// "Every reduced number differs from 0." The loop goes to the end, so that it can be done in wide
+// steps.
+pub(crate) fn none_zero(reduced: &[i64]) -> bool
+    ensures { λ r. ⌜ r ≡ noneZero (length (now (reduced .entry))) (at (now (reduced .entry))) ⌝ }
+{
+    let mut none = true;
+    let mut bit: usize = 0;
+    while bit < reduced.len() {
+        if reduced[bit] == 0 {
+            none = false;
+        }
+        bit += 1;
+    }
+    none
 }

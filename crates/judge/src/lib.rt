@@ -17,11 +17,12 @@ ghost use mathlib.Core.Path.{_≡_};
 ghost use Rattle.rules.specs.Judge as rule;
 ghost use Rattle.judge.specs.Reply.{verdictOf, parityOf, agreedOf};
 
-// The judge's answer: a refusal's number, the first broken check, certified, or the gap.
+// The judge's answer: a refusal's number, the first broken check, certified, or the gap. Certified
+// with a mark, `sole`: every reduced number differs from 0.
 pub enum Verdict {
     Refused(u8),
     Broken(usize),
-    Certified,
+    Certified { sole: bool },
     Gap(i64),
 }
 
@@ -40,7 +41,8 @@ pub enum Agreed {
 
 const STARTS: usize = MAX_CHECKS + 1;
 
-// Judges a word and a certificate.
+// Judges a word and a certificate. What the answer is worth stands in proofs/Certified: `certified⇔`,
+// `certified-best`, `certified-sole` for the mark, `gap-positive`.
 pub fn judge(code: &[u8], frame: &[i16], word: &[u8], certificate: &[u8]) -> Verdict
     ensures { λ r. ⌜ verdictOf r ≡ rule.judge (now (code .entry)) (now (frame .entry)) (now (word .entry)) (now (certificate .entry)) ⌝ }
 {

@@ -4,9 +4,11 @@ use super::Agreed;
 use super::Parity;
 use super::Verdict;
 use super::bound::gap_of;
+use super::bound::none_zero;
 use super::checks::Found;
 use super::checks::first_broken;
 use super::entries::certificate_refusal;
+use limits::MAX_BITS;
 ghost use mathlib.Core.Path.{_≡_};
 ghost use Prim.Native.Nat.{_+_, _≤_};
 ghost use lib.ListN.{length};
@@ -14,6 +16,7 @@ ghost use Rattle.rules.specs.Limits.{maxBits};
 ghost use Rattle.rules.specs.Refusal.{gives};
 ghost use Rattle.table.specs.Layout.{tableOf, Holds};
 ghost use Rattle.judge.specs.Refusals.{Ordered};
+ghost use Rattle.judge.specs.Rows.{Weighable, weighedIn};
 ghost use Rattle.judge.specs.Reply.{verdictOf, parityOf, agreedOf};
 ghost use Rattle.judge.specs.Stages.{verdictOn, judgeOn, syndromeOn, agreementOn, judgeRefusal};
 
@@ -40,6 +43,27 @@ pub(crate) fn refusal_of(
     certificate_refusal(starts, m, certificate)
 }
 
+// "Certified for gap 0, else the gap": certified with its mark. The slice is for the reduced numbers.
+pub(crate) fn weighed(
+    reduced: &mut [i64],
+    starts: &[u16],
+    members: &[u16],
+    frame: &[i16],
+    word: &[u8],
+    certificate: &[u8],
+) -> Verdict
+    requires { ⌜ (length (now reduced) ≡ length (now frame)) × Weighable (now starts) (now members) (now frame) (now word) (now certificate) ⌝ }
+    ensures { λ r. ⌜ verdictOf r ≡ gives (weighedIn (now (starts .entry)) (now (members .entry)) (now (frame .entry)) (now (word .entry)) (now (certificate .entry))) ⌝ }
+{
+    let gap = gap_of(reduced, starts, members, frame, word, certificate);
+    if gap == 0 {
+        return Verdict::Certified {
+            sole: none_zero(reduced),
+        };
+    }
+    Verdict::Gap(gap)
+}
+
 // "The checker answers the first broken check; if none, certified for gap 0, else the gap."
 pub(crate) fn verdict_of(
     starts: &[u16],
@@ -57,11 +81,8 @@ pub(crate) fn verdict_of(
     match found {
         Found::At(j) => Verdict::Broken(j),
         Found::Nothing => {
-            let gap = gap_of(starts, members, frame, word, certificate);
-            if gap == 0 {
-                return Verdict::Certified;
-            }
-            Verdict::Gap(gap)
+            let mut reduced = [0i64; MAX_BITS];
+            weighed(&mut reduced[..n], starts, members, frame, word, certificate)
         }
     }
 }

@@ -7,14 +7,17 @@ use Prim.Native.Nat.{ℕ, suc, _+_, _≤_, _<_}
 use native.Mathlib.Omega.{arith}
 use lib.ListN.{length}
 use lib.IntN.{ℤ, pos}
+use mir.Val.{boolByte}
 use Rattle.rules.specs.Limits.{maxBits, maxChecks, maxEdges}
 use Rattle.rules.specs.Refusal.{Answer, refused, gives, replyOf}
 use Rattle.rules.specs.Table.{Table, checksOf, bitsAt}
 use Rattle.rules.specs.Parity.{odd, firstBroken}
+use Rattle.rules.specs.Mask.{digit}
 use Rattle.rules.specs.CodeFile.{tableAt, codeFileReply}
 use Rattle.rules.specs.Input.{bitsOf}
 use Rattle.rules.specs.Bound.{Row, gap}
 use Rattle.rules.specs.Certificate.{scaleOf, itemsOf, rowsAt}
+use Rattle.rules.specs.Sole.{sole}
 use Rattle.rules.specs.Judge.{breaks, passes, misses, weigh, verdict, judge}
 use Rattle.rules.specs.Round.{isZero}
 use Rattle.rules.specs.Cut.{Violation, cutSearch, maskAnswer, cutAnswer, cutValues, cutReply}
@@ -60,19 +63,24 @@ broken-below j i w (ms ∷ cs) h = go (odd (bitsAt w ms)) h (broken-below j (suc
     go true e f = at-front i j (length cs) (cc)
     go false e f = further i j (length cs) (f e)
 
-weigh-breaks : (o : Option ℕ) (g : ℤ) (j : ℕ) → weigh o g ≡ breaks j → o ≡ some j
-weigh-breaks (some i) g j e = cc
-weigh-breaks none g j e = go (isZero g) e
+weigh-breaks : (o : Option ℕ) (g : ℤ) (m : Bool) (j : ℕ) → weigh o g m ≡ breaks j → o ≡ some j
+weigh-breaks (some i) g m j e = cc
+weigh-breaks none g m j e = go (isZero g) e
   where
-    go : (b : Bool) → cond b passes (misses g) ≡ breaks j → none ≡ some j
+    go : (b : Bool) → cond b (passes m) (misses g) ≡ breaks j → none ≡ some j
     go true e = absurd (let z : _≡_ {A = ℕ} 0 1 = cc in omega arith)
     go false e = absurd (let z : _≡_ {A = ℕ} 0 1 = cc in omega arith)
 
 verdict-below : (t : Table) (s : ℕ) (l : List ℤ) (rs : List Row) (w : List Bool) (j : ℕ) → verdict t s l rs w ≡ breaks j → j < checksOf t
 unfolding verdict
 verdict-below t s l rs w j e =
-    let below = broken-below j 0 w (t .checks) (weigh-breaks (firstBroken 0 w (t .checks)) (gap (t .bits) s l rs w) j e) in
+    let below = broken-below j 0 w (t .checks) (weigh-breaks (firstBroken 0 w (t .checks)) (gap (t .bits) s l rs w) (sole (t .bits) s l rs) j e) in
     omega arith
+
+-- a mark as a number
+pub mark-number : (b : Bool) → boolByte b ≡ digit b
+mark-number true = refl
+mark-number false = refl
 
 module _ (file : List ℕ) (l : List ℤ) (w bs : List ℕ) (j : ℕ) where
   pub broken-small : gives (breaks j) ≡ judge file l w bs → j < maxChecks

@@ -19,12 +19,12 @@ use Rattle.jugnayap.specs.declared.JugnayapAgreement.{JugnayapAgreement}
 use Rattle.jugnayap.specs.declared.JugnayapRun.{JugnayapRun}
 use Rattle.jugnayap.specs.declared.JugnayapCalled.{JugnayapCalled}
 
--- ---- the version, 0.3.0, as one number that grows with it
+-- ---- the version, 0.4.0, as one number that grows with it
 abbrev pub versionNumber : ℕ → ℕ → ℕ → ℕ
 versionNumber major minor patch = major * 10000 + minor * 100 + patch
 
 abbrev pub version : ℕ
-version = versionNumber 0 3 0
+version = versionNumber 0 4 0
 
 -- ---- a reply as a struct: its number, then its values in their order, 0 where there is none
 abbrev pub signed : Reply → ℕ → ℤ
@@ -47,7 +47,7 @@ maskFrom (gives none) = record { number = 0; mask = 0; depth = 0 }
 maskFrom (gives (some v)) = record { number = 0; mask = v .set; depth = v .depth }
 
 abbrev pub verdictFrom : Reply → JugnayapVerdict
-verdictFrom r = record { number = r .number; kind = unsigned r 0; value = signed r 1 }
+verdictFrom r = record { number = r .number; kind = unsigned r 0; value = signed r 1; sole = unsigned r 2 }
 
 abbrev pub agreementFrom : Reply → JugnayapAgreement
 agreementFrom r = record { number = r .number; agreement = signed r 0 }

@@ -34,12 +34,14 @@ pub struct JugnayapCut {
     pub depth: u32,
 }
 
-// `kind` 0: `value` is the first broken check; 1: certified; 2: `value` is the gap.
+// `kind` 0: `value` is the first broken check; 1: certified, and `sole` is its mark; 2: `value` is the
+// gap.
 #[repr(C)]
 pub struct JugnayapVerdict {
     pub number: u32,
     pub kind: u32,
     pub value: i64,
+    pub sole: u32,
 }
 
 #[repr(C)]
@@ -61,8 +63,8 @@ pub struct JugnayapCalled {
     pub run: JugnayapRun,
 }
 
-// 0.3.0, as JUGNAYAP_VERSION counts it.
-const VERSION: u32 = 300;
+// 0.4.0, as JUGNAYAP_VERSION counts it.
+const VERSION: u32 = 400;
 
 #[no_mangle]
 pub extern "C" fn jugnayap_version() -> u32
@@ -135,21 +137,25 @@ pub extern "C" fn jugnayap_judge(
             number: k as u32,
             kind: 0,
             value: 0,
+            sole: 0,
         },
         Verdict::Broken(check) => JugnayapVerdict {
             number: 0,
             kind: 0,
             value: check as i64,
+            sole: 0,
         },
-        Verdict::Certified => JugnayapVerdict {
+        Verdict::Certified { sole } => JugnayapVerdict {
             number: 0,
             kind: 1,
             value: 0,
+            sole: sole as u32,
         },
         Verdict::Gap(gap) => JugnayapVerdict {
             number: 0,
             kind: 2,
             value: gap,
+            sole: 0,
         },
     }
 }

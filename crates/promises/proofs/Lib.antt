@@ -1,2 +1,3 @@
 pub mod Passes
 pub mod Scaled
+pub mod Sole

@@ -1,6 +1,7 @@
 -- "And those the decoder writes pass" (document 00, demand 2), of the code: about every call of `rounds` and every call of `judge` of which their
 -- contracts, as they are proved, hold. The run may be fresh or half done: the call was not refused, so it passes 43. Assumes nothing.
-use mathlib.Core.Path.{_≡_, sym, _∙_, ap, subst}
+use mathlib.Core.Path.{_≡_, sym, _∙_, ap, ap₂, subst}
+use mathlib.Core.Bool.{Bool}
 use mathlib.Core.List.{List}
 use Prim.Native.Nat.{ℕ}
 use lib.ListN.{take}
@@ -14,9 +15,10 @@ use Rattle.rules.specs.Refusal.{Answer, gives}
 use Rattle.rules.specs.Table.{Table}
 use Rattle.rules.specs.CodeFile.{codeFile}
 use Rattle.rules.specs.Certificate.{certificateIn}
-use Rattle.rules.specs.Judge.{Verdict, judge}
+use Rattle.rules.specs.Judge.{Verdict, passes, judge}
 use Rattle.rules.specs.Buffers.{Buffers}
 use Rattle.rules.specs.Run.{certified}
+use Rattle.rules.proofs.Judged.{soleRead}
 use Rattle.rules.proofs.CallPasses.{PassesIn, call-passes}
 use Rattle.judge.specs.Reply.{verdictOf}
 use Rattle.judge.specs.declared.Verdict.the-variants.{Certified}
@@ -59,6 +61,10 @@ judgesAnswer y = judge (judgesFile y) (judgesFrame y) (judgesWord y) (judgesCert
 pub judge-says : (y : JudgeCall) → verdictOf (y .result) ≡ judgesAnswer y
 judge-says y = y .holds
 
+-- whether every reduced number of its certificate differs from 0
+abbrev pub judgesMark : Table → JudgeCall → Bool
+judgesMark t y = soleRead t (judgesFrame y) (judgesCertificate y)
+
 -- of what it was handed
 module _ (y : JudgeCall) {file : List ℕ} {l : List ℤ} {w bs : List ℕ} where
   pub judge-handed : judgesFile y ≡ file → judgesFrame y ≡ l → judgesWord y ≡ w → judgesCertificate y ≡ bs → verdictOf (y .result) ≡ judge file l w bs
@@ -74,15 +80,18 @@ pub record Judges (t : Table) (x : RoundsCall) (y : JudgeCall) : Type 0 where
   pub word : judgesWord y ≡ take (t .bits) (leftBy x .word)
   pub certificate : judgesCertificate y ≡ certificateIn (leftBy x .certificate)
 
--- where the call for rounds answers certified, so does the judge
+-- where the call for rounds answers certified, so does the judge, with that mark
 abbrev pub WrittenPasses : Type 0
-WrittenPasses = (t : Table) (x : RoundsCall) (y : JudgeCall) → codeFile (roundsFile x) ≡ gives t → Judges t x y → x .result .outcome ≡ out.Certified → y .result ≡ Certified
+WrittenPasses = (t : Table) (x : RoundsCall) (y : JudgeCall) → codeFile (roundsFile x) ≡ gives t → Judges t x y → x .result .outcome ≡ out.Certified → y .result ≡ Certified (judgesMark t y)
 
 pub written-passes : WrittenPasses
-written-passes t x y isFile j e = verdict-inj (y .result) Certified (judge-handed y (j .file) (j .frame) (j .word) (j .certificate) ∙ left)
+written-passes t x y isFile j e = verdict-inj (y .result) (Certified (judgesMark t y)) (judge-handed y (j .file) (j .frame) (j .word) (j .certificate) ∙ left ∙ mark)
   where
     certifies : roundsGave x .answer ≡ gives certified
     certifies = ap outcomeOf e
+
+    mark : gives (passes (soleRead t (roundsFrame x) (certificateIn (leftBy x .certificate)))) ≡ gives (passes (judgesMark t y))
+    mark = ap₂ (λ l bs. gives (passes (soleRead t l bs))) (sym (j .frame)) (sym (j .certificate))
 
     left : PassesIn (roundsFile x) (roundsFrame x) t (leftBy x)
     left = subst (λ d. PassesIn (roundsFile x) (roundsFrame x) t (d .run .buffers)) (sym (rounds-says x))

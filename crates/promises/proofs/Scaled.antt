@@ -12,10 +12,10 @@ use Rattle.rules.specs.CodeFile.{codeFile}
 use Rattle.rules.specs.Input.{eachWithin, bitsOf}
 use Rattle.rules.specs.Certificate.{certificateIn}
 use Rattle.rules.specs.Scaled.{times, atScale}
-use Rattle.rules.specs.Judge.{passes, judge}
+use Rattle.rules.specs.Judge.{passes}
 use Rattle.rules.specs.Run.{call}
 use Rattle.rules.specs.Demand3.{Best}
-use Rattle.rules.proofs.Judged.{judge-best}
+use Rattle.rules.proofs.Judged.{judge-marked, judge-best}
 use Rattle.rules.proofs.ScaledLaws.{scaled-judged, ScaledAfter, call-scaled}
 use Rattle.judge.specs.declared.Verdict.the-variants.{Certified}
 use Rattle.judge.proofs.ViewLaws.{verdict-inj}
@@ -26,7 +26,7 @@ use Rattle.decoder.specs.declared.Outcome.the-variants as out
 use Rattle.decoder.proofs.rounds.Statement.{statement as rd-statement}
 use Rattle.decoder.proofs.rounds.Met.{met as rounds-met}
 use Rattle.decoder.proofs.Demand3.{RoundsCall, roundsFile, roundsFrame, roundsWanted, roundsRun, roundsGave, rounds-says}
-use Rattle.promises.proofs.Passes.{JudgeCall, judgesFile, judgesFrame, judgesWord, judgesCertificate, judge-says, judge-handed, leftBy}
+use Rattle.promises.proofs.Passes.{JudgeCall, judgesFile, judgesFrame, judgesWord, judgesCertificate, judgesAnswer, judgesMark, judge-says, judge-handed, leftBy}
 
 -- ---- two calls of `judge`: y on a frame at scale k, z on k times the frame at scale 1, with the same file, word and entries
 pub record Rescaled (k : ℕ) (bs : List ℕ) (y z : JudgeCall) : Type 0 where
@@ -60,17 +60,20 @@ module _ (t : Table) (k : ℕ) (x : RoundsCall) (y : JudgeCall) (h : JudgesScale
   ran : roundsGave x ≡ call (roundsFile x) (times k (judgesFrame y)) (roundsWanted x) (roundsRun x)
   ran = rounds-says x ∙ ap (λ l. call (roundsFile x) l (roundsWanted x) (roundsRun x)) (h .frame)
 
-  judged : x .result .outcome ≡ out.Certified → judge (judgesFile y) (judgesFrame y) (judgesWord y) (judgesCertificate y) ≡ gives passes
-  judged e = sym (judge-says y) ∙ judge-handed y (h .file) refl (h .word) (h .certificate)
-      ∙ subst (ScaledAfter (roundsFile x) k (judgesFrame y) t) (sym ran)
-      (call-scaled (roundsFile x) k (judgesFrame y) (roundsWanted x) (roundsRun x) t (h .isFile) (h .least) (h .most) (ap (λ d. d .answer) (sym ran) ∙ ap outcomeOf e))
+  isFile : codeFile (judgesFile y) ≡ gives t
+  isFile = ap codeFile (h .file) ∙ h .isFile
 
-  pub scaled-passes : x .result .outcome ≡ out.Certified → y .result ≡ Certified
-  scaled-passes e = verdict-inj (y .result) Certified (judge-says y ∙ judged e)
+  judged : x .result .outcome ≡ out.Certified → judgesAnswer y ≡ gives (passes (judgesMark t y))
+  judged e = judge-marked (judgesFile y) (judgesFrame y) (judgesWord y) (judgesCertificate y) t isFile _ (sym (judge-says y) ∙ judge-handed y (h .file) refl (h .word) (h .certificate)
+      ∙ subst (ScaledAfter (roundsFile x) k (judgesFrame y) t) (sym ran)
+      (call-scaled (roundsFile x) k (judgesFrame y) (roundsWanted x) (roundsRun x) t (h .isFile) (h .least) (h .most) (ap (λ d. d .answer) (sym ran) ∙ ap outcomeOf e)))
+
+  pub scaled-passes : x .result .outcome ≡ out.Certified → y .result ≡ Certified (judgesMark t y)
+  scaled-passes e = verdict-inj (y .result) (Certified (judgesMark t y)) (judge-says y ∙ judged e)
 
   -- no codeword and no point of the relaxation agrees better with the frame itself
   pub scaled-best : x .result .outcome ≡ out.Certified → Best t (judgesFrame y) (bitsOf (judgesWord y))
-  scaled-best e = judge-best (judgesFile y) (judgesFrame y) (judgesWord y) (judgesCertificate y) t (ap codeFile (h .file) ∙ h .isFile) (judged e)
+  scaled-best e = judge-best (judgesFile y) (judgesFrame y) (judgesWord y) (judgesCertificate y) t isFile (judgesMark t y) (judged e)
 
 -- beside the proofs of the two functions
 abbrev pub SameAnswer : Type 0
@@ -78,7 +81,7 @@ SameAnswer = (k : ℕ) (bs : List ℕ) (y z : JudgeCall) → Rescaled k bs y z �
 
 abbrev pub CertifiedSmall : Type 0
 CertifiedSmall = (t : Table) (k : ℕ) (x : RoundsCall) (y : JudgeCall) → JudgesScaled t k x y → x .result .outcome ≡ out.Certified
-    → (y .result ≡ Certified) × Best t (judgesFrame y) (bitsOf (judgesWord y))
+    → (y .result ≡ Certified (judgesMark t y)) × Best t (judgesFrame y) (bitsOf (judgesWord y))
 
 pub proved : {M : Type 1} → rd-statement M × (jd-statement M × (SameAnswer × CertifiedSmall))
 proved = (rounds-met, (judge-met, (scaled-same, λ t k x y h e. (scaled-passes t k x y h e, scaled-best t k x y h e))))

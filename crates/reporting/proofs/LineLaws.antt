@@ -134,7 +134,7 @@ module _ (file : List ℕ) (l : List ℤ) where
 
   certified-sized : (t : Table) → codeFile file ≡ gives t → run .answer ≡ gives certified → Sized l (take (t .bits) (run .run .buffers .word)) (t .bits)
   unfolding run
-  certified-sized t isFile e = judged-sized file l _ _ passes t isFile (call-passes file l roundLimit (startedRun file (blank greatest)) t isFile e)
+  certified-sized t isFile e = judged-sized file l _ _ (passes _) t isFile (call-passes file l roundLimit (startedRun file (blank greatest)) t isFile e)
 
   by-answer : (t : Table) → codeFile file ≡ gives t → (a : Answer Status) → run .answer ≡ a → lineFrom l a (ranOf run) ≡ lineAt t l (run .run) a
   by-answer t isFile (refused k) e = refl

@@ -13,7 +13,7 @@ use lib.Seq.{drop-cons, getD-set-same, getD-set-other}
 use lib.IntN.{ℤ, pos, negℤ, _+ℤ_, _-ℤ_, _*ℤ_, +ℤ-idl, +ℤ-idr, +ℤ-assoc}
 use Rattle.integers.specs.Linear.{lin, arithZ, Within}
 use Rattle.integers.specs.Order.{within-zero, within-wider, within-add}
-use Rattle.integers.specs.Product.{ring, abs, within-*}
+use Rattle.integers.specs.Product.{once, abs, within-*}
 use Rattle.integers.specs.Sum.{AllWithin, sumTo, sumTo-same}
 use Rattle.integers.specs.Signed64.{pos-within}
 use Rattle.rules.specs.Limits.{frameLimit, maxDegree, maxEntries, maxMultiplier, scaledLimit, rowLimit, sizeLimit}
@@ -21,7 +21,7 @@ use Rattle.rules.specs.Table.{at}
 use Rattle.rules.specs.Parity.{side, agreement}
 use Rattle.rules.specs.Mask.{setOf}
 use Rattle.rules.specs.Bound.{Row, weights, pull, price, reduced, bound, gap}
-use Rattle.rules.specs.Scatter.{scatter, scatterRow, scatterRows, rowOf, priceOf, EachWithin, Scaled, MembersPut, Put, Adds, RowsPut, AllPut}
+use Rattle.rules.specs.Scatter.{scatter, scatterRow, scatterRows, rowOf, priceOf, EachWithin, Scaled, Reduces, MembersPut, Put, Adds, RowsPut, AllPut}
 use Rattle.rules.proofs.Masks.{set-length}
 use Rattle.rules.proofs.ScatterLaws.{rows-length, rows-pull}
 
@@ -66,9 +66,6 @@ scaled-more {s} {l} r {i} {x} hi w h j hj = go (ℕ-discrete j i)
     go : Dec (j ≡ i) → Scaled s l j (at (set r i x) j)
     go (yes e) = subst (λ k. Scaled s l k (at (set r i x) k)) (sym e) (subst (Scaled s l i) (sym (getD-set-same r i x (pos 0) hi)) w)
     go (no f) = subst (Scaled s l j) (sym (getD-set-other r i j x (pos 0) f)) (h j (before f))
-
-pub once : (x : ℤ) → x ≡ pos 1 *ℤ x
-once x = simp ring (omega arithZ)
 
 -- a frame within its limits is itself at scale 1
 pub frame-within : {l : List ℤ} → AllWithin frameLimit l → EachWithin scaledLimit l
@@ -185,13 +182,16 @@ module _ {rows : List Row} {ls₀ : List ℤ} {k : ℕ} {left : List Row} {ls : 
 
 -- ---- the bound: the sum of sizes and the sum of prices; and the gap
 -- r₀ is the frame scaled, r with all rows
-module _ (s : ℕ) (l : List ℤ) {r₀ r : List ℤ} {rs : List Row} {x t : ℤ} (long : length r₀ ≡ length l) (h : (i : ℕ) → i < length l → Scaled s l i (at r₀ i)) (p : Put rs r₀ r t) where
-  pub bound-is : x ≡ sumTo (length l) (λ i. abs (at r i)) → x +ℤ t ≡ bound (length l) s l rs
-  unfolding bound reduced
-  bound-is e =
-      let number : (i : ℕ) → i < length l → at r i ≡ pos s *ℤ at l i +ℤ pull i rs =
-      λ i k. ap (λ y. at y i) (p .numbers) ∙ rows-pull rs r₀ i (subst (λ n. i < n) (sym long) k) ∙ ap (λ y. y +ℤ pull i rs) (h i k .value) in
-      ap₂ _+ℤ_ (e ∙ sumTo-same (length l) (λ i. abs (at r i)) (λ i. abs (pos s *ℤ at l i +ℤ pull i rs)) (λ i k. ap abs (number i k))) (p .prices)
+module _ (s : ℕ) (l : List ℤ) {r₀ r : List ℤ} {rs : List Row} {t : ℤ} (long : length r₀ ≡ length l) (h : (i : ℕ) → i < length l → Scaled s l i (at r₀ i)) (p : Put rs r₀ r t) where
+  pub reduces : Reduces s l rs r
+  unfolding reduced
+  reduces = record {
+    number = λ i k. ap (λ y. at y i) (p .numbers) ∙ rows-pull rs r₀ i (subst (λ n. i < n) (sym long) k) ∙ ap (λ y. y +ℤ pull i rs) (h i k .value);
+  }
+
+  pub bound-is : {x : ℤ} → x ≡ sumTo (length l) (λ i. abs (at r i)) → x +ℤ t ≡ bound (length l) s l rs
+  unfolding bound
+  bound-is {x} e = ap₂ _+ℤ_ (e ∙ sumTo-same (length l) (λ i. abs (at r i)) (λ i. abs (reduced s l rs i)) (λ i k. ap abs (reduces .number i k))) (p .prices)
 
 module _ (n s : ℕ) (l : List ℤ) (rs : List Row) (w : List Bool) where
   pub gap-is : {x y : ℤ} → x ≡ bound n s l rs → y ≡ pos s *ℤ agreement n l w → x -ℤ y ≡ gap n s l rs w

@@ -26,6 +26,7 @@ use Rattle.rules.proofs.AnswerLaws.{refused≢gives, must-gives}
 use Rattle.rules.proofs.Tables.{file-sound}
 use Rattle.rules.proofs.Pass.{AllLaid, stepsIn, steps-laid, entries-length}
 use Rattle.rules.proofs.Optimal.{round-passed}
+use Rattle.rules.proofs.Judged.{soleRead, judge-marked}
 use Rattle.rules.proofs.Written.{certificate-length, written-scale}
 use Rattle.rules.proofs.WrittenPasses.{AllProper, bytes-length, checks-written, Framed, Closes, written-passes}
 use Rattle.rules.proofs.BufferLaws.{take-over}
@@ -53,9 +54,9 @@ entries-front : (es : List Entry) (old : List ℕ) → entriesOf (over (certific
 unfolding certificateOf u16At
 entries-front es old = refl
 
--- the judge certifies what stands in these buffers
+-- the judge certifies what stands in these buffers, with the mark of the reduced numbers
 abbrev pub PassesIn : List ℕ → List ℤ → Table → Buffers → Type 0
-PassesIn file l t b = judge file l (take (t .bits) (b .word)) (certificateIn (b .certificate)) ≡ gives passes
+PassesIn file l t b = judge file l (take (t .bits) (b .word)) (certificateIn (b .certificate)) ≡ gives (passes (soleRead t l (certificateIn (b .certificate))))
 
 -- ---- what the last round of a certified run left
 module _ (t : Table) (l : List ℤ) (q : Run) (e : Ends t l q) where
@@ -97,8 +98,8 @@ module _ (t : Table) (l : List ℤ) (q : Run) (e : Ends t l q) where
   }
 
   pub ended-passes : (file : List ℕ) → codeFile file ≡ gives t → Framed t l → PassesIn file l t (q .buffers)
-  ended-passes file isFile f =
-      ap₂ (judge file l) ended-word (ended-certificate (file-sound file t isFile .checks .1)) ∙ written-passes file t isFile l (e .word) es f closes
+  ended-passes file isFile f = judge-marked file l _ _ t isFile _
+      (ap₂ (judge file l) ended-word (ended-certificate (file-sound file t isFile .checks .1)) ∙ written-passes file t isFile l (e .word) es f closes)
 
 -- ---- a call that is not refused has passed these tests
 pub record Admitted (t : Table) (l : List ℤ) (r : Run) : Type 0 where

@@ -1,8 +1,8 @@
--- A certificate is worth what it says. For any rows on parity inequalities, any scale s and any point p with its D: s Σ l p ≤ D · bound. So a gap of 0
--- is optimal over the points of the relaxation, and over the codewords, which are points. Uses no round. Assumes nothing.
+-- A certificate is worth what it says. For any rows on parity inequalities, any scale s and any point p with its D: s Σ l p, plus the slack that p leaves
+-- in the box, is at most D · bound. So a gap of 0 is optimal over the points of the relaxation, and over the codewords, which are points; and a point
+-- that does as well leaves no slack. Uses no round. Assumes nothing.
 use mathlib.Core.Path.{_≡_, refl, sym, _∙_, ap, ap₂, subst, fun-ext}
 use mathlib.Core.Bool.{Bool, true, false, not}
-use mathlib.Core.Logic.{_⊎_, inl, inr}
 use mathlib.Core.List.{List, [], _∷_}
 use Prim.Native.Nat.{ℕ, zero, suc, _*_, _≤_, _<_}
 use native.Mathlib.Omega.{arith}
@@ -11,11 +11,10 @@ use lib.Dec.{eqb}
 use borrow.Author.Tests.{eqb-true}
 use lib.ListN.{length, getD}
 use lib.IntN.{ℤ, pos, negsuc, negℤ, _+ℤ_, _-ℤ_, _*ℤ_, *ℤ-zero}
-use lib.Signed.{_≤ℤ_, _<ℤ_}
 use Rattle.integers.specs.Linear.{lin, arithZ, _⩽_, Within}
-use Rattle.integers.specs.Order.{le-or-lt, sub-zero}
-use Rattle.integers.specs.Product.{ring, abs, mul-mono, *ℤ-+ℤ, *ℤ-left-comm}
-use Rattle.integers.specs.Sum.{AllWithin, sumTo, sumTo-add, sumTo-zero, sumTo-times, sumTo-abs, pick, pick-one}
+use Rattle.integers.specs.Order.{sub-zero}
+use Rattle.integers.specs.Product.{ring, abs, mul-mono, mul-cancel-le, *ℤ-+ℤ, *ℤ-left-comm}
+use Rattle.integers.specs.Sum.{AllWithin, sumTo, sumTo-add, sumTo-zero, sumTo-times, sumTo-abs, sumTo-tight, pick, pick-one}
 use Rattle.rules.specs.Table.{at, bit, bitsAt, valuesAt}
 use Rattle.rules.specs.Sound.{Below}
 use Rattle.rules.specs.Parity.{turn, side, Alike, left, Keeps, agreement}
@@ -142,45 +141,49 @@ both-sides n k l P rs = ap (sumTo n) (fun-ext (λ i. each (P i) (pos k) (at l i)
     each : (p k a b : ℤ) → p *ℤ (k *ℤ a +ℤ b) ≡ k *ℤ (a *ℤ p) +ℤ p *ℤ b
     each p k a b = simp ring (omega arithZ)
 
-weak-step : (d s x y a p : ℤ) → s ≡ x +ℤ y → negℤ (d *ℤ p) ⩽ y → s ⩽ d *ℤ a → x ⩽ d *ℤ (a +ℤ p)
-weak-step d s x y a p = simp ring (omega arithZ)
+-- what the numbers P leave in the box, weighed by the sizes of r: D Σ |r| − Σ P r
+abbrev pub slack : ℕ → ℕ → (ℕ → ℤ) → (ℕ → ℤ) → ℤ
+slack n d P r = pos d *ℤ sumTo n (λ i. abs (r i)) -ℤ sumTo n (λ i. P i *ℤ r i)
 
--- k Σ l P ≤ D · bound
-pub weak-duality : (n d k : ℕ) (l : List ℤ) (P : ℕ → ℤ) (rs : List Row) → InBox d P → AllKept n d P rs → pos k *ℤ spinSum n l P ⩽ pos d *ℤ bound n k l rs
+slack-step : (d s x y a p : ℤ) → s ≡ x +ℤ y → negℤ (d *ℤ p) ⩽ y → x +ℤ (d *ℤ a -ℤ s) ⩽ d *ℤ (a +ℤ p)
+slack-step d s x y a p = simp ring (omega arithZ)
+
+-- k Σ l P + slack ≤ D · bound, in the box or not
+pub duality : (n d k : ℕ) (l : List ℤ) (P : ℕ → ℤ) (rs : List Row) → AllKept n d P rs
+    → pos k *ℤ spinSum n l P +ℤ slack n d P (reduced k l rs) ⩽ pos d *ℤ bound n k l rs
 unfolding bound
-weak-duality n d k l P rs w h = weak-step (pos d) (sumTo n (λ i. P i *ℤ reduced k l rs i)) (pos k *ℤ spinSum n l P)
+duality n d k l P rs h = slack-step (pos d) (sumTo n (λ i. P i *ℤ reduced k l rs i)) (pos k *ℤ spinSum n l P)
     (sumTo n (λ i. P i *ℤ pull i rs)) (sumTo n (λ i. abs (reduced k l rs i))) (price rs)
-    (both-sides n k l P rs) (rows-pay n d P rs h) (sumTo-abs d n P (reduced k l rs) w)
+    (both-sides n k l P rs) (rows-pay n d P rs h)
+
+-- in the box the slack is never negative: k Σ l P ≤ D · bound
+pub weak-duality : (n d k : ℕ) (l : List ℤ) (P : ℕ → ℤ) (rs : List Row) → InBox d P → AllKept n d P rs → pos k *ℤ spinSum n l P ⩽ pos d *ℤ bound n k l rs
+weak-duality n d k l P rs w h = without _ _ _ _ (duality n d k l P rs h) (sumTo-abs d n P (reduced k l rs) w)
+  where
+    without : (x a s b : ℤ) → x +ℤ (a -ℤ s) ⩽ b → s ⩽ a → x ⩽ b
+    without x a s b = simp lin (omega arithZ)
 
 -- a gap of 0: nothing agrees better
-cancel : (k : ℕ) (x y : ℤ) → 1 ≤ k → pos k *ℤ x ⩽ pos k *ℤ y → x ⩽ y
-cancel k x y h = λ e. go (le-or-lt x y) e
-  where
-    bad : (k : ℕ) (x y : ℤ) → 1 ≤ k → y +ℤ pos 1 ⩽ x → pos k *ℤ x ⩽ pos k *ℤ y → ⊥
-    bad k x y h l e = over (pos k *ℤ x) (pos k *ℤ y) (pos k *ℤ (y +ℤ pos 1)) k h e (mul-mono (pos k) (y +ℤ pos 1) x (nonneg k) l) (spread (pos k) y)
-      where
-        nonneg : (k : ℕ) → pos 0 ⩽ pos k
-        nonneg k = simp lin (omega arithZ)
-
-        spread : (k y : ℤ) → k *ℤ (y +ℤ pos 1) ≡ k *ℤ y +ℤ k
-        spread k y = simp ring (omega arithZ)
-
-        over : (a b c : ℤ) (k : ℕ) → 1 ≤ k → a ⩽ b → c ⩽ a → c ≡ b +ℤ pos k → ⊥
-        over a b c k = simp lin (omega arithZ)
-
-    next : (x y : ℤ) → y <ℤ x → y +ℤ pos 1 ⩽ x
-    next x y = simp lin (omega arithZ)
-
-    go : (x ≤ℤ y) ⊎ (y <ℤ x) → pos k *ℤ x ⩽ pos k *ℤ y → x ⩽ y
-    go (inl p) e = p
-    go (inr p) e = absurd (bad k x y h (next x y p) e)
+closed : (n d k : ℕ) (l : List ℤ) (rs : List Row) (w : List Bool) → gap n k l rs w ≡ pos 0 → pos d *ℤ bound n k l rs ≡ pos k *ℤ (pos d *ℤ agreement n l w)
+unfolding gap
+closed n d k l rs w g = ap (λ t. pos d *ℤ t) (sub-zero (bound n k l rs) (pos k *ℤ agreement n l w) g) ∙ *ℤ-left-comm (pos d) (pos k) (agreement n l w)
 
 pub optimal : (n d k : ℕ) (l : List ℤ) (P : ℕ → ℤ) (rs : List Row) (w : List Bool) → 1 ≤ k → InBox d P → AllKept n d P rs → gap n k l rs w ≡ pos 0
     → spinSum n l P ⩽ pos d *ℤ agreement n l w
-unfolding gap
-optimal n d k l P rs w pk box h g = cancel k (spinSum n l P) (pos d *ℤ agreement n l w) pk
-    (subst (λ v. pos k *ℤ spinSum n l P ⩽ v) (ap (λ t. pos d *ℤ t) (sub-zero (bound n k l rs) (pos k *ℤ agreement n l w) g) ∙ *ℤ-left-comm (pos d) (pos k) (agreement n l w))
-    (weak-duality n d k l P rs box h))
+optimal n d k l P rs w pk box h g = mul-cancel-le k (spinSum n l P) (pos d *ℤ agreement n l w) pk
+    (subst (λ v. pos k *ℤ spinSum n l P ⩽ v) (closed n d k l rs w g) (weak-duality n d k l P rs box h))
+
+-- and what does as well leaves no slack: each P r is D |r|
+pub tight : (n d k : ℕ) (l : List ℤ) (P : ℕ → ℤ) (rs : List Row) (w : List Bool) → InBox d P → AllKept n d P rs → gap n k l rs w ≡ pos 0
+    → pos d *ℤ agreement n l w ⩽ spinSum n l P → (i : ℕ) → i < n → P i *ℤ reduced k l rs i ≡ pos d *ℤ abs (reduced k l rs i)
+tight n d k l P rs w box h g e = sumTo-tight d n P (reduced k l rs) box
+    (none-left _ _ _ _ _ (duality n d k l P rs h) (closed n d k l rs w g) (mul-mono (pos k) (pos d *ℤ agreement n l w) (spinSum n l P) (pos-nonneg k) e))
+  where
+    pos-nonneg : (k : ℕ) → pos 0 ⩽ pos k
+    pos-nonneg k = simp lin (omega arithZ)
+
+    none-left : (x a s b y : ℤ) → x +ℤ (a -ℤ s) ⩽ b → b ≡ y → y ⩽ x → a ⩽ s
+    none-left x a s b y = simp lin (omega arithZ)
 
 -- ---- codewords are points
 -- a codeword's spins, with D = 1
@@ -229,16 +232,16 @@ codeword-keeps c (ms ∷ cs) h = (
   codeword-keeps c cs (h .1),
 )
 
-pub agreement-is : (n : ℕ) (l : List ℤ) (c : List Bool) → sumTo n (λ i. at l i *ℤ spinsOf c i) ≡ agreement n l c
-unfolding agreement
-agreement-is n l c = ap (sumTo n) (fun-ext (λ i. go (bit c i) (at l i)))
+pub times-turn : (b : Bool) (x : ℤ) → x *ℤ turn b (pos 1) ≡ turn b x
+times-turn true x = minus-one x
+  where
+    minus-one : (x : ℤ) → x *ℤ negsuc 0 ≡ negℤ x
+    minus-one x = simp ring (omega arithZ)
+times-turn false x = plain x
   where
     plain : (x : ℤ) → x *ℤ pos 1 ≡ x
     plain x = simp ring (omega arithZ)
 
-    minus-one : (x : ℤ) → x *ℤ negsuc 0 ≡ negℤ x
-    minus-one x = simp ring (omega arithZ)
-
-    go : (b : Bool) (x : ℤ) → x *ℤ turn b (pos 1) ≡ turn b x
-    go true x = minus-one x
-    go false x = plain x
+pub agreement-is : (n : ℕ) (l : List ℤ) (c : List Bool) → spinSum n l (spinsOf c) ≡ agreement n l c
+unfolding agreement
+agreement-is n l c = ap (sumTo n) (fun-ext (λ i. times-turn (bit c i) (at l i)))

@@ -1,5 +1,5 @@
--- What the judge's mark is worth, whoever wrote the certificate: it passes exactly if the word meets all checks and its agreement, times the scale,
--- equals the bound; a word that passes is best; a gap that is answered is positive. Assumes nothing.
+-- What the judge's answer is worth, whoever wrote the certificate: it passes exactly if the word meets all checks and its agreement, times the scale,
+-- equals the bound; a word that passes is best, and alone so where the mark is set; a gap that is answered is positive. Assumes nothing.
 use mathlib.Core.Path.{_≡_, refl, sym, _∙_, ap, ap₂, subst}
 use mathlib.Core.Bool.{Bool, true, false, not, cond, _&&_, false≢true}
 use mathlib.Core.Logic.{_↔_}
@@ -18,7 +18,7 @@ use Rattle.integers.specs.Order.{sub-zero}
 use Rattle.rules.specs.Limits.{maxScale, maxMultiplier, frameLimit}
 use Rattle.rules.specs.Refusal.{Answer, gives, frameLength, frameRange, wordWrong, certificateWrong, scaleRange, entryRange, maskWrong, entryOrder}
 use Rattle.rules.specs.Table.{Table, checksOf, bitsAt}
-use Rattle.rules.specs.Parity.{odd, Alike, KeepsOne, Keeps, firstBroken, meets, agreement}
+use Rattle.rules.specs.Parity.{odd, Alike, KeepsOne, Keeps, firstBroken, meets, Codeword, agreement}
 use Rattle.rules.specs.Mask.{setOf, maskRight}
 use Rattle.rules.specs.CodeFile.{inRange, codeFile}
 use Rattle.rules.specs.Sound.{Below, AllBelow}
@@ -26,6 +26,7 @@ use Rattle.rules.specs.Input.{eachWithin, onFrame, eachBit, onWord, bits
 use Rattle.rules.specs.Bound.{Row, bound, gap}
 use Rattle.rules.specs.Round.{isZero}
 use Rattle.rules.specs.Certificate.{Item, membersAt, follows, onItem, onItems, scaleOf, itemsOf, lengthRight, onCertificate, rowAt, rowsAt}
+use Rattle.rules.specs.Sole.{sole, SoleWinner}
 use Rattle.rules.specs.Demand3.{Best}
 use Rattle.rules.specs.Judge.{Verdict, breaks, passes, misses, weigh, verdict, MeetsBound, judge}
 use Rattle.rules.proofs.Basics.{and-both, none≢some}
@@ -37,6 +38,7 @@ use Rattle.rules.proofs.Tables.{file-sound}
 use Rattle.rules.proofs.Pass.{Good}
 use Rattle.rules.proofs.Duality.{Kept, AllKept}
 use Rattle.rules.proofs.Optimal.{Implied, gap-nonneg, gap-optimal}
+use Rattle.rules.proofs.SoleLaws.{sole-winner}
 
 -- ---- the verdict
 pub none-broken : (j : ℕ) (w : List Bool) (cs : List (List ℕ)) → firstBroken j w cs ≡ none → meets w cs ≡ true
@@ -55,41 +57,43 @@ meets-none j w (ms ∷ cs) e = go (odd (bitsAt w ms)) e (meets-none (suc j) w cs
     go true e ih = absurd (false≢true e)
     go false e ih = ih e
 
-breaks≢passes : {j : ℕ} → breaks j ≡ passes → ⊥
-breaks≢passes {j} e = let z : _≡_ {A = ℕ} 0 1 = cc in omega arith
+breaks≢passes : {j : ℕ} {m : Bool} → breaks j ≡ passes m → ⊥
+breaks≢passes {j} {m} e = let z : _≡_ {A = ℕ} 0 1 = cc in omega arith
 
-misses≢passes : {g : ℤ} → misses g ≡ passes → ⊥
-misses≢passes {g} e = let z : _≡_ {A = ℕ} 0 1 = cc in omega arith
+misses≢passes : {g : ℤ} {m : Bool} → misses g ≡ passes m → ⊥
+misses≢passes {g} {m} e = let z : _≡_ {A = ℕ} 0 1 = cc in omega arith
 
 breaks≢misses : {j : ℕ} {g : ℤ} → breaks j ≡ misses g → ⊥
 breaks≢misses {j} {g} e = let z : _≡_ {A = ℕ} 0 1 = cc in omega arith
 
-weigh-passes : (o : Option ℕ) (g : ℤ) → weigh o g ≡ passes → (o ≡ none) × (g ≡ pos 0)
-weigh-passes (some j) g e = absurd (breaks≢passes e)
-weigh-passes none g e = (refl, isZero-is g (go (isZero g) e))
+weigh-passes : (o : Option ℕ) (g : ℤ) (a m : Bool) → weigh o g a ≡ passes m → (o ≡ none) × (g ≡ pos 0) × (a ≡ m)
+weigh-passes (some j) g a m e = absurd (breaks≢passes e)
+weigh-passes none g a m e = go (isZero g) refl e
   where
-    go : (b : Bool) → cond b passes (misses g) ≡ passes → b ≡ true
-    go true e = refl
-    go false e = absurd (misses≢passes e)
+    go : (b : Bool) → isZero g ≡ b → cond b (passes a) (misses g) ≡ passes m → (_≡_ {A = Option ℕ} none none) × (g ≡ pos 0) × (a ≡ m)
+    go true p e = (refl, isZero-is g p, cc)
+    go false p e = absurd (misses≢passes e)
 
-weigh-misses : (o : Option ℕ) (g h : ℤ) → weigh o g ≡ misses h → (o ≡ none) × (g ≡ h) × (isZero g ≡ false)
-weigh-misses (some j) g h e = absurd (breaks≢misses e)
-weigh-misses none g h e = go (isZero g) refl e
+weigh-misses : (o : Option ℕ) (g h : ℤ) (a : Bool) → weigh o g a ≡ misses h → (o ≡ none) × (g ≡ h) × (isZero g ≡ false)
+weigh-misses (some j) g h a e = absurd (breaks≢misses e)
+weigh-misses none g h a e = go (isZero g) refl e
   where
-    go : (b : Bool) → isZero g ≡ b → cond b passes (misses g) ≡ misses h → (_≡_ {A = Option ℕ} none none) × (g ≡ h) × (isZero g ≡ false)
+    go : (b : Bool) → isZero g ≡ b → cond b (passes a) (misses g) ≡ misses h → (_≡_ {A = Option ℕ} none none) × (g ≡ h) × (isZero g ≡ false)
     go true p e = absurd (misses≢passes (sym e))
     go false p e = (refl, cc, p)
 
 sum-gap : (b a : ℤ) → a ≡ b → b -ℤ a ≡ pos 0
 sum-gap b a = simp lin (omega arithZ)
 
--- demand 2: "passes exactly if the word meets all checks and its agreement, times the certificate's scale, equals the multipliers' bound"
-pub verdict-passes⇔ : (t : Table) (s : ℕ) (l : List ℤ) (rs : List Row) (w : List Bool) → (verdict t s l rs w ≡ passes) ↔ MeetsBound t s l rs w
+-- demand 2: "passes exactly if the word meets all checks and its agreement, times the certificate's scale, equals the multipliers' bound"; and the
+-- mark is whether every reduced number differs from 0
+pub verdict-passes⇔ : (t : Table) (s : ℕ) (l : List ℤ) (rs : List Row) (w : List Bool) (m : Bool)
+    → (verdict t s l rs w ≡ passes m) ↔ (MeetsBound t s l rs w × (sole (t .bits) s l rs ≡ m))
 unfolding verdict gap
-verdict-passes⇔ t s l rs w = (
-  λ e. let p = weigh-passes (firstBroken 0 w (t .checks)) (gap (t .bits) s l rs w) e in
-      (none-broken 0 w (t .checks) (p .0), sym (sub-zero (bound (t .bits) s l rs) (pos s *ℤ agreement (t .bits) l w) (p .1))),
-  λ p. ap₂ weigh (meets-none 0 w (t .checks) (p .0)) (sum-gap (bound (t .bits) s l rs) (pos s *ℤ agreement (t .bits) l w) (p .1)),
+verdict-passes⇔ t s l rs w m = (
+  λ e. let p = weigh-passes (firstBroken 0 w (t .checks)) (gap (t .bits) s l rs w) (sole (t .bits) s l rs) m e in
+      ((none-broken 0 w (t .checks) (p .0), sym (sub-zero (bound (t .bits) s l rs) (pos s *ℤ agreement (t .bits) l w) (p .1))), p .2),
+  λ p. ap₂ (λ o g. weigh o g (sole (t .bits) s l rs)) (meets-none 0 w (t .checks) (p .0 .0)) (sum-gap (bound (t .bits) s l rs) (pos s *ℤ agreement (t .bits) l w) (p .0 .1)) ∙ ap passes (p .1),
 )
 
 -- ---- the rows of a certificate that passed 12 and 13
@@ -194,18 +198,47 @@ judged file l w bs v e = go (then-gives (codeFile file) _ v e)
 abbrev pub gapRead : Table → List ℤ → List ℕ → List ℕ → ℤ
 gapRead t l w bs = gap (t .bits) (scaleOf bs) l (rowsAt t (itemsOf bs)) (bitsOf w)
 
--- the mark is beyond doubt
-pub judge-best : (file : List ℕ) (l : List ℤ) (w bs : List ℕ) (t : Table) → codeFile file ≡ gives t → judge file l w bs ≡ gives passes → Best t l (bitsOf w)
-unfolding verdict
-judge-best file l w bs t f e = subst (λ x. Best x l (bitsOf w)) (gives-inj (j .table) t (sym (j .isFile) ∙ f))
-    (gap-optimal (j .table) (scaleOf bs) l (rowsAt (j .table) (itemsOf bs)) (j .implied) (bitsOf w) (j .scale)
-    (record { size = j .word; even = none-broken 0 (bitsOf w) (j .table .checks) (p .0) }) (p .1))
-  where
-    j : Judged file l w bs passes
-    j = judged file l w bs passes e
+-- and whether none of their reduced numbers is 0
+abbrev pub soleRead : Table → List ℤ → List ℕ → Bool
+soleRead t l bs = sole (t .bits) (scaleOf bs) l (rowsAt t (itemsOf bs))
 
-    p : (firstBroken 0 (bitsOf w) (j .table .checks) ≡ none) × (gapRead (j .table) l w bs ≡ pos 0)
-    p = weigh-passes (firstBroken 0 (bitsOf w) (j .table .checks)) (gapRead (j .table) l w bs) (j .says)
+-- what is known of a word and a certificate that pass
+pub record Closed (t : Table) (l : List ℤ) (w bs : List ℕ) (m : Bool) : Type 0 where
+  pub isCodeword : Codeword t (bitsOf w)
+  pub scale : 1 ≤ scaleOf bs
+  pub implied : Implied t (rowsAt t (itemsOf bs))
+  pub noGap : gapRead t l w bs ≡ pos 0
+  pub mark : soleRead t l bs ≡ m
+
+module _ (file : List ℕ) (l : List ℤ) (w bs : List ℕ) (t : Table) (isFile : codeFile file ≡ gives t) where
+  judge-closed : (m : Bool) → judge file l w bs ≡ gives (passes m) → Closed t l w bs m
+  unfolding verdict
+  judge-closed m e =
+      let j = judged file l w bs (passes m) e in
+      let p = weigh-passes (firstBroken 0 (bitsOf w) (j .table .checks)) (gapRead (j .table) l w bs) (soleRead (j .table) l bs) m (j .says) in
+      subst (λ x. Closed x l w bs m) (gives-inj (j .table) t (sym (j .isFile) ∙ isFile)) (record {
+        isCodeword = record { size = j .word; even = none-broken 0 (bitsOf w) (j .table .checks) (p .0) };
+        scale = j .scale;
+        implied = j .implied;
+        noGap = p .1;
+        mark = p .2;
+      })
+
+  -- whatever is known of the mark, it is that of the certificate's own reduced numbers
+  pub judge-marked : (m : Bool) → judge file l w bs ≡ gives (passes m) → judge file l w bs ≡ gives (passes (soleRead t l bs))
+  judge-marked m e = e ∙ ap (λ b. gives (passes b)) (sym (judge-closed m e .mark))
+
+  -- "certified" is beyond doubt
+  pub judge-best : (m : Bool) → judge file l w bs ≡ gives (passes m) → Best t l (bitsOf w)
+  judge-best m e =
+      let c = judge-closed m e in
+      gap-optimal t (scaleOf bs) l (rowsAt t (itemsOf bs)) (c .implied) (bitsOf w) (c .scale) (c .isCodeword) (c .noGap)
+
+  -- and so is its mark
+  pub judge-sole : judge file l w bs ≡ gives (passes true) → SoleWinner t l (bitsOf w)
+  judge-sole e =
+      let c = judge-closed true e in
+      sole-winner t (scaleOf bs) l (rowsAt t (itemsOf bs)) (c .implied) (bitsOf w) (c .isCodeword) (c .noGap) (c .mark)
 
 positive : (g : ℤ) → pos 0 ⩽ g → isZero g ≡ false → pos 0 <ℤ g
 positive (pos zero) h e = absurd (false≢true (sym e))
@@ -222,4 +255,4 @@ judge-positive file l w bs g e = subst (λ z. pos 0 <ℤ z) (p .1) (positive (ga
     j = judged file l w bs (misses g) e
 
     p : (firstBroken 0 (bitsOf w) (j .table .checks) ≡ none) × (gapRead (j .table) l w bs ≡ g) × (isZero (gapRead (j .table) l w bs) ≡ false)
-    p = weigh-misses (firstBroken 0 (bitsOf w) (j .table .checks)) (gapRead (j .table) l w bs) g (j .says)
+    p = weigh-misses (firstBroken 0 (bitsOf w) (j .table .checks)) (gapRead (j .table) l w bs) g (soleRead (j .table) l bs) (j .says)

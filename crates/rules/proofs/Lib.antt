@@ -14,6 +14,7 @@ pub mod RoundTurns
 pub mod WordTurns
 pub mod Duality
 pub mod Optimal
+pub mod SoleLaws
 pub mod AnswerLaws
 pub mod FileLaws
 pub mod Tables
@@ -21,6 +22,7 @@ pub mod FileBytesLaws
 pub mod FileUnique
 pub mod Masks
 pub mod Judged
+pub mod SoleExample
 pub mod Written
 pub mod WrittenPasses
 pub mod EmptyLaws

@@ -11,7 +11,7 @@ use lib.IntN.{ℤ, pos, _*ℤ_}
 use Rattle.integers.specs.Linear.{arithZ, _⩽_, Within}
 use Rattle.integers.specs.Order.{sub-nonneg, within-zero}
 use Rattle.integers.specs.Product.{ring}
-use Rattle.integers.specs.Sum.{AllWithin, sumTo}
+use Rattle.integers.specs.Sum.{AllWithin}
 use Rattle.rules.specs.Limits.{unit}
 use Rattle.rules.specs.Table.{Table, at}
 use Rattle.rules.specs.Sound.{AllBelow}
@@ -25,7 +25,7 @@ use Rattle.rules.proofs.Basics.{and-both, none≢some, some-inj}
 use Rattle.rules.proofs.ZeroLaws.{isZero-is}
 use Rattle.rules.proofs.Pass.{spinsIn, stepsIn, steps-laid, Good, rows-good}
 use Rattle.rules.proofs.RoundTurns.{meets-even}
-use Rattle.rules.proofs.Duality.{AllKept, weak-duality, optimal, spinsOf, spins-within, codeword-keeps, agreement-is}
+use Rattle.rules.proofs.Duality.{AllKept, spinSum, weak-duality, optimal, spinsOf, spins-within, codeword-keeps, agreement-is}
 
 -- a point that keeps the table's inequalities keeps those of the rows
 abbrev pub Implied : Table → List Row → Type 0
@@ -36,6 +36,10 @@ within-at d [] h zero = within-zero d
 within-at d [] h (suc i) = within-zero d
 within-at d (x ∷ p) h zero = h .0
 within-at d (x ∷ p) h (suc i) = within-at d p (h .1) i
+
+-- so does a word that meets all checks
+pub word-kept : (t : Table) (rs : List Row) → Implied t rs → (w : List Bool) → meets w (t .checks) ≡ true → AllKept (t .bits) 1 (spinsOf w) rs
+word-kept t rs implied w e = implied 1 (spinsOf w) (codeword-keeps w (t .checks) (meets-even w (t .checks) e))
 
 one-times : (x y : ℤ) → x ⩽ pos 1 *ℤ y → x ⩽ y
 one-times x y = simp ring (omega arithZ)
@@ -48,8 +52,8 @@ module _ (t : Table) (s : ℕ) (l : List ℤ) (rs : List Row) (implied : Implied
 
   -- and so of any word that meets all checks
   pub bound-words : (w : List Bool) → meets w (t .checks) ≡ true → pos s *ℤ agreement (t .bits) l w ⩽ bound (t .bits) s l rs
-  bound-words w e = subst (λ x. pos s *ℤ x ⩽ bound (t .bits) s l rs) (agreement-is (t .bits) l w) (one-times (pos s *ℤ sumTo (t .bits) (λ i. at l i *ℤ spinsOf w i)) (bound (t .bits) s l rs)
-      (weak-duality (t .bits) 1 s l (spinsOf w) rs (spins-within w) (implied 1 (spinsOf w) (codeword-keeps w (t .checks) (meets-even w (t .checks) e)))))
+  bound-words w e = subst (λ x. pos s *ℤ x ⩽ bound (t .bits) s l rs) (agreement-is (t .bits) l w) (one-times (pos s *ℤ spinSum (t .bits) l (spinsOf w)) (bound (t .bits) s l rs)
+      (weak-duality (t .bits) 1 s l (spinsOf w) rs (spins-within w) (word-kept t rs implied w e)))
 
   pub gap-nonneg : (w : List Bool) → meets w (t .checks) ≡ true → pos 0 ⩽ gap (t .bits) s l rs w
   unfolding gap
@@ -59,8 +63,8 @@ module _ (t : Table) (s : ℕ) (l : List ℤ) (rs : List Row) (implied : Implied
   unfolding pointAgreement
   gap-optimal w h e g = record {
     isCodeword = e;
-    overCodewords = λ c k. subst (λ x. x ⩽ agreement (t .bits) l w) (agreement-is (t .bits) l c) (one-times (sumTo (t .bits) (λ i. at l i *ℤ spinsOf c i)) (agreement (t .bits) l w)
-        (optimal (t .bits) 1 s l (spinsOf c) rs w h (spins-within c) (implied 1 (spinsOf c) (codeword-keeps c (t .checks) (meets-even c (t .checks) (k .even)))) g));
+    overCodewords = λ c k. subst (λ x. x ⩽ agreement (t .bits) l w) (agreement-is (t .bits) l c) (one-times (spinSum (t .bits) l (spinsOf c)) (agreement (t .bits) l w)
+        (optimal (t .bits) 1 s l (spinsOf c) rs w h (spins-within c) (word-kept t rs implied c (k .even)) g));
     overPoints = λ d p k. optimal (t .bits) d s l (at p) rs w h (within-at d p (k .box)) (implied d (at p) (k .keeps)) g;
   }
 

@@ -24,11 +24,13 @@ use Rattle.rules.specs.Input.{eachWithin, onFrame, onWord, bitsOf}
 use Rattle.rules.specs.Bound.{Row, pull, price, reduced, bound, gap}
 use Rattle.rules.specs.Certificate.{Item, itemsAt, scaleOf, itemsOf, certificateIn, onItems, onCertificate, rowsAt}
 use Rattle.rules.specs.Scaled.{times, atScale}
+use Rattle.rules.specs.Sole.{noneZero, sole}
 use Rattle.rules.specs.Judge.{passes, weigh, verdict, judge}
 use Rattle.rules.specs.Run.{certified, Run, Called, call}
 use Rattle.rules.proofs.Basics.{and-both}
 use Rattle.rules.proofs.ByteLaws.{back16}
 use Rattle.rules.proofs.Tables.{file-sound}
+use Rattle.rules.proofs.Judged.{soleRead, judge-marked}
 use Rattle.rules.proofs.Written.{itemsIn, items-in}
 use Rattle.rules.proofs.CallPasses.{ended-scale, ended-passes, call-ends}
 
@@ -75,9 +77,13 @@ module _ (s k : ℕ) (l : List ℤ) (rs : List Row) where
   unfolding gap
   gap-times n w = ap₂ _-ℤ_ (bound-times n) (ap (λ a. pos s *ℤ a) (agreement-times n k l w) ∙ sym (*ℤ-assoc (pos s) (pos k) (agreement n l w)))
 
+  pub sole-times : (n : ℕ) → sole n s (times k l) rs ≡ sole n (s * k) l rs
+  unfolding sole
+  sole-times n = ap (noneZero n) (fun-ext reduced-times)
+
   pub verdict-times : (t : Table) (w : List Bool) → verdict t s (times k l) rs w ≡ verdict t (s * k) l rs w
   unfolding verdict
-  verdict-times t w = ap (weigh (firstBroken 0 w (t .checks))) (gap-times (t .bits) w)
+  verdict-times t w = ap₂ (weigh (firstBroken 0 w (t .checks))) (gap-times (t .bits) w) (sole-times (t .bits))
 
 -- ---- a certificate's bytes
 -- its items stand past the first four
@@ -145,13 +151,17 @@ module _ (file : List ℕ) (k : ℕ) (l : List ℤ) where
   scaled-judged w bs lo hi range = ap (λ n. judge file l w (atScale n bs)) (sym (one-mul k)) ∙ judge-times k l lo range file 1 w bs (omega arith) (omega arith)
 
   -- ---- a call for rounds on k times the frame
-  -- the judge certifies for the frame, at scale k, what stands in the buffers afterwards
+  -- the certificate that stands in the buffers afterwards, at scale k
+  abbrev pub scaledAfter : Called → List ℕ
+  scaledAfter d = atScale k (certificateIn (d .run .buffers .certificate))
+
+  -- the judge certifies by it, for the frame, the word that stands there, with the mark of the reduced numbers
   abbrev pub ScaledAfter : Table → Called → Type 0
-  ScaledAfter t d = judge file l (take (t .bits) (d .run .buffers .word)) (atScale k (certificateIn (d .run .buffers .certificate))) ≡ gives passes
+  ScaledAfter t d = judge file l (take (t .bits) (d .run .buffers .word)) (scaledAfter d) ≡ gives (passes (soleRead t l (scaledAfter d)))
 
   module _ (v : ℕ) (r : Run) (t : Table) (isFile : codeFile file ≡ gives t) where
     pub call-scaled : 1 ≤ k → k ≤ maxScale → call file (times k l) v r .answer ≡ gives certified → ScaledAfter t (call file (times k l) v r)
     call-scaled lo hi = call-ends file (times k l) v r t isFile (ScaledAfter t)
-        (λ d a e. scaled-judged _ (certificateIn (d .run .buffers .certificate)) lo hi (a .frame .range)
+        (λ d a e. judge-marked file l _ _ t isFile _ (scaled-judged _ (certificateIn (d .run .buffers .certificate)) lo hi (a .frame .range)
         ∙ ap (judge file (times k l) _) (ended-scale t (times k l) (d .run) e (file-sound file t isFile .checks .1))
-        ∙ ended-passes t (times k l) (d .run) e file isFile (a .frame))
+        ∙ ended-passes t (times k l) (d .run) e file isFile (a .frame)))

@@ -24,6 +24,7 @@ use Rattle.rules.specs.Input.{eachWithin, onFrame, eachBit, onWord, bits
 use Rattle.rules.specs.Step.{Entry, inactive, active}
 use Rattle.rules.specs.Bound.{Row, rowsOf}
 use Rattle.rules.specs.Certificate.{cutsIn, certificateOf, Item, membersAt, follows, onItem, onItems, entriesOf, scaleOf, itemsOf, onCertificate, rowsAt}
+use Rattle.rules.specs.Sole.{sole}
 use Rattle.rules.specs.Judge.{passes, verdict, judge, weigh}
 use Rattle.rules.specs.Buffers.{bytesOf}
 use Rattle.rules.specs.Run.{tooLarge}
@@ -201,8 +202,9 @@ pub record Closes (t : Table) (l : List ℤ) (w : List Bool) (es : List Entry) :
   pub passed : Passed t l (rowsOf (t .checks) es) w
 
 module _ (file : List ℕ) (t : Table) (isFile : codeFile file ≡ gives t) where
-  -- the judge certifies the word by the entries' bytes
-  pub written-passes : (l : List ℤ) (w : List Bool) (es : List Entry) → Framed t l → Closes t l w es → judge file l (bytesOf w) (certificateOf es) ≡ gives passes
+  -- the judge certifies the word by the entries' bytes, and marks it by their rows
+  pub written-passes : (l : List ℤ) (w : List Bool) (es : List Entry) → Framed t l → Closes t l w es
+      → judge file l (bytesOf w) (certificateOf es) ≡ gives (passes (sole (t .bits) 1 l (rowsOf (t .checks) es)))
   unfolding judge onFrame onWord verdict
   written-passes l w es f c =
       then-of (codeFile file) t _ isFile
@@ -211,7 +213,7 @@ module _ (file : List ℕ) (t : Table) (isFile : codeFile file ≡ gives t) wher
       ∙ must-true (eqb (length (bytesOf w)) (t .bits) && eachBit (bytesOf w)) wordWrong _ (ap₂ _&&_ (eq-eqb (length (bytesOf w)) (t .bits) (bytes-length w ∙ c .long)) (each-bit w))
       ∙ certificate-right t es _ (file-sound file t isFile) (c .proper) (c .small)
       ∙ ap (λ v. gives v) (ap₂ (λ rs x. verdict t (scaleOf (certificateOf es)) l rs x) rows (bits-bytes w) ∙ ap (λ s. verdict t s l (rowsOf (t .checks) es) w) (scale-written es)
-      ∙ ap₂ weigh (meets-none 0 w (t .checks) (c .passed .legal)) (c .passed .closed))
+      ∙ ap₂ (λ o g. weigh o g (sole (t .bits) 1 l (rowsOf (t .checks) es))) (meets-none 0 w (t .checks) (c .passed .legal)) (c .passed .closed))
     where
       rows : rowsAt t (itemsOf (certificateOf es)) ≡ rowsOf (t .checks) es
       rows = ap (rowsAt t) (items-back t es (file-sound file t isFile) (c .proper) (c .small)) ∙ rows-listed t 0 (t .checks) es (from-start t) (c .proper)

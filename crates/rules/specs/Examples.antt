@@ -1,4 +1,4 @@
--- Further worked examples, by computation: document 01's cuts, the division, empty checks, multipliers at another scale, the three-frame report, a list of calls with its twin,
+-- Further worked examples, by computation: document 01's cuts, the division, empty checks, multipliers at another scale, marks, the three-frame report, a list of calls with its twin,
 -- and which refusal comes first where several apply. Assumes nothing.
 use mathlib.Core.Path.{_≡_, refl}
 use mathlib.Core.List.{List, [], _∷_, _++_}
@@ -18,6 +18,7 @@ use Rattle.rules.specs.Step.{lastWhere, multiplier, step}
 use Rattle.rules.specs.Bound.{reduced, bound, gap}
 use Rattle.rules.specs.Round.{total, divided, spin, sumsOf, round}
 use Rattle.rules.specs.Certificate.{certificateOf, itemsAt, follows, onItem, onItems, onCertificate}
+use Rattle.rules.specs.Sole.{sole}
 use Rattle.rules.specs.Judge.{verdict, judge, judgeReply}
 use Rattle.rules.specs.Scaled.{times, atScale}
 use Rattle.rules.specs.Buffers.{Buffers, Lengths, needsBy, fits, fitsStart, blank}
@@ -33,6 +34,10 @@ no k = record { number = k; values = [] }
 
 abbrev yes : List ℤ → Reply
 yes vs = record { number = 0; values = vs }
+
+-- certified, with its mark
+abbrev passed : ℕ → Said
+passed m = reply (yes (pos 1 ∷ pos 0 ∷ pos m ∷ []))
 
 abbrev row : Question → Said → Case
 row q s = record { ask = q; say = s }
@@ -174,10 +179,38 @@ scaled = (refl, refl, refl)
 scales : List Case
 scales =
     row (judged threeBits frameE word000 (atScale 100 (withMultiplier 0xCF 0x07))) (reply (yes (pos 2 ∷ pos 2 ∷ [])))
-    ∷ row (judged threeBits frameE word000 (atScale 100 (withMultiplier 0xD0 0x07))) (reply (yes (pos 1 ∷ [])))
-    ∷ row (judged threeBits frameE word000 (atScale 100 (withMultiplier 0xA0 0x0F))) (reply (yes (pos 1 ∷ [])))
+    ∷ row (judged threeBits frameE word000 (atScale 100 (withMultiplier 0xD0 0x07))) (passed 0)
+    ∷ row (judged threeBits frameE word000 (atScale 100 (withMultiplier 0xA0 0x0F))) (passed 0)
     ∷ row (judged threeBits frameE word000 (atScale 100 (withMultiplier 0xA1 0x0F))) (reply (yes (pos 2 ∷ pos 4 ∷ [])))
     ∷ row (judged threeBits frameE word000 (atScale 1024 (withMultiplier 0xD0 0x07))) (reply (no 11))
+    ∷ []
+
+-- ---- marks
+marks : List Case
+marks =
+    -- multiplier 3333: (667, 667, 1333). At scale 100 too; 2000 and 4000 above have a 0
+    row (judged threeBits frameA word000 (withMultiplier 0x05 0x0D)) (passed 1)
+    ∷ row (judged threeBits frameE word000 (atScale 100 (withMultiplier 0x05 0x0D))) (passed 1)
+    -- the frame's number 0 doesn't count, the reduced one does: (4000, 4000, 0) with no entry, and with multiplier 1 on mask 4
+    ∷ row (judged threeBits (pos 4000 ∷ pos 4000 ∷ pos 0 ∷ []) word000 (0 ∷ 0 ∷ 1 ∷ 0 ∷ [])) (passed 0)
+    ∷ row (judged threeBits (pos 4000 ∷ pos 4000 ∷ pos 0 ∷ []) word000 (one 1 1 0 1 4)) (passed 1)
+    -- the scale counts: (2, 2, 0) and multiplier 2 at scales 1 and 2
+    ∷ row (judged threeBits (pos 2 ∷ pos 2 ∷ pos 0 ∷ []) word000 (one 1 1 0 2 4)) (passed 0)
+    ∷ row (judged threeBits (pos 2 ∷ pos 2 ∷ pos 0 ∷ []) word000 (one 1 2 0 2 4)) (passed 1)
+    -- two masks of one check cancel on bits 0 and 2, with 1 on bit 2 and without
+    ∷ row (judged threeBits (pos 1 ∷ pos 10 ∷ pos 1 ∷ []) word000 (two 0 1 0 4)) (passed 1)
+    ∷ row (judged threeBits (pos 1 ∷ pos 10 ∷ pos 0 ∷ []) word000 (two 0 1 0 4)) (passed 0)
+    -- a 0 at the first bit alone
+    ∷ row (judged threeBits (pos 0 ∷ pos 10 ∷ pos 1 ∷ []) word000 (two 0 1 0 4)) (passed 0)
+    -- a word with ones
+    ∷ row (judged threeBits (negsuc 3999 ∷ negsuc 3999 ∷ negsuc 1999 ∷ []) (1 ∷ 1 ∷ 0 ∷ []) (one 1 1 0 1 7)) (reply (yes (pos 2 ∷ pos 3998 ∷ [])))
+    ∷ row (judged threeBits (negsuc 3999 ∷ negsuc 3999 ∷ pos 1 ∷ []) (1 ∷ 1 ∷ 0 ∷ []) (one 1 1 0 1 7)) (passed 1)
+    -- 000 and 011 tie on (10, 10, −10)
+    ∷ row (judged threeBits (pos 10 ∷ pos 10 ∷ negsuc 9 ∷ []) word000 (one 1 1 0 10 4)) (passed 0)
+    ∷ row (judged threeBits (pos 10 ∷ pos 10 ∷ negsuc 9 ∷ []) (0 ∷ 1 ∷ 1 ∷ []) (one 1 1 0 10 4)) (passed 0)
+    -- one bit: multiplier 5 leaves nothing of −5, 6 leaves 1
+    ∷ row (judged oneBit (negsuc 4 ∷ []) (0 ∷ []) (one 1 1 0 5 1)) (passed 0)
+    ∷ row (judged oneBit (negsuc 4 ∷ []) (0 ∷ []) (one 1 1 0 6 1)) (passed 1)
     ∷ []
 
 -- ---- calls on runs as they stand
@@ -336,12 +369,12 @@ counted-44 : (countedBy (refused 44) 7 2 ≡ 2) × (countedBy (refused 43) 7 2 �
 counted-44 = (refl, refl, refl)
 
 pub cases : List Case
-cases = files ++ cuts ++ certificates ++ empties ++ scales ++ calls ++ rounds ++ lists ++ report
+cases = files ++ cuts ++ certificates ++ empties ++ scales ++ marks ++ calls ++ rounds ++ lists ++ report
 
 pub examples : asked cases ≡ said cases
-unfolding cases fourBits emptied frameD frameE frameF files cuts certificates empties scales calls rounds lists report
+unfolding cases fourBits emptied frameD frameE frameF files cuts certificates empties scales marks calls rounds lists report
     regular onBit0 callsOf threeBits oneBit frameA answerTo must then replyOf u16At u32At agreement
     maskRight ones lib.Count.onesIn inRange contents countsRight startsRight totalCount numbersAt bodies ascends membersRight bitsRight fileOf codeFile codeFileReply onFrame onWord
     onPoint onCheck cut violation cutSearch cutReply lastWhere multiplier step reduced bound gap total divided spin round certificateOf itemsAt follows onItem onItems onCertificate verdict
-    judge judgeReply fits fitsStart next iterate sumsOf limited sound admits callOn call start lentCall frameLine clipZ
+    sole judge judgeReply fits fitsStart next iterate sumsOf limited sound admits callOn call start lentCall frameLine clipZ
 examples = refl

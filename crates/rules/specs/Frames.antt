@@ -16,6 +16,7 @@ use Rattle.rules.specs.Step.{lastWhere, multiplier, step}
 use Rattle.rules.specs.Bound.{reduced, bound, gap}
 use Rattle.rules.specs.Round.{total, divided, spin, sumsOf, round}
 use Rattle.rules.specs.Certificate.{certificateOf, itemsAt, follows, onItem, onItems, onCertificate}
+use Rattle.rules.specs.Sole.{sole}
 use Rattle.rules.specs.Judge.{verdict, judge, judgeReply}
 use Rattle.rules.specs.Buffers.{fits, fitsStart}
 use Rattle.rules.specs.Run.{next, iterate, limited, sound, admits, callOn, call, start}
@@ -47,7 +48,10 @@ running = record { number = 0; values = pos 0 ∷ [] }
 abbrev certified : Reply
 certified = record { number = 0; values = pos 1 ∷ [] }
 
--- the judge's: certified, a gap
+-- the judge's: certified with its mark, a gap
+abbrev passedWith : ℕ → Reply
+passedWith m = record { number = 0; values = pos 1 ∷ pos 0 ∷ pos m ∷ [] }
+
 abbrev gapOf : ℕ → Reply
 gapOf g = record { number = 0; values = pos 2 ∷ pos g ∷ [] }
 
@@ -85,8 +89,8 @@ cases =
           (3333 ∷ []) (7 ∷ []) (4794 ∷ []) (1 ∷ 1 ∷ 0 ∷ []) (0x01 ∷ 0x00 ∷ 0x01 ∷ 0x00 ∷ 0x00 ∷ 0x00 ∷ 0x05 ∷ 0x0D ∷ 0x00 ∷ 0x00 ∷ 0x07 ∷ 0x00 ∷ 0x00 ∷ 0x00 ∷ []);
     }
     ∷ record { ask = judged threeBits frameA word000 (withMultiplier 0xCF 0x07); say = reply (gapOf 2) }
-    ∷ record { ask = judged threeBits frameA word000 (withMultiplier 0xD0 0x07); say = reply certified }
-    ∷ record { ask = judged threeBits frameA word000 (withMultiplier 0xA0 0x0F); say = reply certified }
+    ∷ record { ask = judged threeBits frameA word000 (withMultiplier 0xD0 0x07); say = reply (passedWith 0) }
+    ∷ record { ask = judged threeBits frameA word000 (withMultiplier 0xA0 0x0F); say = reply (passedWith 0) }
     ∷ record { ask = judged threeBits frameA word000 (withMultiplier 0xA1 0x0F); say = reply (gapOf 4) }
     ∷ record {
       ask = shows oneBit frameC 1024;
@@ -100,5 +104,5 @@ cases =
 pub frames : asked cases ≡ said cases
 unfolding cases threeBits oneBit frameA frameB frameC answerTo must then replyOf u16At u32At agreement maskRight ones lib.Count.onesIn inRange contents countsRight startsRight
     totalCount numbersAt bodies ascends membersRight bitsRight fileOf codeFile codeFileReply onFrame onWord cut lastWhere multiplier step reduced bound gap total divided spin round
-    certificateOf itemsAt follows onItem onItems onCertificate verdict judge judgeReply fits fitsStart next iterate sumsOf limited sound admits callOn call start clipZ
+    certificateOf itemsAt follows onItem onItems onCertificate verdict sole judge judgeReply fits fitsStart next iterate sumsOf limited sound admits callOn call start clipZ
 frames = refl

@@ -11,21 +11,23 @@ use Rattle.rules.specs.Parity.{firstBroken, meets, agreement}
 use Rattle.rules.specs.CodeFile.{codeFile}
 use Rattle.rules.specs.Input.{onFrame, onWord, bitsOf}
 use Rattle.rules.specs.Bound.{Row, bound, gap}
+use Rattle.rules.specs.Mask.{digit}
 use Rattle.rules.specs.Round.{isZero}
 use Rattle.rules.specs.Certificate.{onCertificate, scaleOf, itemsOf, rowsAt}
+use Rattle.rules.specs.Sole.{sole}
 
--- "The checker answers the first broken check; if none, certified for gap 0, else the gap"
+-- "The checker answers the first broken check; if none, certified for gap 0, else the gap"; certified with the mark of a sole winner
 pub data Verdict : Type 0 where
   breaks : ℕ → Verdict
-  passes : Verdict
+  passes : Bool → Verdict
   misses : ℤ → Verdict
 
-abbrev pub weigh : Option ℕ → ℤ → Verdict
-weigh (some j) g = breaks j
-weigh none g = cond (isZero g) passes (misses g)
+abbrev pub weigh : Option ℕ → ℤ → Bool → Verdict
+weigh (some j) g m = breaks j
+weigh none g m = cond (isZero g) (passes m) (misses g)
 
 unfoldable pub verdict : Table → ℕ → List ℤ → List Row → List Bool → Verdict
-verdict t s l rs w = weigh (firstBroken 0 w (t .checks)) (gap (t .bits) s l rs w)
+verdict t s l rs w = weigh (firstBroken 0 w (t .checks)) (gap (t .bits) s l rs w) (sole (t .bits) s l rs)
 
 -- demand 2's "the word meets all checks and its agreement, times the certificate's scale, equals the multipliers' bound"
 abbrev pub MeetsBound : Table → ℕ → List ℤ → List Row → List Bool → Type 0
@@ -36,10 +38,10 @@ unfoldable pub judge : List ℕ → List ℤ → List ℕ → List ℕ → Answe
 judge file l w bs =
     then (codeFile file) (λ t. onFrame t l (onWord t w (onCertificate t bs (gives (verdict t (scaleOf bs) l (rowsAt t (itemsOf bs)) (bitsOf w))))))
 
--- the values of the answer: 0 and the broken check, 1 for certified, or 2 and the gap
+-- the values of the answer: 0 and the broken check; 1 for certified, its gap 0 and the mark; or 2 and the gap
 abbrev pub verdictValues : Verdict → List ℤ
 verdictValues (breaks j) = pos 0 ∷ pos j ∷ []
-verdictValues passes = pos 1 ∷ []
+verdictValues (passes m) = pos 1 ∷ pos 0 ∷ pos (digit m) ∷ []
 verdictValues (misses g) = pos 2 ∷ g ∷ []
 
 unfoldable pub judgeReply : List ℕ → List ℤ → List ℕ → List ℕ → Reply

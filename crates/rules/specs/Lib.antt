@@ -14,6 +14,7 @@ pub mod Bound
 pub mod Scatter
 pub mod Round
 pub mod Certificate
+pub mod Sole
 pub mod Judge
 pub mod Empty
 pub mod Scaled

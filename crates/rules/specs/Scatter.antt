@@ -10,7 +10,7 @@ use Rattle.integers.specs.Linear.{Within}
 use Rattle.rules.specs.Limits.{maxMultiplier, maxBitDegree, weightLimit, scaledLimit, rowLimit, sizeLimit}
 use Rattle.rules.specs.Table.{degreeOf, at}
 use Rattle.rules.specs.Mask.{setOf}
-use Rattle.rules.specs.Bound.{Row, weights, price}
+use Rattle.rules.specs.Bound.{Row, weights, price, reduced}
 
 abbrev pub scatter : List ℕ → List ℤ → List ℤ → List ℤ
 scatter ms [] ls = ls
@@ -52,6 +52,10 @@ pub record EachWithin (n : ℕ) (ls : List ℤ) : Type 0 where
 pub record Scaled (s : ℕ) (l : List ℤ) (i : ℕ) (x : ℤ) : Type 0 where
   pub value : x ≡ pos s *ℤ at l i
   pub size : Within scaledLimit x
+
+-- the numbers are the reduced ones
+pub record Reduces (s : ℕ) (l : List ℤ) (rs : List Row) (ls : List ℤ) : Type 0 where
+  pub number : (i : ℕ) → i < length l → at ls i ≡ reduced s l rs i
 
 -- the first k members are done: what is left of the mask, on the members from k on, makes of the numbers ls what the row makes of ls₀
 pub record MembersPut (ms : List ℕ) (b mask : ℕ) (ls₀ : List ℤ) (k left : ℕ) (ls : List ℤ) : Type 0 where

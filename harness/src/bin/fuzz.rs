@@ -2,14 +2,15 @@
 //! one.
 //!
 //! Each refusal, cuts of the least and of the greatest depth, and the multipliers at 43's limits must be met at
-//! least a few times over a whole series. Refusal 44 is not among them: no run that passes 43 can meet it.
+//! least a few times over a whole series, and verdicts of gap 0 more often, with the mark and without it. Refusal
+//! 44 is not among them: no run that passes 43 can meet it.
 //!
 //! FILE gets a line for each block of cases: the first one's number, and a digest of all inputs and of all that
 //! the proved decoder answered and left. The independent one's would be the same, or the program fails. Without
 //! the feature `proved` the independent decoder runs alone, and the digests are its own.
 
 use harness::cases::compare::{compare, Seen, Tally};
-use harness::cases::{make, Case, EDGES, GREATEST_DEPTH, LEAST_DEPTH};
+use harness::cases::{make, Case, CERTIFIED, EDGES, GREATEST_DEPTH, LEAST_DEPTH, SOLE};
 use harness::decoder::Refusal;
 use harness::gen::rng::Rng;
 use harness::SHIPPED;
@@ -20,6 +21,9 @@ use std::process::ExitCode;
 const REFUSALS: [u32; 20] = [1, 2, 3, 4, 5, 6, 7, 8, 9, 10, 11, 12, 13, 14, 15, 16, 17, 41, 42, 43];
 /// The least number of times that each has to be met.
 const FEW: u64 = 5;
+/// One case in so many, on average, has to get a verdict of gap 0 with the mark, and one without it. Of the cases as
+/// they are made one in 19 gets the former, and one in 62 the latter.
+const VERDICTS: u64 = 200;
 /// The cases of a digest.
 const BLOCK: u64 = 1_000;
 
@@ -36,15 +40,24 @@ fn try_block(seed: u64, cases: Range<u64>, seen: &mut Seen) -> usize {
     differing.map(|what| println!("{what}")).count()
 }
 
-/// All answers that have to be met, as the tally has them.
+/// Answers that have to be met a few times, as the tally has them.
 fn wanted() -> impl Iterator<Item = String> {
     let refusals = REFUSALS.into_iter().map(|number| format!("{:?}", Refusal(number)));
     let words = [LEAST_DEPTH, GREATEST_DEPTH].into_iter().chain(EDGES.map(|(_, word)| word));
     refusals.chain(words.map(String::from))
 }
 
-fn met(tally: &Tally, wanted: &str) -> u64 {
-    tally.iter().filter(|((_, answer), _)| answer == wanted).map(|(_, count)| count).sum()
+/// How often an answer was met, from one call or from any.
+fn met(tally: &Tally, from: Option<&str>, wanted: &str) -> u64 {
+    let counts = |call: &str, answer: &str| answer == wanted && call == from.unwrap_or(call);
+    tally.iter().filter(|((call, answer), _)| counts(call, answer)).map(|(_, count)| count).sum()
+}
+
+/// All answers that were met too few times.
+fn missing(tally: &Tally, cases: u64) -> Vec<String> {
+    let few = wanted().filter(|answer| met(tally, None, answer) < FEW);
+    let verdicts = [CERTIFIED, SOLE].into_iter().map(String::from);
+    few.chain(verdicts.filter(|answer| met(tally, Some("judge"), answer) < cases / VERDICTS)).collect()
 }
 
 fn print(tally: &Tally) {
@@ -63,9 +76,9 @@ fn series(seed: u64, cases: Range<u64>, digests: Option<&str>) -> Result<(), Str
     print(&seen.tally);
     let written = digests.map_or(Ok(()), |file| std::fs::write(file, lines));
     written.map_err(|error| format!("no digests written: {error}"))?;
-    let missing: Vec<String> = wanted().filter(|answer| met(&seen.tally, answer) < FEW).collect();
+    let missing = missing(&seen.tally, count);
     if whole && !missing.is_empty() {
-        return Err(format!("{missing:?} were met fewer than {FEW} times"));
+        return Err(format!("{missing:?} were met too few times"));
     }
     let decoders = SHIPPED.map(|decoder| decoder.name()).join(" and ");
     let last = format!("fuzz: {count} inputs, {differences} differences");

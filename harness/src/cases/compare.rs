@@ -123,3 +123,21 @@ fn count_edges(state: &State, seen: &mut Seen) {
         }
     }
 }
+
+#[cfg(test)]
+mod tests {
+    use super::*;
+    use crate::decoder::Verdict;
+    use crate::independent::Independent;
+
+    /// So marks are compared across word sizes, as all answers are.
+    #[test]
+    fn digest_has_the_mark() {
+        let digest = |sole| {
+            let mut seen = Seen::default();
+            agree(&[&Independent], &[Answer::Judge(Ok(Verdict::Certified { sole }))], &mut seen).unwrap();
+            seen.digest.take()
+        };
+        assert_ne!(digest(false), digest(true));
+    }
+}

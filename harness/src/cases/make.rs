@@ -3,6 +3,7 @@
 use super::{Case, Run};
 use crate::decoder::Record;
 use crate::gen::certificate::{self, Draft};
+use crate::gen::claim::{self, Claim};
 use crate::gen::rng::Rng;
 use crate::gen::state::{lent_lengths, Lengths, Shape, State};
 use crate::gen::{code, damage, edge, empty, frame};
@@ -85,9 +86,34 @@ fn agreement(rng: &mut Rng, code: Vec<u8>, table: &Table) -> Case {
     Case::Agreement { code, frame, word }
 }
 
-/// A certificate from a run, edited or not, or a random one; with the run's word or another.
+/// A claim that passes or not, on purpose or from a run, damaged or not.
 fn judge(rng: &mut Rng, code: Vec<u8>, sound: &[u8], table: &Table) -> Case {
-    let mut frame = frame::valid(rng, table);
+    let claim = if rng.one_in(3) { tight(rng, table) } else { of_run(rng, sound, table) };
+    let Claim { mut frame, mut word, draft } = claim;
+    let mut certificate = draft.bytes();
+    if rng.one_in(10) {
+        certificate::damage(rng, &mut certificate);
+    }
+    if rng.one_in(8) {
+        frame::damage_word(rng, &mut word);
+    }
+    if rng.one_in(20) {
+        frame::damage(rng, &mut frame);
+    }
+    Case::Judge { code, frame, word, certificate }
+}
+
+fn tight(rng: &mut Rng, table: &Table) -> Claim {
+    let mut claim = claim::tight(rng, table);
+    if rng.one_in(8) {
+        claim.draft.edit_entry(rng, table);
+    }
+    claim
+}
+
+/// A certificate from a run, edited or not, or a random one; with the run's word or another.
+fn of_run(rng: &mut Rng, sound: &[u8], table: &Table) -> Claim {
+    let frame = frame::valid(rng, table);
     let rounds = usual_rounds(table.checks(), table.edges());
     let (mut draft, certified) = Draft::of_run(sound, &frame, rounds);
     if rng.one_in(4) {
@@ -101,18 +127,8 @@ fn judge(rng: &mut Rng, code: Vec<u8>, sound: &[u8], table: &Table) -> Case {
     if rng.one_in(2) {
         draft.edit_entry(rng, table);
     }
-    let mut certificate = draft.bytes();
-    if rng.one_in(10) {
-        certificate::damage(rng, &mut certificate);
-    }
-    let mut word = certified.unwrap_or_else(|| vec![0; table.bits]);
-    if rng.one_in(8) {
-        frame::damage_word(rng, &mut word);
-    }
-    if rng.one_in(20) {
-        frame::damage(rng, &mut frame);
-    }
-    Case::Judge { code, frame, word, certificate }
+    let word = certified.unwrap_or_else(|| vec![0; table.bits]);
+    Claim { frame, word, draft }
 }
 
 /// Rounds wanted: from none to more than there may be, kept short on large codes but for a few.

@@ -1,4 +1,4 @@
-//! Certificates: their form (10 to 14), reduced numbers, bound and gap, and the judge.
+//! Certificates: their form (10 to 14), reduced numbers, bound and gap, and the judge with its mark.
 
 use super::input::{agreement, test_frame, test_word};
 use super::limits::{certificate_length, ENTRY_LIMIT, MULTIPLIER_LIMIT, SCALE_LIMIT, SIZE_LIMIT};
@@ -18,7 +18,7 @@ pub fn u32_at(bytes: &[u8], place: usize) -> u32 {
 }
 
 /// Scale and entries of a certificate for the table.
-fn parse(table: &Table, bytes: &[u8]) -> Result<(u16, Vec<Entry>), Refusal> {
+pub fn parse(table: &Table, bytes: &[u8]) -> Result<(u16, Vec<Entry>), Refusal> {
     if bytes.len() < certificate_length(0) {
         return Err(Refusal::CERTIFICATE_LENGTH);
     }
@@ -56,9 +56,19 @@ fn test_entry(table: &Table, before: Option<&Entry>, entry: &Entry) -> Result<()
     }
 }
 
-/// The multipliers' bound on the agreement, times the scale.
-pub fn bound(table: &Table, frame: &[i16], scale: u16, entries: impl Iterator<Item = Entry>) -> i64 {
-    let mut reduced = [0; SIZE_LIMIT];
+/// The bits' reduced numbers, 0 past them; full-sized, so that a masked member needs no bounds check.
+type Reduced = [i64; SIZE_LIMIT];
+
+/// Works out the reduced numbers, where zeros stand. Answers the multipliers' bound on the agreement, times the
+/// scale.
+#[inline(always)]
+fn reduce(
+    table: &Table,
+    frame: &[i16],
+    scale: u16,
+    entries: impl Iterator<Item = Entry>,
+    reduced: &mut Reduced,
+) -> i64 {
     for (r, &l) in reduced.iter_mut().zip(frame) {
         *r = i64::from(i32::from(scale) * i32::from(l));
     }
@@ -78,6 +88,16 @@ pub fn bound(table: &Table, frame: &[i16], scale: u16, entries: impl Iterator<It
     bound + reduced.iter().map(|r| r.abs()).sum::<i64>()
 }
 
+/// The bound alone, for a round's multipliers.
+pub fn bound(table: &Table, frame: &[i16], scale: u16, entries: impl Iterator<Item = Entry>) -> i64 {
+    reduce(table, frame, scale, entries, &mut [0; SIZE_LIMIT])
+}
+
+/// No early exit: the loop without one is vectorised.
+fn none_is_zero(reduced: &[i64]) -> bool {
+    reduced.iter().fold(true, |all, &r| all & (r != 0))
+}
+
 /// The first check with an odd number of ones.
 fn broken_check(table: &Table, word: &[u8]) -> Option<usize> {
     let mut ones = [0; SIZE_LIMIT];
@@ -95,9 +115,10 @@ pub fn judge(code: &[u8], frame: &[i16], word: &[u8], certificate: &[u8]) -> Res
     if let Some(check) = broken_check(&table, word) {
         return Ok(Verdict::Broken(check as u32));
     }
-    let bound = bound(&table, frame, scale, entries.into_iter());
+    let mut reduced = [0; SIZE_LIMIT];
+    let bound = reduce(&table, frame, scale, entries.into_iter(), &mut reduced);
     match bound - i64::from(scale) * agreement(frame, word) {
-        0 => Ok(Verdict::Certified),
+        0 => Ok(Verdict::Certified { sole: none_is_zero(&reduced[..table.bits]) }),
         gap => Ok(Verdict::Gap(gap)),
     }
 }

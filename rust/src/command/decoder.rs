@@ -45,7 +45,7 @@ impl<'c> Decoder<'c> {
         let certificate = if scale == 1 { certificate } else { certificate.at_scale(scale) };
         let verdict = self.code.judge(frame, &word, &certificate);
         match (verdict, self.code.agreement(frame, &word)) {
-            (Ok(Verdict::Certified), Ok(agreement)) => {
+            (Ok(Verdict::Certified { .. }), Ok(agreement)) => {
                 Ok(Decoded::Certified { rounds, agreement, word, certificate })
             }
             (verdict, _) => Err(Failure::Device(format!(

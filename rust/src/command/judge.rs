@@ -53,6 +53,8 @@ struct Tally {
     broken: u64,
     refused: u64,
     none: u64,
+    /// Of those certified.
+    sole: u64,
 }
 
 impl Tally {
@@ -134,7 +136,10 @@ impl Judging {
         let number = self.number();
         self.tally.frames += 1;
         let (count, text) = match said {
-            Said::Judged(Ok(Verdict::Certified)) => (&mut self.tally.certified, "certified".to_owned()),
+            Said::Judged(Ok(Verdict::Certified { sole })) => {
+                self.tally.sole += u64::from(sole);
+                (&mut self.tally.certified, if sole { "certified sole" } else { "certified" }.to_owned())
+            }
             Said::Judged(Ok(Verdict::Gap(gap))) => (&mut self.tally.gap, format!("gap {gap}")),
             Said::Judged(Ok(Verdict::Broken(check))) => {
                 (&mut self.tally.broken, format!("breaks check {check}"))
@@ -154,9 +159,10 @@ impl Judging {
     }
 
     fn write_total(&mut self) -> Result<(), Failure> {
-        let Tally { frames, certified, gap, broken, refused, none } = self.tally;
+        let Tally { frames, certified, gap, broken, refused, none, sole } = self.tally;
         self.output.write_line(format_args!(
-            "frames {frames} certified {certified} gap {gap} broken {broken} refused {refused} none {none}"
+            "frames {frames} certified {certified} gap {gap} broken {broken} refused {refused} none {none} \
+             sole {sole}"
         ))
     }
 }

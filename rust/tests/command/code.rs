@@ -34,12 +34,12 @@ fn empty_checks() {
         assert_eq!((folder.text("w").as_str(), folder.text("c").as_str()), ("000\n", "scale 1 1:3333:4\n"));
         folder
             .run(&format!("judge {code} frames w c --quiet"))
-            .says(0, "frame 0 certified\nframes 1 certified 1 gap 0 broken 0 refused 0 none 0\n");
+            .says(0, "frame 0 certified sole\nframes 1 certified 1 gap 0 broken 0 refused 0 none 0 sole 1\n");
     }
     folder.write("c", "scale 1 0:1:1\n");
     folder
         .run("judge alist frames w c --quiet")
-        .says(1, "frame 0 refused 13\nframes 1 certified 0 gap 0 broken 0 refused 1 none 0\n");
+        .says(1, "frame 0 refused 13\nframes 1 certified 0 gap 0 broken 0 refused 1 none 0 sole 0\n");
 }
 
 #[test]

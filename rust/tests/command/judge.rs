@@ -9,12 +9,17 @@ fn judged(words: &str, certificates: &str) -> Done {
     Folder::with(&files).run("judge code frames words certificates")
 }
 
+/// Whether a frame's line calls it certified.
+fn passes(line: &str) -> bool {
+    line.ends_with(" certified") || line.ends_with(" certified sole")
+}
+
 #[test]
 fn what_decode_writes_passes() {
     for (sample, form, total) in [
-        ("hamming", "", "frames 40 certified 38 gap 0 broken 0 refused 0 none 2"),
-        ("array", "--binary", "frames 37 certified 33 gap 0 broken 0 refused 0 none 4"),
-        ("regular", "--binary", "frames 26 certified 23 gap 0 broken 0 refused 0 none 3"),
+        ("hamming", "", "frames 40 certified 38 gap 0 broken 0 refused 0 none 2 sole 38"),
+        ("array", "--binary", "frames 37 certified 33 gap 0 broken 0 refused 0 none 4 sole 20"),
+        ("regular", "--binary", "frames 26 certified 23 gap 0 broken 0 refused 0 none 3 sole 21"),
     ] {
         let folder = Folder::with_sample(sample);
         for out in ["", "--binary-out"] {
@@ -24,19 +29,17 @@ fn what_decode_writes_passes() {
             assert_eq!(done.text().lines().last(), Some(total));
             let report = folder.text("report.txt");
             for (said, reported) in done.text().lines().zip(report.lines().skip(1)) {
-                assert_eq!(
-                    said.ends_with(" certified"),
-                    reported.contains(" certified "),
-                    "{said} {reported}"
-                );
+                assert_eq!(passes(said), reported.contains(" certified "), "{said} {reported}");
             }
+            let sole = done.text().lines().filter(|line| line.ends_with(" certified sole")).count();
+            assert!(total.ends_with(&format!(" sole {sole}")), "{sole}");
         }
     }
 }
 
 #[test]
 fn each_answer_has_its_line() {
-    let words = "000\n000\n000\n000\n100\n000\nnone\n";
+    let words = "000\n000\n000\n000\n100\n000\nnone\n000\n";
     let certificates = [
         "scale 1 0:1999:4",
         "scale 1 0:2000:4",
@@ -45,12 +48,34 @@ fn each_answer_has_its_line() {
         "scale 1 0:2000:4",
         "scale 0 0:2000:4",
         "none",
+        "scale 1 0:3333:4",
     ];
     judged(words, &certificates.join("\n")).says(
         1,
         "frame 0 gap 2\nframe 1 certified\nframe 2 gap 4\nframe 3 certified\nframe 4 breaks check 0\n\
-         frame 5 refused 11\nframe 6 none\nframes 7 certified 2 gap 2 broken 1 refused 1 none 1\n",
+         frame 5 refused 11\nframe 6 none\nframe 7 certified sole\n\
+         frames 8 certified 3 gap 2 broken 1 refused 1 none 1 sole 1\n",
     );
+}
+
+/// The reduced numbers are 4000 times the scale less the multiplier, twice, and the multiplier less 2000 times the
+/// scale. Where one is 0 the mark is missing, and the status is the same.
+#[test]
+fn sole_where_no_reduced_number_is_zero() {
+    for (certificate, sole) in [
+        ("scale 1 0:2000:4", false),
+        ("scale 1 0:2001:4", true),
+        ("scale 1 0:3999:4", true),
+        ("scale 1 0:4000:4", false),
+        ("scale 2 0:4000:4", false),
+        ("scale 2 0:4001:4", true),
+        ("scale 1023 0:4091999:4", true),
+        ("scale 1023 0:4092000:4", false),
+    ] {
+        let (mark, count) = if sole { (" sole", 1) } else { ("", 0) };
+        let total = format!("frames 1 certified 1 gap 0 broken 0 refused 0 none 0 sole {count}");
+        judged("000\n", certificate).says(0, &format!("frame 0 certified{mark}\n{total}\n"));
+    }
 }
 
 #[test]
@@ -65,7 +90,7 @@ fn refusals_by_number() {
         ("000", "scale 1 0:5:8", 13),
         ("000", "scale 1 0:5:4 0:5:1", 14),
     ] {
-        let total = "frames 1 certified 0 gap 0 broken 0 refused 1 none 0";
+        let total = "frames 1 certified 0 gap 0 broken 0 refused 1 none 0 sole 0";
         judged(word, certificate).says(1, &format!("frame 0 refused {number}\n{total}\n"));
     }
 }
@@ -75,12 +100,12 @@ fn refused_frames_with_a_claim() {
     let folder =
         Folder::with(&[("code", THREE), ("words", "000\n000\n"), ("certificates", "scale 1\nscale 1\n")]);
     folder.write("frames", "9000 1 1\n1 1 1\n");
-    let total = "frames 2 certified 1 gap 0 broken 0 refused 1 none 0\n";
+    let total = "frames 2 certified 1 gap 0 broken 0 refused 1 none 0 sole 1\n";
     let done = folder.run("judge code frames words certificates");
-    done.says(1, &format!("frame 0 refused 9\nframe 1 certified\n{total}"));
+    done.says(1, &format!("frame 0 refused 9\nframe 1 certified sole\n{total}"));
     folder.write("frames", [1, 0, 1, 0, 1, 0, 1]);
     let done = folder.run("judge code frames words certificates --binary");
-    done.says(1, &format!("frame 0 certified\nframe 1 refused 8\n{total}"));
+    done.says(1, &format!("frame 0 certified sole\nframe 1 refused 8\n{total}"));
 }
 
 #[test]
@@ -88,7 +113,7 @@ fn binary_claims_that_are_none_of_decode() {
     let folder = Folder::with(&[("code", THREE), ("frames", "4000 4000 -2000\n4000 4000 -2000\n")]);
     let certificate = [1, 0, 1, 0, 0, 0, 0xd0, 0x07, 0, 0, 4, 0, 0, 0];
     let too_many = [&[1, 0x10, 1, 0][..], &[0; 10 * 4097]].concat();
-    let total = "frames 2 certified 1 gap 0 broken 0 refused 1 none 0";
+    let total = "frames 2 certified 1 gap 0 broken 0 refused 1 none 0 sole 0";
     let judge = |words: &[u8], certificates: &[u8], line: &str| {
         folder.write("w", words);
         folder.write("c", certificates);
@@ -119,7 +144,7 @@ fn an_altered_word_or_multiplier_fails() {
         folder.write("c", certificates);
         let done = folder.run("judge code.alist frames w c");
         assert_eq!(done.status, 1);
-        assert_eq!(done.text().lines().filter(|line| line.ends_with(" certified")).count(), 37);
+        assert_eq!(done.text().lines().filter(|line| passes(line)).count(), 37);
         done.text().lines().nth(4).unwrap().to_owned()
     };
     let flipped = altered(&words, &|word| word.replace('0', "x").replace('1', "0").replace('x', "1"));
@@ -151,7 +176,7 @@ fn files_of_different_lengths() {
     let folder =
         Folder::with(&[("code", THREE), ("frames", "1 1 1\n1 1 1\n"), ("w", "000\n"), ("c", "scale 1\n")]);
     let shorter = folder.run("judge code frames w c");
-    shorter.says(1, "frame 0 certified\n");
+    shorter.says(1, "frame 0 certified sole\n");
     shorter.fails(1, "jugnayap: w: nothing for frame 1, which frames has");
     folder.write("w", "000\n000\n");
     folder.run("judge code frames w c").fails(1, "jugnayap: c: nothing for frame 1, which frames has");
@@ -175,7 +200,7 @@ fn what_is_no_word_or_certificate_is_named_by_its_line() {
 #[test]
 fn amplitudes_and_standard_input() {
     let folder = Folder::with(&[("code", THREE), ("words", "000\n"), ("certificates", "scale 1 0:2000:4\n")]);
-    let certified = "frame 0 certified\nframes 1 certified 1 gap 0 broken 0 refused 0 none 0\n";
+    let certified = "frame 0 certified\nframes 1 certified 1 gap 0 broken 0 refused 0 none 0 sole 0\n";
     folder.run_on("4 4 -2\n", "judge code - words certificates --gain 1000").says(0, certified);
     folder.write("frames", "4000,4000,-2000");
     folder.run_on("000\n", "judge code frames - certificates").says(0, certified);

@@ -29,8 +29,8 @@ fn each_frame_is_answered_before_the_next() {
     answered("decode code - --quiet", b"10 10 10\n", code, line);
     answered("decode code - --quiet --gain 10", b"1 1 1\r\n", code, line);
     answered("decode code - --quiet --binary", &[10, 0, 10, 0, 10, 0], code, line);
-    answered("judge code - w c", b"10 10 10\n", None, "certified");
-    answered("judge code - w c --binary", &[10, 0, 10, 0, 10, 0], None, "certified");
+    answered("judge code - w c", b"10 10 10\n", None, "certified sole");
+    answered("judge code - w c --binary", &[10, 0, 10, 0, 10, 0], None, "certified sole");
 }
 
 #[test]

@@ -40,7 +40,8 @@ fn empty_checks_have_no_cut() {
     assert_eq!((run.multipliers(), run.masks()), (&[0, 3333, 0][..], &[0, 4, 0][..]));
     assert_eq!(run.depths(), [0, 4794, 0]);
     assert_eq!(code.search_cut(&[-4096, 4096, 4096], 2), Ok(None));
-    assert_eq!(code.judge(&frame, &found.word, &found.certificate), Ok(Verdict::Certified));
+    let verdict = code.judge(&frame, &found.word, &found.certificate);
+    assert_eq!(verdict, Ok(Verdict::Certified { sole: true }));
     for (entry, refusal) in
         [("0:1:1", Refusal::ENTRY_MASK), ("2:1:0", Refusal::ENTRY_MASK), ("0:0:1", Refusal::ENTRY)]
     {

@@ -70,7 +70,8 @@ fn too_large_a_frame_is_refused() {
 #[test]
 fn scaled_certificates_are_the_frame_s() {
     let mut rng = Rng::new(8);
-    let (mut certified, mut with_cuts, mut unscaled) = (0, 0, 0);
+    let (mut certified, mut sole, mut with_cuts, mut unscaled) = (0, 0, 0, 0);
+    let passes = |verdict| matches!(verdict, Ok(Verdict::Certified { .. }));
     for _ in 0..400 {
         let code = small(&mut rng);
         let mean = rng.between(0, 12) as i16;
@@ -79,14 +80,16 @@ fn scaled_certificates_are_the_frame_s() {
         let scaled = scale::times(k, &frame);
         let Answer::Certified(found) = code.decode(&scaled).unwrap() else { continue };
         let verdict = code.judge(&frame, &found.word, &found.certificate.at_scale(k));
-        assert_eq!(verdict, Ok(Verdict::Certified), "{frame:?} {}", found.certificate);
+        assert!(passes(verdict), "{verdict:?}: {frame:?} {}", found.certificate);
+        assert_eq!(verdict, code.judge(&scaled, &found.word, &found.certificate));
         let agreements = [&frame, &scaled].map(|frame| code.agreement(frame, &found.word).unwrap());
         assert_eq!(agreements[1], i64::from(k) * agreements[0]);
         certified += 1;
+        sole += usize::from(verdict == Ok(Verdict::Certified { sole: true }));
         with_cuts += usize::from(found.certificate.cuts() > 0);
-        unscaled +=
-            usize::from(code.judge(&frame, &found.word, &found.certificate) == Ok(Verdict::Certified));
+        unscaled += usize::from(passes(code.judge(&frame, &found.word, &found.certificate)));
     }
     assert!(certified >= 200 && with_cuts >= 100, "{certified} certified, {with_cuts} with cuts");
+    assert!(sole >= 100, "{sole} sole of {certified}");
     assert!(unscaled < certified - 100, "{unscaled} of {certified} at scale 1 too");
 }

@@ -5,10 +5,11 @@ use lib.ListN.{length}
 use mir.Syntax.{w64}
 use borrow.Author.Needs.{needs}
 use Rattle.integers.specs.Machine.{fit}
+use Rattle.integers.specs.Product.{once}
 use Rattle.integers.specs.Signed64.{less-fits, less-reads}
 use Rattle.rules.specs.Bound.{bound}
 use Rattle.rules.specs.Cut.{negatives}
-use Rattle.rules.proofs.BoundLaws.{once, gap-is}
+use Rattle.rules.proofs.BoundLaws.{gap-is}
 use Rattle.decoder.specs.Closing.{rowsOn}
 use Rattle.decoder.proofs.GapLaws.{rows-fit}
 use Rattle.decoder.proofs.gap.gap_in.Statement.{statement}

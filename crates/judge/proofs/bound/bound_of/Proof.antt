@@ -12,7 +12,7 @@ use Rattle.integers.specs.Machine.{fit}
 use Rattle.integers.specs.Signed64.{sized, plus-fits, plus-reads}
 use Rattle.rules.specs.Limits.{maxBits, scaledLimit, sizeLimit}
 use Rattle.rules.specs.Table.{at}
-use Rattle.rules.proofs.BoundLaws.{each-within, bound-is}
+use Rattle.rules.proofs.BoundLaws.{each-within, reduces, bound-is}
 use Rattle.judge.specs.Rows.{AllPlaced}
 use Rattle.judge.proofs.bound.bound_of.Statement.{statement}
 use Rattle.judge.proofs.bound.bound_of.Tie as tie
@@ -44,6 +44,7 @@ returns c =
     let total = sizes .ensures .0 ∙ ap (λ n. sumTo n (λ i. abs (at (put .last .0) i))) long in (
       sum ∙ bound-is (args .scale) (args .frame .now) (omega arith) (scaled .ensures) (put .ensures .put) total,
       sized sum (within-add (maxBits * sizeLimit) sizeLimit (sizes .result) (put .result) (sizes .ensures .1) (put .ensures .sum)) .1,
+      reduces (args .scale) (args .frame .now) (omega arith) (scaled .ensures) (put .ensures .put),
     )
 
 pub bound-of-spec : {M : Type 1} → statement M

@@ -1,10 +1,9 @@
--- `gap_of` meets its contract: the reduced numbers stand in the first n places of a local array. Assumes nothing.
-use mathlib.Core.Path.{sym, _∙_, ap₂, subst}
+-- `gap_of` meets its contract. Assumes nothing.
+use mathlib.Core.Path.{sym, _∙_, ap, ap₂, subst}
 use Prim.Native.Nat.{_≤_}
 use native.Mathlib.Omega.{arith}
 use lib.IntN.{pos, _*ℤ_}
 use lib.ListN.{length}
-use lib.Seq.{length-take-le}
 use mir.Syntax.{w64}
 use mir.Facts.{toZ-ofZ}
 use borrow.Author.Needs.{needs}
@@ -17,6 +16,7 @@ use Rattle.rules.specs.Certificate.{scaleOf, itemsAt, itemsOf}
 use Rattle.rules.proofs.BoundLaws.{gap-is}
 use Rattle.inputs.proofs.AgreedLaws.{agreed-whole}
 use Rattle.judge.specs.Rows.{AllPlaced, rowsIn}
+use Rattle.judge.proofs.RowLaws.{reduces-read}
 use Rattle.judge.proofs.bound.gap_of.Statement.{statement}
 use Rattle.judge.proofs.bound.gap_of.Tie as tie
 
@@ -24,17 +24,17 @@ bound-of-requires : tie.Need-bound-of-requires
 bound-of-requires c κs =
     let start = c .before .before .before .before .before .before .before in
     let args = start .args in (
-      length-take-le _ _ (omega arith),
-      start .pre .1,
-      subst (λ s. s ≤ maxScale) (sym (c .before .u16-at2 .ensures .0)) (start .pre .2),
-      subst (AllPlaced (length (args .frame .now)) (args .starts .now) (args .members .now) (args .bytes .now)) (sym (c .before .before .u16-at .ensures .0)) (start .pre .3),
+      start .pre .0,
+      start .pre .1 .1,
+      subst (λ s. s ≤ maxScale) (sym (c .before .u16-at2 .ensures .0)) (start .pre .1 .2),
+      subst (AllPlaced (length (args .frame .now)) (args .starts .now) (args .members .now) (args .bytes .now)) (sym (c .before .before .u16-at .ensures .0)) (start .pre .1 .3),
     )
 
 times-requires : tie.Need-times-requires
 times-requires c κs =
     let start = c .before .before .before .before .before .before .before .before .before .before in
     let sum = c .agreement in
-    (omega (arith, c .before .before .before .before .u16-at2 .ensures .0, start .pre .2), sized (toZ-ofZ (fit w64 (sum .result) (sum .ok))) (sum .ensures .1) .1)
+    (omega (arith, c .before .before .before .before .u16-at2 .ensures .0, start .pre .1 .2), sized (toZ-ofZ (fit w64 (sum .result) (sum .ok))) (sum .ensures .1) .1)
 
 sub-result : tie.Need-sub-result
 sub-result c =
@@ -51,11 +51,13 @@ returns c =
     let least = c .before .before .before .bound-of in
     let scale = c .before .before .before .before .before .u16-at2 .ensures .0 in
     let entries = c .before .before .before .before .before .before .u16-at .ensures .0 in
-    let rows = rowsIn (args .starts .now) (args .members .now) in
-    less-reads (fit w64 (least .result) (least .ok)) (fit w64 (c .times .result) (c .times .ok)) (sub-result c)
-    ∙ gap-is (length l) (scaleOf bs) l (rows (itemsOf bs)) (bitsOf (args .word .now))
-    (least .ensures .0 ∙ ap₂ (λ s q. bound (length l) s l (rows (itemsAt bs q 0 q))) scale entries)
-    (c .times .ensures .0 ∙ ap₂ (λ s a. pos s *ℤ a) scale (toZ-ofZ (fit w64 (sum .result) (sum .ok)) ∙ sum .ensures .0 ∙ agreed-whole l (args .word .now) (start .pre .0) (start .pre .1)))
+    let rows = rowsIn (args .starts .now) (args .members .now) in (
+      less-reads (fit w64 (least .result) (least .ok)) (fit w64 (c .times .result) (c .times .ok)) (sub-result c)
+          ∙ gap-is (length l) (scaleOf bs) l (rows (itemsOf bs)) (bitsOf (args .word .now))
+          (least .ensures .0 ∙ ap₂ (λ s q. bound (length l) s l (rows (itemsAt bs q 0 q))) scale entries)
+          (c .times .ensures .0 ∙ ap₂ (λ s a. pos s *ℤ a) scale (toZ-ofZ (fit w64 (sum .result) (sum .ok)) ∙ sum .ensures .0 ∙ agreed-whole l (args .word .now) (start .pre .1 .0) (start .pre .1 .1))),
+      reduces-read scale (ap (λ q. rows (itemsAt bs q 0 q)) entries) (least .ensures .2),
+    )
 
 pub gap-of-spec : {M : Type 1} → statement M
 gap-of-spec =
@@ -63,10 +65,9 @@ gap-of-spec =
     (tie.spec
     (λ c κs. search needs)
     (λ c κs. search needs)
-    (λ c. search needs)
-    (λ c. sym (length-take-le _ _ (omega arith)))
     bound-of-requires
     (λ c κs. tt)
     times-requires
     sub-result
+    (λ c. search needs)
     returns)
