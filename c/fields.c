@@ -131,7 +131,7 @@ static void verdicts(void)
 }
 
 /* The frame (4000, 4000, -2000) and word 000: at scale S and multiplier b the reduced numbers are 4000S - b,
- * 4000S - b and b - 2000S. None is below 0 from b = 2000S to 4000S, and one is 0 at each end. */
+ * 4000S - b and b - 2000S. None is below 0 from b = 2000S to 4000S, and some are 0 at each end. */
 static void marks(void)
 {
     static const struct {

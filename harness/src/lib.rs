@@ -7,6 +7,7 @@ pub mod gen;
 pub mod independent;
 #[cfg(feature = "proved")]
 pub mod proved;
+pub mod seen;
 
 use decoder::Decoder;
 use gen::rng::Rng;

@@ -12,8 +12,8 @@ use harness::gen::state::{Shape, State};
 use harness::independent::certificate::Entry;
 use harness::independent::limits::{certificate_length, ENTRY_LIMIT, ROUND_LIMIT, SIZE_LIMIT};
 use harness::independent::table::{u16_at, Table};
+use harness::seen::{assert_seen, see, Seen};
 use harness::ALL;
-use std::collections::BTreeMap;
 
 /// A code, the same one with empty checks among its own, and the numbers of its own and of the empty ones
 /// there.
@@ -110,19 +110,6 @@ fn same_run(
     (record, narrow)
 }
 
-/// How often something was seen.
-type Seen = BTreeMap<&'static str, u32>;
-
-fn see(seen: &mut Seen, what: &'static str, times: usize) {
-    *seen.entry(what).or_default() += times as u32;
-}
-
-fn assert_seen(seen: &Seen, least: u32, all: &[&str]) {
-    for what in all {
-        assert!(seen.get(what).is_some_and(|&times| times >= least), "{what}: {seen:?}");
-    }
-}
-
 /// A thousand random pairs, each with its own source of numbers.
 fn pairs(series: u64) -> impl Iterator<Item = (Rng, Pair)> {
     (0..1_000).map(move |index| {
@@ -143,11 +130,11 @@ fn runs() {
         for decoder in ALL {
             let (record, state) = same_run(&mut rng, decoder, &pair, &frame, done, &calls);
             let certified = record.status == Record::CERTIFIED;
-            see(&mut seen, "certified", usize::from(certified));
-            see(&mut seen, "spent", usize::from(!certified));
+            see(&mut seen, "certified", certified);
+            see(&mut seen, "spent", !certified);
             if certified {
                 let cuts = usize::from(u16_at(state.certificate.lent(), 0));
-                see(&mut seen, "with cuts", usize::from(cuts > 0));
+                see(&mut seen, "with cuts", cuts > 0);
             }
         }
     }
@@ -181,9 +168,9 @@ fn verdicts() {
             let verdict = decoder.judge(&pair.code, &frame, &word, &certificate);
             assert_eq!(decoder.judge(&pair.wider, &frame, &word, &wider), renumbered(&pair, verdict));
             match verdict.unwrap() {
-                Verdict::Broken(_) => see(&mut seen, "broken", 1),
-                Verdict::Certified { .. } => see(&mut seen, "certified", 1),
-                Verdict::Gap(_) => see(&mut seen, "gap", 1),
+                Verdict::Broken(_) => see(&mut seen, "broken", true),
+                Verdict::Certified { .. } => see(&mut seen, "certified", true),
+                Verdict::Gap(_) => see(&mut seen, "gap", true),
             }
         }
     }
@@ -199,11 +186,11 @@ fn cuts() {
             for (check, &there) in pair.own.iter().enumerate() {
                 let cut = decoder.search_cut(&pair.code, &point, check);
                 assert_eq!(decoder.search_cut(&pair.wider, &point, there), cut);
-                see(&mut seen, cut.unwrap().map_or("none", |_| "cut"), 1);
+                see(&mut seen, cut.unwrap().map_or("none", |_| "cut"), true);
             }
             for &check in pair.empty.iter().take(8) {
                 assert_eq!(decoder.search_cut(&pair.wider, &point, check), Ok(None));
-                see(&mut seen, "empty", 1);
+                see(&mut seen, "empty", true);
             }
         }
     }
@@ -263,12 +250,12 @@ fn all_but_one() {
 fn see_layout(seen: &mut Seen, layout: &[bool]) {
     let empty = layout.iter().filter(|&&has_members| !has_members).count();
     let between = |three: &[bool]| *three == [true, false, true];
-    see(seen, "first", usize::from(!layout[0]));
-    see(seen, "last", usize::from(!layout[layout.len() - 1]));
-    see(seen, "between", usize::from(layout.windows(3).any(between)));
-    see(seen, "in a row", usize::from(layout.windows(3).any(|three| *three == [false; 3])));
-    see(seen, "all but one", usize::from(empty > 0 && empty + 1 == layout.len()));
-    see(seen, "most of 2,048", usize::from(layout.len() == SIZE_LIMIT && 2 * empty > SIZE_LIMIT));
+    see(seen, "first", !layout[0]);
+    see(seen, "last", !layout[layout.len() - 1]);
+    see(seen, "between", layout.windows(3).any(between));
+    see(seen, "in a row", layout.windows(3).any(|three| *three == [false; 3]));
+    see(seen, "all but one", empty > 0 && empty + 1 == layout.len());
+    see(seen, "most of 2,048", layout.len() == SIZE_LIMIT && 2 * empty > SIZE_LIMIT);
 }
 
 /// Entries that name an empty check, by their masks.
@@ -282,7 +269,7 @@ fn see_entries(seen: &mut Seen, layout: &[bool], certificate: &[u8]) {
     for (content, mask) in contents.chunks_exact(6).zip(masks.chunks_exact(4)) {
         if layout.get(usize::from(u16_at(content, 0))) == Some(&false) {
             let ones: u32 = mask.iter().map(|byte| byte.count_ones()).sum();
-            see(seen, if ones == 0 { "mask 0" } else { ["even mask", "odd mask"][ones as usize % 2] }, 1);
+            see(seen, if ones == 0 { "mask 0" } else { ["even mask", "odd mask"][ones as usize % 2] }, true);
         }
     }
 }
@@ -301,7 +288,7 @@ fn series_has_them() {
         let layout = layout_of(&table);
         see_layout(&mut seen, &layout);
         match &case {
-            Case::Cut { check, .. } => see(&mut seen, "cut", usize::from(layout.get(*check) == Some(&false))),
+            Case::Cut { check, .. } => see(&mut seen, "cut", layout.get(*check) == Some(&false)),
             Case::Judge { certificate, .. } => see_entries(&mut seen, &layout, certificate),
             _ => {}
         }

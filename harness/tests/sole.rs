@@ -10,8 +10,8 @@ use harness::gen::rng::Rng;
 use harness::independent::certificate::{parse, Entry};
 use harness::independent::limits::{MULTIPLIER_LIMIT, SIZE_LIMIT};
 use harness::independent::table::Table;
+use harness::seen::{assert_seen, see, Seen};
 use harness::ALL;
-use std::collections::BTreeMap;
 
 const SOLE: Verdict = Verdict::Certified { sole: true };
 const CERTIFIED: Verdict = Verdict::Certified { sole: false };
@@ -150,19 +150,6 @@ fn a_single_zero() {
             frame[zero.min(bits - 1)] = 0;
             judged(&checks, &frame, &word, &none, CERTIFIED);
         }
-    }
-}
-
-/// How often something was seen.
-type Seen = BTreeMap<&'static str, u32>;
-
-fn see(seen: &mut Seen, what: &'static str, times: bool) {
-    *seen.entry(what).or_default() += u32::from(times);
-}
-
-fn assert_seen(seen: &Seen, least: u32, all: &[&str]) {
-    for what in all {
-        assert!(seen.get(what).is_some_and(|&times| times >= least), "{what}: {seen:?}");
     }
 }
 

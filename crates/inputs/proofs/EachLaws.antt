@@ -16,7 +16,7 @@ use Rattle.rules.specs.Input.{eachWithin}
 -- test is that of one element, each that of a list, as `eachWithin` and `eachBit` compute
 module _ {A : Type 0} (d : A) (test : A → Bool) (each : List A → Bool) (nil : each [] ≡ true)
     (cons : (x : A) (xs : List A) → each (x ∷ xs) ≡ (test x && each xs)) (l : List A) (i : ℕ) where
-  one-more : i < length l → each (drop i l) ≡ (test (getD l i d) && each (drop (i + 1) l))
+  pub one-more : i < length l → each (drop i l) ≡ (test (getD l i d) && each (drop (i + 1) l))
   one-more h = ap each (drop-cons l i d h) ∙ cons (getD l i d) (drop (suc i) l) ∙ ap (λ k. test (getD l i d) && each (drop k l)) (sym (add-one i))
 
   pub each-fails : i < length l → test (getD l i d) ≡ false → each (drop i l) ≡ false
@@ -27,31 +27,6 @@ module _ {A : Type 0} (d : A) (test : A → Bool) (each : List A → Bool) (nil 
 
   pub each-end : length l ≤ i → each (drop i l) ≡ true
   each-end h = ap each (drop-of-length-le l h) ∙ nil
-
--- ---- a test that goes to the end: all pass exactly if those so far do, and those that are left
-pub record SoFar (all so-far left : Bool) : Type 0 where
-  pub both : all ≡ (so-far && left)
-
-pub so-far-none : {all : Bool} → SoFar all true all
-so-far-none = record { both = refl }
-
-and-false : (a : Bool) → a && false ≡ false
-and-false true = refl
-and-false false = refl
-
-and-true : (a : Bool) → a && true ≡ a
-and-true true = refl
-and-true false = refl
-
-module _ {all so-far left : Bool} (h : SoFar all so-far left) where
-  pub one-failed : {next rest : Bool} → left ≡ false → next ≡ false → SoFar all next rest
-  one-failed {next} {rest} e f = record { both = h .both ∙ ap (λ b. so-far && b) e ∙ and-false so-far ∙ ap (λ b. b && rest) (sym f) }
-
-  pub one-held : {next rest : Bool} → left ≡ rest → next ≡ so-far → SoFar all next rest
-  one-held {next} {rest} e f = record { both = h .both ∙ ap (λ b. so-far && b) e ∙ ap (λ b. b && rest) (sym f) }
-
-  pub none-left : left ≡ true → so-far ≡ all
-  none-left e = sym (h .both ∙ ap (λ b. so-far && b) e ∙ and-true so-far)
 
 -- ---- numbers from −k to k
 pub within-end : (k : ℕ) (l : List ℤ) (i : ℕ) → length l ≤ i → eachWithin k (drop i l) ≡ true

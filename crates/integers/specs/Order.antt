@@ -16,12 +16,22 @@ le-trans a b c = simp lin (omega arithZ)
 pub le-antisym : (a b : ℤ) → a ⩽ b → b ⩽ a → a ≡ b
 le-antisym a b = simp lin (omega arithZ)
 
+pub le-of-eq : (a b : ℤ) → a ≡ b → a ⩽ b
+le-of-eq a b = simp lin (omega arithZ)
+
 pub le-or-lt : (a b : ℤ) → (a ≤ℤ b) ⊎ (b <ℤ a)
 le-or-lt a b = go (decLe (up a + dn b) (up b + dn a))
   where
     go : Dec (up a + dn b ≤ up b + dn a) → (a ≤ℤ b) ⊎ (b <ℤ a)
     go (yes h) = inl (le-in h)
     go (no f) = inr (lt-in (lt-of-not-le f))
+
+pub nle-lt : (a b : ℤ) → (b ⩽ a → ⊥) → a <ℤ b
+nle-lt a b f = go (le-or-lt b a)
+  where
+    go : (b ≤ℤ a) ⊎ (a <ℤ b) → a <ℤ b
+    go (inl h) = absurd (f h)
+    go (inr h) = h
 
 pub le-total : (a b : ℤ) → (a ≤ℤ b) ⊎ (b ≤ℤ a)
 le-total a b = go (le-or-lt a b)

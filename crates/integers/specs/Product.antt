@@ -8,7 +8,7 @@ use native.Mathlib.Nat.{mul-le-mul-left, mul-le-mul-right, le-trans}
 use lib.IntN.{ℤ, pos, negsuc, negℤ, _+ℤ_, _*ℤ_, *ℤ-comm, natAbs}
 use lib.Signed.{_≤ℤ_, _<ℤ_}
 use Rattle.integers.specs.Linear.{up, dn, up-neg, dn-neg, sum-lin, eq-in, le-in, le-out, lin, arithZ, _⩽_, Within}
-use Rattle.integers.specs.Order.{le-or-lt, le-antisym}
+use Rattle.integers.specs.Order.{le-or-lt, le-of-eq, le-antisym, pos-le}
 
 pub mul-lin : (x y : ℤ) → up (x *ℤ y) + (up x * dn y + dn x * up y) ≡ dn (x *ℤ y) + (up x * up y + dn x * dn y)
 mul-lin (pos a) (pos b) = omega arith
@@ -103,18 +103,12 @@ mul-cancel-le k x y h e = go (le-or-lt x y)
     over : (a b c : ℤ) (k : ℕ) → 1 ≤ k → a ⩽ b → c ⩽ a → c ≡ b +ℤ pos k → ⊥
     over a b c k = simp lin (omega arithZ)
 
-    nonneg : (k : ℕ) → pos 0 ⩽ pos k
-    nonneg k = simp lin (omega arithZ)
-
     go : (x ≤ℤ y) ⊎ (y <ℤ x) → x ⩽ y
     go (inl p) = p
-    go (inr p) = absurd (over (pos k *ℤ x) (pos k *ℤ y) (pos k *ℤ (y +ℤ pos 1)) k h e (mul-mono (pos k) (y +ℤ pos 1) x (nonneg k) (next x y p)) (spread (pos k) y))
+    go (inr p) = absurd (over (pos k *ℤ x) (pos k *ℤ y) (pos k *ℤ (y +ℤ pos 1)) k h e (mul-mono (pos k) (y +ℤ pos 1) x (pos-le 0 k (omega arith)) (next x y p)) (spread (pos k) y))
 
 cancel-pos : (k : ℕ) (x y : ℤ) → pos (suc k) *ℤ x ≡ pos (suc k) *ℤ y → x ≡ y
-cancel-pos k x y e = le-antisym x y (mul-cancel-le (suc k) x y (omega arith) (same _ _ e)) (mul-cancel-le (suc k) y x (omega arith) (same _ _ (sym e)))
-  where
-    same : (a b : ℤ) → a ≡ b → a ⩽ b
-    same a b = simp lin (omega arithZ)
+cancel-pos k x y e = le-antisym x y (mul-cancel-le (suc k) x y (omega arith) (le-of-eq _ _ e)) (mul-cancel-le (suc k) y x (omega arith) (le-of-eq _ _ (sym e)))
 
 neg-inj : (a b : ℤ) → negℤ a ≡ negℤ b → a ≡ b
 neg-inj a b = simp lin (omega arithZ)

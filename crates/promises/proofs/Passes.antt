@@ -80,7 +80,7 @@ pub record Judges (t : Table) (x : RoundsCall) (y : JudgeCall) : Type 0 where
   pub word : judgesWord y ≡ take (t .bits) (leftBy x .word)
   pub certificate : judgesCertificate y ≡ certificateIn (leftBy x .certificate)
 
--- where the call for rounds answers certified, so does the judge, with that mark
+-- where the call for rounds answers certified, so does the judge, with the mark of the certificate's reduced numbers
 abbrev pub WrittenPasses : Type 0
 WrittenPasses = (t : Table) (x : RoundsCall) (y : JudgeCall) → codeFile (roundsFile x) ≡ gives t → Judges t x y → x .result .outcome ≡ out.Certified → y .result ≡ Certified (judgesMark t y)
 

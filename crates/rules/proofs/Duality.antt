@@ -12,7 +12,7 @@ use borrow.Author.Tests.{eqb-true}
 use lib.ListN.{length, getD}
 use lib.IntN.{ℤ, pos, negsuc, negℤ, _+ℤ_, _-ℤ_, _*ℤ_, *ℤ-zero}
 use Rattle.integers.specs.Linear.{lin, arithZ, _⩽_, Within}
-use Rattle.integers.specs.Order.{sub-zero}
+use Rattle.integers.specs.Order.{sub-zero, pos-le}
 use Rattle.integers.specs.Product.{ring, abs, mul-mono, mul-cancel-le, *ℤ-+ℤ, *ℤ-left-comm}
 use Rattle.integers.specs.Sum.{AllWithin, sumTo, sumTo-add, sumTo-zero, sumTo-times, sumTo-abs, sumTo-tight, pick, pick-one}
 use Rattle.rules.specs.Table.{at, bit, bitsAt, valuesAt}
@@ -101,11 +101,8 @@ row-low d k l s = simp ring (omega arithZ)
 
 row-pays : (n d : ℕ) (P : ℕ → ℤ) (r : Row) → Kept n d P r → pos (r .multiplier) *ℤ negℤ (pos d *ℤ (pos (length (r .members)) -ℤ pos 2)) ⩽ value P (r .members) (weights (r .multiplier) (r .set))
 row-pays n d P r h = subst (λ v. pos (r .multiplier) *ℤ negℤ (pos d *ℤ (pos (length (r .members)) -ℤ pos 2)) ⩽ v) (sym (value-is (r .multiplier) P (r .members) (r .set) (h .long)))
-    (mul-mono (pos (r .multiplier)) (negℤ (pos d *ℤ (pos (length (r .members)) -ℤ pos 2))) (sides (r .set) (valuesAt P (r .members))) (record { le = le0 (r .multiplier) })
+    (mul-mono (pos (r .multiplier)) (negℤ (pos d *ℤ (pos (length (r .members)) -ℤ pos 2))) (sides (r .set) (valuesAt P (r .members))) (pos-le 0 (r .multiplier) (omega arith))
     (row-low d (length (r .members)) (left d (r .set) (valuesAt P (r .members))) (sides (r .set) (valuesAt P (r .members))) (h .keeps) (left-is d P (r .members) (r .set) (h .long))))
-  where
-    le0 : (b : ℕ) → lib.Dec.T (lib.Signed.leZ (pos 0) (pos b))
-    le0 b = lib.Dec.le→leb 0 b (omega arith)
 
 rows-step : (d b k v s p : ℤ) → b *ℤ negℤ (d *ℤ k) ⩽ v → negℤ (d *ℤ p) ⩽ s → negℤ (d *ℤ (b *ℤ k +ℤ p)) ⩽ v +ℤ s
 rows-step d b k v s p = simp ring (omega arithZ)
@@ -142,14 +139,14 @@ both-sides n k l P rs = ap (sumTo n) (fun-ext (λ i. each (P i) (pos k) (at l i)
     each p k a b = simp ring (omega arithZ)
 
 -- what the numbers P leave in the box, weighed by the sizes of r: D Σ |r| − Σ P r
-abbrev pub slack : ℕ → ℕ → (ℕ → ℤ) → (ℕ → ℤ) → ℤ
+abbrev slack : ℕ → ℕ → (ℕ → ℤ) → (ℕ → ℤ) → ℤ
 slack n d P r = pos d *ℤ sumTo n (λ i. abs (r i)) -ℤ sumTo n (λ i. P i *ℤ r i)
 
 slack-step : (d s x y a p : ℤ) → s ≡ x +ℤ y → negℤ (d *ℤ p) ⩽ y → x +ℤ (d *ℤ a -ℤ s) ⩽ d *ℤ (a +ℤ p)
 slack-step d s x y a p = simp ring (omega arithZ)
 
 -- k Σ l P + slack ≤ D · bound, in the box or not
-pub duality : (n d k : ℕ) (l : List ℤ) (P : ℕ → ℤ) (rs : List Row) → AllKept n d P rs
+duality : (n d k : ℕ) (l : List ℤ) (P : ℕ → ℤ) (rs : List Row) → AllKept n d P rs
     → pos k *ℤ spinSum n l P +ℤ slack n d P (reduced k l rs) ⩽ pos d *ℤ bound n k l rs
 unfolding bound
 duality n d k l P rs h = slack-step (pos d) (sumTo n (λ i. P i *ℤ reduced k l rs i)) (pos k *ℤ spinSum n l P)
@@ -177,11 +174,8 @@ optimal n d k l P rs w pk box h g = mul-cancel-le k (spinSum n l P) (pos d *ℤ 
 pub tight : (n d k : ℕ) (l : List ℤ) (P : ℕ → ℤ) (rs : List Row) (w : List Bool) → InBox d P → AllKept n d P rs → gap n k l rs w ≡ pos 0
     → pos d *ℤ agreement n l w ⩽ spinSum n l P → (i : ℕ) → i < n → P i *ℤ reduced k l rs i ≡ pos d *ℤ abs (reduced k l rs i)
 tight n d k l P rs w box h g e = sumTo-tight d n P (reduced k l rs) box
-    (none-left _ _ _ _ _ (duality n d k l P rs h) (closed n d k l rs w g) (mul-mono (pos k) (pos d *ℤ agreement n l w) (spinSum n l P) (pos-nonneg k) e))
+    (none-left _ _ _ _ _ (duality n d k l P rs h) (closed n d k l rs w g) (mul-mono (pos k) (pos d *ℤ agreement n l w) (spinSum n l P) (pos-le 0 k (omega arith)) e))
   where
-    pos-nonneg : (k : ℕ) → pos 0 ⩽ pos k
-    pos-nonneg k = simp lin (omega arithZ)
-
     none-left : (x a s b y : ℤ) → x +ℤ (a -ℤ s) ⩽ b → b ≡ y → y ⩽ x → a ⩽ s
     none-left x a s b y = simp lin (omega arithZ)
 

@@ -203,7 +203,7 @@ abbrev pub soleRead : Table → List ℤ → List ℕ → Bool
 soleRead t l bs = sole (t .bits) (scaleOf bs) l (rowsAt t (itemsOf bs))
 
 -- what is known of a word and a certificate that pass
-pub record Closed (t : Table) (l : List ℤ) (w bs : List ℕ) (m : Bool) : Type 0 where
+record Certain (t : Table) (l : List ℤ) (w bs : List ℕ) (m : Bool) : Type 0 where
   pub isCodeword : Codeword t (bitsOf w)
   pub scale : 1 ≤ scaleOf bs
   pub implied : Implied t (rowsAt t (itemsOf bs))
@@ -211,12 +211,12 @@ pub record Closed (t : Table) (l : List ℤ) (w bs : List ℕ) (m : Bool) : Type
   pub mark : soleRead t l bs ≡ m
 
 module _ (file : List ℕ) (l : List ℤ) (w bs : List ℕ) (t : Table) (isFile : codeFile file ≡ gives t) where
-  judge-closed : (m : Bool) → judge file l w bs ≡ gives (passes m) → Closed t l w bs m
+  judge-certain : (m : Bool) → judge file l w bs ≡ gives (passes m) → Certain t l w bs m
   unfolding verdict
-  judge-closed m e =
+  judge-certain m e =
       let j = judged file l w bs (passes m) e in
       let p = weigh-passes (firstBroken 0 (bitsOf w) (j .table .checks)) (gapRead (j .table) l w bs) (soleRead (j .table) l bs) m (j .says) in
-      subst (λ x. Closed x l w bs m) (gives-inj (j .table) t (sym (j .isFile) ∙ isFile)) (record {
+      subst (λ x. Certain x l w bs m) (gives-inj (j .table) t (sym (j .isFile) ∙ isFile)) (record {
         isCodeword = record { size = j .word; even = none-broken 0 (bitsOf w) (j .table .checks) (p .0) };
         scale = j .scale;
         implied = j .implied;
@@ -226,18 +226,18 @@ module _ (file : List ℕ) (l : List ℤ) (w bs : List ℕ) (t : Table) (isFile 
 
   -- whatever is known of the mark, it is that of the certificate's own reduced numbers
   pub judge-marked : (m : Bool) → judge file l w bs ≡ gives (passes m) → judge file l w bs ≡ gives (passes (soleRead t l bs))
-  judge-marked m e = e ∙ ap (λ b. gives (passes b)) (sym (judge-closed m e .mark))
+  judge-marked m e = e ∙ ap (λ b. gives (passes b)) (sym (judge-certain m e .mark))
 
   -- "certified" is beyond doubt
   pub judge-best : (m : Bool) → judge file l w bs ≡ gives (passes m) → Best t l (bitsOf w)
   judge-best m e =
-      let c = judge-closed m e in
+      let c = judge-certain m e in
       gap-optimal t (scaleOf bs) l (rowsAt t (itemsOf bs)) (c .implied) (bitsOf w) (c .scale) (c .isCodeword) (c .noGap)
 
   -- and so is its mark
   pub judge-sole : judge file l w bs ≡ gives (passes true) → SoleWinner t l (bitsOf w)
   judge-sole e =
-      let c = judge-closed true e in
+      let c = judge-certain true e in
       sole-winner t (scaleOf bs) l (rowsAt t (itemsOf bs)) (c .implied) (bitsOf w) (c .isCodeword) (c .noGap) (c .mark)
 
 positive : (g : ℤ) → pos 0 ⩽ g → isZero g ≡ false → pos 0 <ℤ g

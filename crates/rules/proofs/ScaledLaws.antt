@@ -152,12 +152,12 @@ module _ (file : List ℕ) (k : ℕ) (l : List ℤ) where
 
   -- ---- a call for rounds on k times the frame
   -- the certificate that stands in the buffers afterwards, at scale k
-  abbrev pub scaledAfter : Called → List ℕ
-  scaledAfter d = atScale k (certificateIn (d .run .buffers .certificate))
+  abbrev certificateAfter : Called → List ℕ
+  certificateAfter d = atScale k (certificateIn (d .run .buffers .certificate))
 
   -- the judge certifies by it, for the frame, the word that stands there, with the mark of the reduced numbers
   abbrev pub ScaledAfter : Table → Called → Type 0
-  ScaledAfter t d = judge file l (take (t .bits) (d .run .buffers .word)) (scaledAfter d) ≡ gives (passes (soleRead t l (scaledAfter d)))
+  ScaledAfter t d = judge file l (take (t .bits) (d .run .buffers .word)) (certificateAfter d) ≡ gives (passes (soleRead t l (certificateAfter d)))
 
   module _ (v : ℕ) (r : Run) (t : Table) (isFile : codeFile file ≡ gives t) where
     pub call-scaled : 1 ≤ k → k ≤ maxScale → call file (times k l) v r .answer ≡ gives certified → ScaledAfter t (call file (times k l) v r)

@@ -2,7 +2,6 @@
 -- strictly smaller agreement. Of any rows that the table's own inequalities imply, whoever chose them. Assumes nothing.
 use mathlib.Core.Path.{_≡_, refl, sym, _∙_, ap, ap₂}
 use mathlib.Core.Bool.{Bool, true, false, not, _&&_, false≢true}
-use mathlib.Core.Logic.{_⊎_, inl, inr}
 use mathlib.Core.List.{List, [], _∷_}
 use Prim.Native.Nat.{ℕ, zero, suc, _+_, _<_}
 use native.Mathlib.Omega.{arith}
@@ -10,10 +9,10 @@ use native.Mathlib.Nat.{not-suc-le-zero, zero-lt-suc, suc-le-suc-iff, le-step, l
 use native.Mathlib.Numerals.{add-one}
 use native.Mathlib.Decide.{ℕ-discrete}
 use lib.ListN.{length}
+use borrow.Author.Tests.{not-true}
 use lib.IntN.{ℤ, pos, _*ℤ_}
-use lib.Signed.{_≤ℤ_, _<ℤ_}
 use Rattle.integers.specs.Linear.{arithZ, _⩽_}
-use Rattle.integers.specs.Order.{le-or-lt}
+use Rattle.integers.specs.Order.{le-of-eq, nle-lt}
 use Rattle.integers.specs.Product.{ring, once, abs, mul-cancel, *ℤ-assoc}
 use Rattle.rules.specs.Table.{Table, at, bit}
 use Rattle.rules.specs.Parity.{turn, pointAgreement, Codeword, agreement}
@@ -26,11 +25,7 @@ use Rattle.rules.proofs.Duality.{AllKept, InBox, spinSum, tight, spinsO
 use Rattle.rules.proofs.Optimal.{Implied, word-kept, within-at}
 
 -- ---- none of n numbers is 0
-not-true : (b : Bool) → not b ≡ true → b ≡ true → ⊥
-not-true true e f = false≢true e
-not-true false e f = false≢true f
-
-pub none-zero-at : (n : ℕ) (f : ℕ → ℤ) → noneZero n f ≡ true → (i : ℕ) → i < n → f i ≡ pos 0 → ⊥
+none-zero-at : (n : ℕ) (f : ℕ → ℤ) → noneZero n f ≡ true → (i : ℕ) → i < n → f i ≡ pos 0 → ⊥
 none-zero-at zero f e i h z = not-suc-le-zero h
 none-zero-at (suc n) f e i h z = go (ℕ-discrete i n) (λ k. none-zero-at n f (both .1) i k z)
   where
@@ -38,7 +33,7 @@ none-zero-at (suc n) f e i h z = go (ℕ-discrete i n) (λ k. none-zero-at n f (
     both = and-both (not (isZero (f n))) (noneZero n f) e
 
     go : Dec (i ≡ n) → (i < n → ⊥) → ⊥
-    go (yes p) ih = not-true (isZero (f n)) (both .0) (is-zero (f n) (ap f (sym p) ∙ z))
+    go (yes p) ih = false≢true (sym (not-true (isZero (f n)) (both .0)) ∙ is-zero (f n) (ap f (sym p) ∙ z))
     go (no p) ih = ih (omega arith)
 
 -- the same numbers below n
@@ -84,43 +79,31 @@ own-word (a ∷ c) (b ∷ w) e h = ap₂ _∷_ (turn-inj a b (h 0 (zero-lt-suc (
 -- ---- the mark's claim
 module _ (t : Table) (s : ℕ) (l : List ℤ) (rs : List Row) (implied : Implied t rs) (w : List Bool) (isWord : Codeword t w)
     (g : gap (t .bits) s l rs w ≡ pos 0) (m : sole (t .bits) s l rs ≡ true) where
+  -- a word that does as well, by its spins
+  as-spins : (c : List Bool) → agreement (t .bits) l w ⩽ agreement (t .bits) l c → pos 1 *ℤ agreement (t .bits) l w ⩽ spinSum (t .bits) l (spinsOf c)
+  as-spins c h = go (agreement (t .bits) l w) (agreement (t .bits) l c) (spinSum (t .bits) l (spinsOf c)) h (agreement-is (t .bits) l c)
+    where
+      go : (a b x : ℤ) → a ⩽ b → x ≡ b → pos 1 *ℤ a ⩽ x
+      go a b x = simp ring (omega arithZ)
+
   -- what does as well as the word has its spins
   own-spins : (d : ℕ) (P : ℕ → ℤ) → InBox d P → AllKept (t .bits) d P rs → pos d *ℤ agreement (t .bits) l w ⩽ spinSum (t .bits) l P
       → (i : ℕ) → i < t .bits → P i ≡ turn (bit w i) (pos d)
   unfolding sole
   own-spins d P box k h i below = same-spin (pos d) (reduced s l rs i) (P i) (spinsOf w i) (none-zero-at (t .bits) (reduced s l rs) m i below)
       (tight (t .bits) d s l P rs w box k g h i below)
-      (tight (t .bits) 1 s l (spinsOf w) rs w (spins-within w) (word-kept t rs implied w (isWord .even)) g itself i below)
+      (tight (t .bits) 1 s l (spinsOf w) rs w (spins-within w) (word-kept t rs implied w (isWord .even)) g (as-spins w (le-of-eq (agreement (t .bits) l w) (agreement (t .bits) l w) refl)) i below)
       ∙ times-turn (bit w i) (pos d)
-    where
-      itself : pos 1 *ℤ agreement (t .bits) l w ⩽ spinSum (t .bits) l (spinsOf w)
-      itself = as-well (agreement (t .bits) l w) (spinSum (t .bits) l (spinsOf w)) (agreement-is (t .bits) l w)
-        where
-          as-well : (a b : ℤ) → b ≡ a → pos 1 *ℤ a ⩽ b
-          as-well a b = simp ring (omega arithZ)
-
-  less : (a b : ℤ) → (b ⩽ a → ⊥) → a <ℤ b
-  less a b f = go (le-or-lt b a)
-    where
-      go : (b ≤ℤ a) ⊎ (a <ℤ b) → a <ℤ b
-      go (inl h) = absurd (f h)
-      go (inr h) = h
 
   pub sole-winner : SoleWinner t l w
   unfolding pointAgreement
   sole-winner = record {
     isCodeword = isWord;
-    overCodewords = λ c k other. less (agreement (t .bits) l c) (agreement (t .bits) l w) (λ h. other (own-word c w (k .size ∙ sym (isWord .size))
+    overCodewords = λ c k other. nle-lt (agreement (t .bits) l c) (agreement (t .bits) l w) (λ h. other (own-word c w (k .size ∙ sym (isWord .size))
         (λ i j. own-spins 1 (spinsOf c) (spins-within c) (word-kept t rs implied c (k .even)) (as-spins c h) i (below j))));
-    overPoints = λ d p k other. less (pointAgreement (t .bits) l p) (pos d *ℤ agreement (t .bits) l w) (λ h. other (own-point d p w (k .size ∙ sym (isWord .size))
+    overPoints = λ d p k other. nle-lt (pointAgreement (t .bits) l p) (pos d *ℤ agreement (t .bits) l w) (λ h. other (own-point d p w (k .size ∙ sym (isWord .size))
         (λ i j. own-spins d (at p) (within-at d p (k .box)) (implied d (at p) (k .keeps)) h i (below j))));
   }
     where
       below : {i : ℕ} → i < length w → i < t .bits
       below {i} h = omega (arith, isWord .size)
-
-      as-spins : (c : List Bool) → agreement (t .bits) l w ⩽ agreement (t .bits) l c → pos 1 *ℤ agreement (t .bits) l w ⩽ spinSum (t .bits) l (spinsOf c)
-      as-spins c h = go (agreement (t .bits) l w) (agreement (t .bits) l c) (spinSum (t .bits) l (spinsOf c)) h (agreement-is (t .bits) l c)
-        where
-          go : (a b x : ℤ) → a ⩽ b → x ≡ b → pos 1 *ℤ a ⩽ x
-          go a b x = simp ring (omega arithZ)

@@ -1,6 +1,6 @@
 -- What a test that holds, or fails, makes of a conjunction and of an answer. Assumes nothing.
-use mathlib.Core.Path.{_≡_, sym, _∙_, ap}
-use mathlib.Core.Bool.{Bool, true, false, _&&_, and-assoc, and-true}
+use mathlib.Core.Path.{_≡_, ap}
+use mathlib.Core.Bool.{Bool, true, false, _&&_}
 use mathlib.Core.List.{List, []}
 use Prim.Native.Nat.{ℕ}
 use lib.IntN.{ℤ}
@@ -11,13 +11,6 @@ and-fails a b e = ap (λ x. x && b) e
 
 pub and-holds : (a b : Bool) → a ≡ true → a && b ≡ b
 and-holds a b e = ap (λ x. x && b) e
-
--- ---- a loop that keeps whether all before were right, and has no early end
-pub and-more : (all r rest more : Bool) {whole : Bool} → whole ≡ (r && rest) → more ≡ (all && r) → (all && whole) ≡ (more && rest)
-and-more all r rest more e q = ap (λ b. all && b) e ∙ sym (and-assoc all r rest) ∙ ap (λ b. b && rest) (sym q)
-
-pub and-end : (all : Bool) {rest : Bool} → rest ≡ true → (all && rest) ≡ all
-and-end all e = ap (λ b. all && b) e ∙ and-true all
 
 module _ {A : Type 0} (f : A → List ℤ) (b : Bool) (k : ℕ) (a : Answer A) where
   pub must-fails : b ≡ false → replyOf f (must b k a) ≡ record { number = k; values = [] }

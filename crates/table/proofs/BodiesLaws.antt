@@ -9,7 +9,7 @@ use lib.Dec.{leb, ltb}
 use Rattle.integers.specs.Count.{left-more}
 use Rattle.rules.specs.Bytes.{u16At}
 use Rattle.rules.specs.CodeFile.{Content, contentAt, numbersAt, bodies, ascends, membersRight}
-use Rattle.table.proofs.AnswerLaws.{and-more, and-end}
+use Rattle.rules.proofs.Basics.{and-more, and-end}
 use Rattle.table.proofs.ContentsLaws.{contentsFrom, contents-more, contents-end}
 
 -- ---- numbers from a byte on

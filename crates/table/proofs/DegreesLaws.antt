@@ -14,7 +14,7 @@ use Rattle.rules.specs.Limits.{maxBits, maxBitDegree}
 use Rattle.rules.specs.Bytes.{u16At}
 use Rattle.rules.specs.Table.{degreeOf}
 use Rattle.rules.specs.CodeFile.{inRange, numbersAt, bitsRight}
-use Rattle.table.proofs.AnswerLaws.{and-more, and-end}
+use Rattle.rules.proofs.Basics.{and-more, and-end}
 use Rattle.table.proofs.BodiesLaws.{numbersFrom, numbers-more, numbers-end, numbers-all}
 use Rattle.rules.proofs.FileLaws.{numbers-length}
 
