@@ -4,7 +4,7 @@
     cut.py          parity inequalities, cut search, multiplier
     certificate.py  certificates, dual bound, gap, judge,      refusals 10-14
                     syndrome and agreement of a word
-    rounds.py       the start, one round, the call for rounds  refusals 17, 41-43
+    rounds.py       the start, one round, the call for rounds  refusals 17, 41-44
     report.py       the frame report
 
 As a program it is the frame report: `python3 reference/decoder.py < input`.

@@ -1,7 +1,8 @@
 """Kind case_calls: starts and calls for rounds on a record and buffers that are carried on.
 
 Document 01, 'One round' and 'Turned down because of how the run stands'.  The layout of the
-records is that of call_script.py.
+records is that of call_script.py.  Refusal 44 can't be had: the offsets that 43 lets through
+keep every multiplier at or below 8,388,608.
 """
 
 import make_scripts as scripts

@@ -14,6 +14,7 @@ from table import UNIT, refuse_if
 
 ROUNDS_LIMIT = 1024
 OFFSET_PER_ROUND = 8192
+MULTIPLIER_LIMIT = certificate.MULTIPLIER_LIMIT
 
 RUNNING, CERTIFIED, SPENT = "running", "certified", "spent"
 
@@ -89,14 +90,14 @@ def settle_check(values):
 
 
 def one_round(code, frame, offsets, sums):
-    """Steps 1 to 3 from E offsets and n sums.  Of the copies a round needs nothing that the sums
-    don't tell.  No offset that 43 lets through makes a multiplier above 8,192 x 1,024, so there
-    is nothing to refuse here (test_multipliers.py)."""
+    """Steps 1 to 3 from E offsets and n sums, or refusal 44.  Of the copies a round needs
+    nothing that the sums don't tell."""
     spins = spins_of_bits(code, frame, sums)
     result = Round(spins, [], [], [], [], [], [])
     for start, members in zip(code.starts, code.checks):
         values = [spins[bit] + offsets[start + k] for k, bit in enumerate(members)]
         new_copies, multiplier, mask, depth = settle_check(values)
+        refuse_if(multiplier > MULTIPLIER_LIMIT, 44)
         result.copies.extend(new_copies)
         result.offsets.extend(value - copy for value, copy in zip(values, new_copies))
         result.multipliers.append(multiplier)
@@ -179,10 +180,10 @@ def show_round(done, lent):
 
 
 def rounds(code_file, frame, record, wanted, lent):
-    """The call for rounds.  Answers the run's status, or a refusal 1-9, 17, 41, 42, 43.
+    """The call for rounds.  Answers the run's status, or a refusal 1-9, 17, 41, 42, 43, 44.
 
-    Every refusal comes before the first round, so a refused call leaves record and buffers as
-    they were.
+    Record and buffers change only with a counted round: a round refused with 44 is worked
+    out aside, so the last counted one is still what they show.
     """
     code = table.parse_code_file(code_file)
     table.check_frame(code, frame)

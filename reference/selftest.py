@@ -16,7 +16,6 @@ import test_empty
 import test_examples
 import test_from_above
 import test_kinds
-import test_multipliers
 import test_mutants
 import test_optimal
 import test_refusals
@@ -27,8 +26,8 @@ import test_sums
 from support import Account
 
 PARTS = [test_examples, test_division, test_search, test_optimal, test_soles, test_sole_cases,
-         test_calls, test_sums, test_depths, test_from_above, test_multipliers, test_edges,
-         test_empty, test_refusals, test_kinds, test_mutants]
+         test_calls, test_sums, test_depths, test_from_above, test_edges, test_empty, test_refusals,
+         test_kinds, test_mutants]
 
 
 def run_test(test, account):

@@ -68,7 +68,7 @@ class Run:
         kept, before = copy.deepcopy((self.record, lent)), self.record.rounds_done
         got = decoder.answer(decoder.rounds, self.code_file, self.frame, self.record,
                              call.wanted, lent)
-        if "refused" in got:
+        if "refused" in got and got != "refused 44":
             expect_equal((self.record, lent), kept, f"record and buffers after {got}")
         self.expect_tails_kept()
         certified = got == CERTIFIED

@@ -4,6 +4,7 @@ import copy
 import math
 from bisect import bisect_left
 from fractions import Fraction
+from unittest import mock
 
 import certificate
 import cut
@@ -11,6 +12,7 @@ import decoder
 import make_inputs as inputs
 import make_runs
 import make_tables as tables
+import rounds
 from make_runs import Call
 from prng import Prng
 from rounds import CERTIFIED, RUNNING, SPENT, Record, Round
@@ -25,8 +27,7 @@ def negation_changes_nothing_else(account):
     """The same list on the frame negated under a codeword: same answers, rounds done,
     multipliers and depths at each place, and the word plus the codeword."""
     account.announce("negated lists", "negated lists certified", "negated under ones",
-                     "lists on the negated frame", "lists that want more than the run has",
-                     *(f"calls in lists: refused {number}" for number in (17, 41, 42)))
+                     "refused calls in lists", "lists on the negated frame")
     rng = Prng(51)
     for table in tables.small_tables(rng, 40) + tables.emptied_tables(rng, 10):
         words = inputs.codewords(table)
@@ -35,10 +36,11 @@ def negation_changes_nothing_else(account):
             calls = make_runs.call_list(rng)
             seen = Run(table, frame, rng).calls(calls)
             negated = inputs.negated_under(frame, codeword)
-            expect_counted(account, calls, seen, last_round(table, frame))
+            expect_counted(calls, seen)
             expect_alike(seen, Run(table, negated, rng).calls(calls), codeword)
             account.add("negated lists")
             account.add("negated under ones", 1 in codeword)
+            account.add("refused calls in lists", sum("refused" in one.answer for one in seen))
             for one in seen:
                 if one.answer == CERTIFIED:
                     account.add("negated lists certified")
@@ -49,25 +51,17 @@ def plus(word, codeword):
     return [a ^ b for a, b in zip(word, codeword)]
 
 
-def last_round(table, frame):
-    """The round that ends the run."""
-    return Run(table, frame, Prng(7)).call(Call(1024, None)).rounds_done
-
-
-def expect_counted(account, calls, seen, last):
-    """Rounds done are those wanted by calls not refused, added up, none beyond the last; the one
-    call that comes there ends the run.  Run holds a refused call to leave all as it was."""
-    wanted = 0
+def expect_counted(calls, seen):
+    """Rounds done are those wanted by calls not refused, none beyond the end of the run."""
+    done = 0
     for call, one in zip(calls, seen, strict=True):
         if "refused" in one.answer:
-            account.add(f"calls in lists: {one.answer}")
+            expect_equal(one.rounds_done, done, "rounds done after a refusal")
+        elif one.answer == RUNNING:
+            expect_equal(one.rounds_done, done + call.wanted, "rounds done while running")
         else:
-            expect(wanted < last, "no call is taken after the end")
-            wanted += call.wanted
-            expect_equal(one.answer != RUNNING, wanted >= last, "whether the call ends the run")
-        expect_equal(one.rounds_done, min(wanted, last), "rounds done")
-        expect_equal(one.did_rounds, "refused" not in one.answer and call.wanted > 0, "any done")
-    account.add("lists that want more than the run has", wanted > last)
+            expect(done < one.rounds_done <= done + call.wanted, "rounds done at the end")
+        done = one.rounds_done
 
 
 def expect_alike(seen, mirrored, codeword):
@@ -262,6 +256,36 @@ def half_done_runs_go_on(account):
             account.add("half-done runs ended", seen.answer != RUNNING)
 
 
+def edge_of_43_stays_below_44(account):
+    """One bit in three checks of one member, offsets at their limit after 1,023 rounds: the
+    multiplier is 8,192 x 1,024.  None can be greater, so 44 needs a lowered limit below."""
+    account.announce("multipliers at the edge of 43")
+    run = Run(tables.stacked_singles(3), [0], Prng(59))
+    run.record.rounds_done, far = 1023, 8192 * 1023
+    run.lent.offsets[:3], run.lent.sums[0] = [-far, far, far], -far
+    run.call(Call(1, None))
+    expect_equal(run.lent.multipliers[0], 8_388_608, "multiplier at the edge of 43")
+    account.add("multipliers at the edge of 43")
+
+
+def refusal_44_in_mid_call(account):
+    """With the limit lowered to 3333, round 2 of the leaning frame (3334) is refused."""
+    account.announce("refusals 44")
+    for wanted, before in [(1, 1), (1024, 0), (2, 0)]:
+        run = Run(tables.three_bits(), [4000, 4000, -2000], Prng(60))
+        run.call(Call(before, None))
+        with mock.patch.object(rounds, "MULTIPLIER_LIMIT", 3333):
+            seen = run.call(Call(wanted, None))
+        expect_equal((seen.answer, run.record), ("refused 44", Record(1, RUNNING)), "44")
+        expect_equal(run.round_shown().copies, [2032, 2032, -32], "copies of the counted round")
+        expect_equal(run.round_shown().multipliers, [1968], "multiplier of the counted round")
+        expect_equal(run.round_shown().depths, [5904], "depth of the counted round")
+        expect_equal((run.lent.word, run.lent.certificate), (run.junk.word, run.junk.certificate),
+                     "word and certificate")
+        expect_equal(run.call(Call(1024, None)).rounds_done, 3, "the run goes on")
+        account.add("refusals 44")
+
+
 def larger_tables_run(account):
     """A few rounds at the limits of n, m, E and both degrees; certificates are judged."""
     account.announce("rounds on limit tables", "limit tables certified")
@@ -280,4 +304,5 @@ def larger_tables_run(account):
 
 TESTS = [negation_changes_nothing_else, splitting_changes_nothing, buffers_show_the_last_round,
          start_zeroes_no_more, zero_rounds_change_nothing, runs_end_at_1024,
-         last_round_may_certify, half_done_runs_go_on, larger_tables_run]
+         last_round_may_certify, half_done_runs_go_on, edge_of_43_stays_below_44,
+         refusal_44_in_mid_call, larger_tables_run]

@@ -126,8 +126,8 @@ fn cuts_of_degree_three() {
     }
 }
 
-/// One bit in three checks of one member, resumed where the offsets' limit is exact: no call that passes 43
-/// has a larger multiplier.
+/// One bit in three checks of one member, resumed where the offsets' limit is exact: no multiplier is
+/// larger, so 44 can't occur.
 #[test]
 fn greatest_multiplier() {
     let code = bytes_of(1, &[vec![0], vec![0], vec![0]]);

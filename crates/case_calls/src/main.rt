@@ -12,6 +12,8 @@
 // A start and a call for rounds get a line: the answer, the record of the run and a checksum of all
 // whole buffers. A code file or a frame that is not whole is empty. The end of the input, an
 // operation that is none of these or fields that are cut short end the program.
+#![tactic(auto)]
+
 mod calls;
 mod checksum;
 mod command;

@@ -1,6 +1,8 @@
 // Runs code files through table::check. Standard input holds records: a 32-bit length L, at most
 // 30,000, and L bytes, a code file. Each gets a line, `bits N checks M edges E` or `refused K`. The
 // end of the input, a longer record or one that is cut short ends the program.
+#![tactic(auto)]
+
 use stream::{CODE_LIMIT, Part, print, print_number, read_part};
 use table::Checked;
 

@@ -2,6 +2,8 @@
 // 30,000, and L bytes, a code file; a 32-bit count N, at most 4,096, and N signed 32-bit spins; a
 // 32-bit check number. Each gets a line, `mask M depth D`, `none` or `refused K`. The end of the input, a
 // longer record or one that is cut short ends the program.
+#![tactic(auto)]
+
 use cut::Found;
 use stream::{
     CODE_LIMIT, NUMBERS_AT_ONCE, Number, Part, print, print_number, read_i32_part, read_part,

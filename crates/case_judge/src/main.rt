@@ -4,6 +4,8 @@
 // three answers: `refused K`, `broken C`, `certified`, `certified sole` or `gap G`; `refused K`,
 // `broken C` or `met`; `refused K` or the agreement. The end of the input, a longer record or one
 // that is cut short ends the program.
+#![tactic(auto)]
+
 use judge::{Agreed, Parity, Verdict};
 use limits::MAX_BITS;
 use stream::{

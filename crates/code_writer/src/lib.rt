@@ -1,4 +1,6 @@
 // A code file written from a table's counts and members (document 01, "Code file").
+#![tactic(auto)]
+
 ghost use Rattle.std.specs.Prelude.{◌≡◌, [], ◌∷◌, ◌≤◌, ◌<◌, length};
 ghost use Rattle.std.proofs.lemmas.List.Edits.{sets};
 ghost use Rattle.rules.specs.Limits.{max_checks, max_edges, contents_end, file_length};

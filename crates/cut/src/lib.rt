@@ -1,4 +1,6 @@
 // The cut search of document 01: the violated odd set of a check's values as a mask, and its depth.
+#![tactic(auto)]
+
 mod check;
 mod scan;
 

@@ -1,21 +1,24 @@
 -- A call for rounds: refused as it stands, or performed on the first parts of its buffers. Assumes nothing.
 use mathlib.Core.Path.{◌≡◌, refl, sym, ◌∙◌, ap, ap₂, subst, fun_ext}
+use mathlib.Core.Bool.{cond}
 use mathlib.Core.List.{List}
-use Prim.Native.Nat.{ℕ, ◌≤◌, ◌<◌}
+use Prim.Native.Nat.{ℕ, ◌+◌, ◌≤◌, ◌<◌}
+use borrow.Author.Tests.{eq-eqb}
 use lib.ListN.{length}
 use lib.IntN.{ℤ}
 use Rattle.rules.specs.Limits.{frame_limit, max_checks, max_edges}
-use Rattle.rules.specs.Refusal.{Answer, refused, gives}
+use Rattle.rules.specs.Refusal.{Answer, refused, gives, multiplier_large}
 use Rattle.rules.specs.Table.{Table, edges, edges_of, checks_of}
 use Rattle.rules.specs.CodeFile.{code_file}
 use Rattle.rules.specs.Buffers.{Buffers, by_name, lengths_of, needs, over}
-use Rattle.rules.specs.Run.{Status, Run, iterate, refused_at, perform, call_on, call_by, call, Safe}
+use Rattle.rules.specs.Run.{Status, running, certified, spent, Run, iterate, answer_at, refused_at, perform, call_on, call_by, call, Safe}
 use Rattle.rules.proofs.AnswerLaws.{refused≢gives, gives-inj}
 use Rattle.rules.proofs.Tables.{file-sound}
 use Rattle.rules.proofs.BufferLaws.{fits-part}
-use Rattle.rules.proofs.CallLaws.{running-is}
+use Rattle.rules.proofs.CallPasses.{running-is}
 use Rattle.rules.proofs.RangeLaws.{each_all}
 use Rattle.rules.proofs.Runs.{sound-safe}
+use Rattle.rules.proofs.Counted.{all-counted}
 use Rattle.table.specs.Starts.{starts_of}
 use Rattle.table.specs.Layout.{Opened}
 use Rattle.table.proofs.LayoutLaws.{laid-opened}
@@ -51,6 +54,12 @@ refused-by k (refused j) l wanted r ss ms e = ap (λ x. record { answer = x; run
 refused-by k (gives t) l wanted r ss ms e = sym (ap (perform t l wanted r) (admits-refused t l wanted (lengths_of r.buffers) r k (sym e)))
 
 -- ---- admitted
+-- a run that has not ended has done every round that was due
+pub answers : (s : Status) (a b : ℕ) → (s ≡ running → a ≡ b) → gives s ≡ answer_at s a b
+answers running a b h = ap (λ t. cond t (gives running) (refused multiplier_large)) (sym (eq-eqb a b (h refl)))
+answers certified a b h = refl
+answers spent a b h = refl
+
 -- a run that has done its rounds, with the answer that it stands at, is the call's
 abbrev Done : List ℕ → List ℤ → ℕ → Run → ℕ → ℕ → ℕ → List ℕ → List ℕ → Type 0
 Done file l wanted r n m e ss ms =
@@ -98,9 +107,13 @@ module _ (file : List ℕ) (l : List ℤ) (wanted : ℕ) (r : Run) (ss ms : List
     parts-call : Done file l wanted r t.bits (checks_of t) (edges_of t) starts_in members_in
     unfolding call call_on
     parts-call x q e f =
-        ap₂ (λ y p. record { answer = y; run = p }) (f ∙ ap (λ p. gives p.progress.status) is) is
+        let due = answers end.progress.status end.progress.rounds (r.progress.rounds + wanted) (all-counted t l wanted r (sound-safe t r a.sound)) in
+        ap₂ (λ y p. record { answer = y; run = p }) (f ∙ ap (λ p. gives p.progress.status) is ∙ due) is
         ∙ ap (perform t l wanted r) (sym a.admitted) ∙ ap (call_by l wanted r) (sym is_file)
       where
+        end : Run
+        end = iterate t l wanted r
+
         is : q ≡ iterate t l wanted r
         is = e ∙ ap (λ x. iterate x l wanted r) table_is
 

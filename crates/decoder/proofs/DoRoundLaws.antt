@@ -1,33 +1,33 @@
 -- A round of a running run on buffers of exactly the stated lengths: what its parts are given, and that they make it. Assumes nothing.
 use mathlib.Core.Path.{◌≡◌, refl, sym, ◌∙◌, ap, ap₂, subst}
 use mathlib.Core.Bool.{Bool, true, false}
-use mathlib.Core.List.{List}
+use mathlib.Core.List.{List, [], ◌∷◌}
 use mathlib.Core.Option.{Option}
-use Prim.Native.Nat.{ℕ, zero, suc, ◌≤◌, ◌<◌}
+use Prim.Native.Nat.{ℕ, zero, suc, ◌*◌, ◌≤◌, ◌<◌}
 use native.Mathlib.Omega.{arith}
 use lib.ListN.{length, get_or, length-replicate}
 use lib.IntN.{ℤ, pos, ◌+ℤ◌}
 use Rattle.integers.specs.Linear.{Within}
 use Rattle.integers.specs.Clip.{clip_z}
 use Rattle.integers.specs.Sum.{AllWithin}
-use Rattle.rules.specs.Limits.{unit, round_limit, offset_limit, value_limit, weight_limit, sum_limit, step_limit, max_bit_degree}
+use Rattle.rules.specs.Limits.{unit, round_limit, offset_per_round, offset_limit, value_limit, weight_limit, sum_limit, step_limit, max_bit_degree}
 use Rattle.rules.specs.Table.{Table, at, edges_of, degree_of}
 use Rattle.rules.specs.Cut.{negatives, keep}
-use Rattle.rules.specs.Step.{minus}
+use Rattle.rules.specs.Step.{Entry, minus}
 use Rattle.rules.specs.Round.{State, total, divided, spin, first_of, sums_of, Round, round}
-use Rattle.rules.specs.Buffers.{spins, copies, offsets, sums, multipliers, masks, depths, zeros, multipliers_of, AllUpTo, masks_of, round_lent}
+use Rattle.rules.specs.Buffers.{spins, copies, offsets, sums, multipliers, masks, depths, zeros, multipliers_of, masks_of, round_lent}
 use Rattle.rules.specs.Run.{Progress, Run, status_at, moved, state_in, iterate}
 use Rattle.rules.proofs.BufferLaws.{over-exact}
 use Rattle.rules.specs.Scatter.{Room}
-use Rattle.rules.proofs.Pass.{all-wider}
+use Rattle.rules.proofs.Pass.{AtMost, all-wider}
 use Rattle.rules.proofs.Steps.{minus-within}
 use Rattle.rules.proofs.SumLaws.{zeros-room, sum-within}
 use Rattle.rules.proofs.RoundSizes.{first-length, first-at, Sized, round-sized}
-use Rattle.rules.proofs.Runs.{running-moves, multipliers-limit, safe-offsets}
+use Rattle.rules.proofs.Runs.{multipliers-limit, safe-moves}
 use Rattle.table.specs.Layout.{checks_from, table_of, Holds}
 use Rattle.decoder.specs.Spins.{SpinsFit, Spun}
 use Rattle.decoder.specs.Passed.{Passed, PassFits, passed, passed_of}
-use Rattle.decoder.specs.Closing.{GapFits}
+use Rattle.decoder.specs.Closing.{AllUpTo, GapFits}
 use Rattle.run.specs.Ending.{closing, status_by, record_by}
 use Rattle.run.proofs.EndingLaws.{counted_next}
 use Rattle.decoder.specs.Found.{found}
@@ -36,6 +36,10 @@ use Rattle.decoder.proofs.PlaceLaws.{first-same}
 use Rattle.decoder.proofs.ExactLaws.{state-exact, sums-exact}
 use Rattle.decoder.proofs.RoundLaws.{spins-are, passed_is, spins-within, found_in, round-closed}
 
+up_to : (n : ℕ) (es : List Entry) → AtMost n es → AllUpTo n (multipliers_of es)
+up_to n [] h = tt
+up_to n (e ∷ es) h = (h.0, up_to n es h.1)
+
 status-by : (k : ℕ) (b : Bool) (w : List Bool) → status_by b k ≡ status_at k (keep b w)
 status-by k true w = refl
 status-by k false w = refl
@@ -43,6 +47,9 @@ status-by k false w = refl
 first-all : (b n : ℕ) (f : ℕ → ℤ) → ((i : ℕ) → i < n → Within b (f i)) → AllWithin b (first_of n f)
 first-all b zero f w = tt
 first-all b (suc n) f w = (w 0 (omega arith), first-all b n (λ i. f (suc i)) (λ i h. w (suc i) (omega arith)))
+
+offsets-low : (k : ℕ) → k < round_limit → offset_per_round * k ≤ offset_limit
+offsets-low k h = omega arith
 
 module _ {l : List ℤ} {ss ms ds : List ℕ} {r : Run} (g : Given (length l) l ss ms ds) (h : Ready l ss ms r) where
   t : Table
@@ -73,8 +80,11 @@ module _ {l : List ℤ} {ss ms ds : List ℕ} {r : Run} (g : Given (length l) l 
   offsets-long : length r.buffers.offsets ≡ length ms
   offsets-long = ap (λ n. n offsets) h.sizes ∙ members-long
 
+  offsets-within : AllWithin (offset_per_round * r.progress.rounds) r.buffers.offsets
+  offsets-within = subst (λ s. AllWithin (offset_per_round * r.progress.rounds) s.offsets) here h.safe.offsets
+
   offsets-few : AllWithin offset_limit r.buffers.offsets
-  offsets-few = subst (λ s. AllWithin offset_limit s.offsets) here (safe-offsets (table_of (length l) ss ms) (filled (table_of (length l) ss ms) r) h.safe h.runs)
+  offsets-few = all-wider (offset_per_round * r.progress.rounds) offset_limit r.buffers.offsets (offsets-low r.progress.rounds early) offsets-within
 
   sums-long : length r.buffers.sums ≡ length l
   sums-long = ap (λ n. n sums) h.sizes
@@ -151,7 +161,7 @@ module _ {l : List ℤ} {ss ms ds : List ℕ} {r : Run} (g : Given (length l) l 
 
       limited : AllUpTo step_limit p.multipliers
       unfolding d t st
-      limited = subst (λ x. AllUpTo step_limit x.multipliers) (sym pass-is) (multipliers-limit t l st offsets-few)
+      limited = subst (λ x. AllUpTo step_limit x.multipliers) (sym pass-is) (up_to step_limit d.entries (multipliers-limit t l st r.progress.rounds early offsets-within))
 
       pub gap-fits : GapFits (length s) l s ss ms p.multipliers p.masks
       unfolding t
@@ -183,7 +193,7 @@ module _ {l : List ℤ} {ss ms ds : List ℕ} {r : Run} (g : Given (length l) l 
         unfolding rounds_from iterate d t st
         done-law = ap₂ (λ x y. record { progress = x; buffers = y }) record_is
             (ap₂ (λ v y. round_lent v y.copies y.offsets y.sums y.multipliers y.masks y.depths) spins-is pass-is ∙ sym exact)
-            ∙ ap (λ x. looped (moved (filled t r) (round t l x))) (sym here) ∙ ap looped (sym (running-moves t l (filled t r) h.runs))
+            ∙ ap (λ x. looped (moved (filled t r) (round t l x))) (sym here) ∙ ap looped (sym (safe-moves t l (filled t r) h.safe h.runs))
           where
             exact : (looped (moved (filled t r) d)).buffers ≡ round_lent d.spins d.state.copies d.state.offsets d.sums (multipliers_of d.entries) (masks_of d.entries) d.depths
             exact = λ i. round_lent

@@ -12,11 +12,10 @@ use Rattle.rules.specs.Limits.{max_checks, max_degree, size_limit, step_limit}
 use Rattle.rules.specs.Bound.{Row}
 use Rattle.rules.specs.Scatter.{row_of, EachWithin, Put, Adds}
 use Rattle.rules.specs.Sound.{Below}
-use Rattle.rules.specs.Buffers.{AllUpTo}
 use Rattle.rules.proofs.BoundLaws.{none-adds, row-adds, frame-within}
 use Rattle.rules.proofs.StoreLaws.{drop-next}
 use Rattle.table.specs.Layout.{checks_from, Holds}
-use Rattle.decoder.specs.Closing.{with_row, rows_from, rows_left, RowFits, RowsFit, GapFits}
+use Rattle.decoder.specs.Closing.{with_row, rows_from, rows_left, AllUpTo, RowFits, RowsFit, GapFits}
 use Rattle.table.proofs.LayoutLaws.{start_is_lem, starts-long, part-is, part_in_lem, part-below, part-degree}
 
 -- ---- a check's row, if its mask is not 0

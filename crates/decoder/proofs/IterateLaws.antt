@@ -9,9 +9,9 @@ use lib.IntN.{ℤ}
 use Rattle.rules.specs.Table.{Table}
 use Rattle.rules.specs.Round.{Round}
 use Rattle.rules.specs.Buffers.{Buffer, the, nought, lengths_of, needs, Part, at_end}
-use Rattle.rules.specs.Run.{Status, running, certified, spent, Run, next_by, coming, next, iterate, Safe}
+use Rattle.rules.specs.Run.{Status, running, certified, spent, Run, moved, too_large, next_by, next, iterate, Safe}
 use Rattle.rules.proofs.BufferLaws.{the-each, part-refl, past-lengths}
-use Rattle.rules.proofs.Runs.{iterate-safe, held_start, iterate-held, ended-stays, iterate-stays, running≢certified, spent≢running}
+use Rattle.rules.proofs.Runs.{coming, iterate-safe, held_start, iterate-held, ended-stays, iterate-stays, running≢certified, spent≢running}
 use Rattle.table.specs.Layout.{table_of}
 use Rattle.decoder.specs.Rounds.{looped, filled, rounds_from, Steady, left_by}
 
@@ -21,8 +21,12 @@ module _ (t : Table) (l : List ℤ) where
   unfolding next
   next-looped r = go r.progress.status (coming t l r)
     where
+      by_size : (b : Bool) (d : Round) → looped (cond b r (moved r d)) ≡ looped (cond b (looped r) (moved (looped r) d))
+      by_size true d = refl
+      by_size false d = refl
+
       go : (s : Status) (d : Round) → looped (next_by s r d) ≡ looped (next_by s (looped r) d)
-      go running d = refl
+      go running d = by_size (too_large d.entries) d
       go certified d = refl
       go spent d = refl
 

@@ -15,14 +15,14 @@ use Rattle.rules.specs.Cut.{negatives, keep}
 use Rattle.rules.specs.Round.{sums_of, Round}
 use Rattle.rules.specs.Buffers.{spins, copies, offsets, sums, multipliers, masks, depths, word, certificate, Buffer, Elem, the, lent, lengths_of, needs_by, needs}
 use Rattle.rules.specs.Buffers.{Part, part_of, over, over_by, word_left, certificate_left, multipliers_of, masks_of, bytes_of}
-use Rattle.rules.specs.Run.{Status, running, certified, spent, Run, moved, state_in, coming, iterate, Safe}
+use Rattle.rules.specs.Run.{Status, running, certified, spent, Run, moved, state_in, iterate, Safe}
 use Rattle.rules.specs.Calls.{lend}
 use Rattle.rules.specs.Certificate.{certificate_of}
 use Rattle.rules.proofs.Basics.{none≢some, some_inj}
 use Rattle.rules.proofs.BufferLaws.{part-refl, lengths-part, take-over, AllPast, past-lengths}
 use Rattle.rules.proofs.CallPasses.{round-proper}
 use Rattle.rules.proofs.RoundSizes.{Sized, round-sized, state-part, sums_part}
-use Rattle.rules.proofs.Runs.{Kept, iterate-kept, held_start, iterate-held, running≢certified, spent≢certified}
+use Rattle.rules.proofs.Runs.{coming, Kept, iterate-kept, held_start, iterate-held, running≢certified, spent≢certified}
 use Rattle.rules.proofs.Lends.{iterate-lend}
 use Rattle.writing.specs.Written.{certificate_from}
 use Rattle.run.specs.Ending.{closing}
@@ -180,7 +180,7 @@ module _ {n m e : ℕ} {l : List ℤ} {ss ms : List ℕ} {r : Run} (h : PartsFit
 
     -- what the last round wrote is what the end writes
     kept : Kept t l r.buffers end
-    kept = iterate-kept t l wanted r h.safe h.runs
+    kept = iterate-kept t l wanted r h.runs
 
     abbrev new : Ending
     new = ended_to end.buffers.word end.buffers.certificate

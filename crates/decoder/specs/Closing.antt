@@ -8,7 +8,6 @@ use Rattle.rules.specs.Parity.{meets}
 use Rattle.rules.specs.Cut.{negatives}
 use Rattle.rules.specs.Bound.{Row, bound, gap}
 use Rattle.rules.specs.Scatter.{row_of, EachWithin}
-use Rattle.rules.specs.Buffers.{AllUpTo}
 use Rattle.rules.specs.Sound.{Below}
 use Rattle.table.specs.Layout.{checks_from, Holds}
 
@@ -41,6 +40,11 @@ bound_on l ss ms bs ks = bound (length l) 1 l (rows_on ss ms bs ks)
 
 abbrev pub gap_on : List ℤ → List ℤ → List ℕ → List ℕ → List ℕ → List ℕ → ℤ
 gap_on l s ss ms bs ks = gap (length s) 1 l (rows_on ss ms bs ks) (negatives s)
+
+-- every multiplier is at most 8,388,608
+abbrev pub AllUpTo : ℕ → List ℕ → Type 0
+AllUpTo m [] = Unit {0}
+AllUpTo m (b ∷ bs) = (b ≤ m) × AllUpTo m bs
 
 -- what the code relies on: at a row, at all rows, and at the end of a round
 pub record RowFits (b : ℕ) (ms : List ℕ) (ls : List ℤ) : Type 0 where

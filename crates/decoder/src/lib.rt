@@ -1,4 +1,6 @@
 // A call for rounds (document 01, "One round").
+#![tactic(auto)]
+
 mod candidate;
 mod degrees;
 mod divide;

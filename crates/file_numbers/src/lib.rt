@@ -1,4 +1,6 @@
 // The numbers of files and their bytes: "file numbers are little-endian".
+#![tactic(auto)]
+
 ghost use Rattle.std.specs.Prelude.{◌≡◌, ◌%◌, ◌<◌, set};
 ghost use Rattle.std.proofs.lemmas.List.Edits.{sets};
 ghost use Rattle.rules.specs.Bytes.{u16_of, u32_of, u16_limit, le16, le32};

@@ -1,5 +1,7 @@
 // What is handed in beside the code file: frame, word and point. Each test answers the refusal's
 // number of document 01, or 0. And the agreement of a word with a frame.
+#![tactic(auto)]
+
 mod ranges;
 mod sums;
 

@@ -1,1 +1,2 @@
 // Whole numbers: laws only, in specs/. No function runs here.
+#![tactic(auto)]

@@ -1,5 +1,7 @@
 // The judge of document 01, "Certificates": a code file, a frame, a word and anybody's certificate,
 // any bytes and numbers, judged; and the judge's two parts, the syndrome and the agreement.
+#![tactic(auto)]
+
 mod bound;
 mod checks;
 mod entries;

@@ -2,4 +2,3 @@ pub mod AnswerLaws
 pub mod StatusLaws
 pub mod RunLaws
 pub mod RefusedRun
-pub mod NumberLaws

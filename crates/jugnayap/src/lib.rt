@@ -1,5 +1,7 @@
 // The C interface (c/jugnayap.h): its version, and functions that each call the proved one of table, cut,
 // judge, run or decoder and give its answer as numbers.
+#![tactic(auto)]
+
 mod numbers;
 
 ghost use Rattle.std.specs.Prelude.{◌≡◌};

@@ -1,4 +1,6 @@
 // The limits of document 01, as in rules' Limits: their one place in the code. No function runs here.
+#![tactic(auto)]
+
 pub mod common;
 pub mod refusals;
 

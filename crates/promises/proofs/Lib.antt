@@ -1,4 +1,3 @@
 pub mod Passes
 pub mod Scaled
 pub mod Sole
-pub mod Multipliers

@@ -1,1 +1,2 @@
 // No code: what the proved calls promise together, in proofs/.
+#![tactic(auto)]

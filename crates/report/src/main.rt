@@ -1,4 +1,6 @@
 // The frame report of standard input.
+#![tactic(auto)]
+
 fn main() {
     reporting::report_input();
 }

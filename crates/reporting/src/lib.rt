@@ -1,5 +1,7 @@
 // The frame report (document 01, "The frame report"): how long the code file on standard input is and
 // the line of a frame, as functions; and the program, which reads and prints and no more.
+#![tactic(auto)]
+
 pub mod code;
 mod print;
 

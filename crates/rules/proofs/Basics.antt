@@ -1,6 +1,6 @@
 -- Small facts on Bool and Option. Assumes nothing.
 use mathlib.Core.Path.{◌≡◌, refl, sym, ◌∙◌, ap}
-use mathlib.Core.Bool.{Bool, true, false, not, ◌&&◌, false≢true, and_assoc, and-true}
+use mathlib.Core.Bool.{Bool, true, false, not, ◌&&◌, ◌||◌, false≢true, true≢false, and_assoc, and-true}
 use mathlib.Core.Option.{Option, some, none}
 use Prim.Native.Nat.{ℕ}
 use native.Mathlib.Omega.{arith}
@@ -27,6 +27,10 @@ and-more all r rest more e q = ap (λ b. all && b) e ∙ sym (and_assoc all r re
 
 pub and-end : (all : Bool) {rest : Bool} → rest ≡ true → (all && rest) ≡ all
 and-end all e = ap (λ b. all && b) e ∙ and-true all
+
+pub or-false : (a b : Bool) → a || b ≡ false → (a ≡ false) × (b ≡ false)
+or-false true b e = absurd (true≢false e)
+or-false false b e = (refl, e)
 
 pub not_inj : (a b : Bool) → not a ≡ not b → a ≡ b
 not_inj true true e = refl

@@ -20,7 +20,7 @@ use Rattle.rules.proofs.Lends.{call_for, calls_on, lent-list}
 use Rattle.rules.proofs.Twins.{Worded, Twin, iterate-twin, Alike, call-twin}
 use Rattle.rules.proofs.Lists.{says-status, Stands, found, found-ends, catch-first}
 use Rattle.rules.proofs.CallPasses.{ended-made, ended-word}
-use Rattle.rules.proofs.Fresh.{started-safe, started-twin, all-part}
+use Rattle.rules.proofs.Fresh.{started-twin, all-part}
 use Rattle.rules.proofs.Counted.{list-rounds}
 
 -- ---- a list in the words of the theory
@@ -77,7 +77,7 @@ module _ (file : List ℕ) (t : Table) (l : List ℤ) (c : List Bool) (calls : L
     others = λ w k bs h d fd xs hd g.
         let made = subst (λ n. 1 ≤ n) (ends w k bs h).took (ended-made t l _ (proved w k bs h)) in
         subst (CertifiesOn t (plus c w) k bs) (sym (on-table file t (turns c l) xs d fd hd))
-        (catch-first t (turns c l) (started_run file d) (plus c w) k bs (stands-turn t c w k bs (iterate t l k (started_run file a)) (iterate t (turns c l) k (started_run file d)) made
+        (catch-first t (turns c l) (started_run file d) refl (plus c w) k bs (stands-turn t c w k bs (iterate t l k (started_run file a)) (iterate t (turns c l) k (started_run file d)) made
         (iterate-twin t c l cw k (started_run file a) (started_run file d) (started-twin file t c a d fa fd)) (ends w k bs h))
         xs made (subst (λ ds. k ≤ wanted_in xs ds) (on-table file t (turns c l) xs d fd hd) g));
   }
@@ -86,4 +86,4 @@ module _ (file : List ℕ) (t : Table) (l : List ℤ) (c : List Bool) (calls : L
       ends w k bs h = found-ends t l (started_run file a) w k bs refl (found t l (started_run file a) w k bs 0 calls (subst (CertifiesOn t w k bs) (on-table file t l calls a fa ha) h))
 
       proved : (w : List Bool) (k : ℕ) (bs : List ℕ) → CertifiesOn t w k bs (list_from file l calls a) → Ends t l (iterate t l k (started_run file a))
-      proved w k bs h = iterate-ends t l k (started_run file a) (started-safe file t a fa) refl (ends w k bs h).marked
+      proved w k bs h = iterate-ends t l k (started_run file a) refl (ends w k bs h).marked

@@ -1,8 +1,8 @@
 -- A call that is lent parts of longer buffers does to the whole what it would do if it were lent the whole, or is refused alike. Assumes nothing.
 use mathlib.Core.Path.{◌≡◌, refl, sym, ◌∙◌, ap, ap₂, subst}
-use mathlib.Core.Bool.{Bool, true, false, true≢false}
+use mathlib.Core.Bool.{Bool, true, false, cond, true≢false}
 use mathlib.Core.List.{List, [], ◌∷◌}
-use Prim.Native.Nat.{ℕ, zero, suc}
+use Prim.Native.Nat.{ℕ, zero, suc, ◌+◌}
 use lib.Dec.{leb, eqb}
 use lib.ListN.{length}
 use lib.IntN.{ℤ}
@@ -13,13 +13,13 @@ use Rattle.rules.specs.CodeFile.{code_file}
 use Rattle.rules.specs.Input.{each_within, on_frame}
 use Rattle.rules.specs.Round.{round}
 use Rattle.rules.specs.Buffers.{Lengths, lengths_of, needs, fits, Part}
-use Rattle.rules.specs.Run.{Status, running, certified, spent, Run, moved, next_by, state_in, coming, next, iterate}
+use Rattle.rules.specs.Run.{Status, running, certified, spent, Run, moved, too_large, next_by, state_in, next, iterate}
 use Rattle.rules.specs.Run.{is_running, sound, admits, Called, refused_at, perform, ran_on, call_on, call_by, call}
 use Rattle.rules.specs.Calls.{Call, lend, give_back, lent_call, call_list}
 use Rattle.rules.proofs.AnswerLaws.{must-false, must-gives}
 use Rattle.rules.proofs.BufferLaws.{part-trans, fits-part, lengths-part, over-same, past-lengths, over-parts}
 use Rattle.rules.proofs.RoundSizes.{round-sized, state-part, sums_part, written-part}
-use Rattle.rules.proofs.Runs.{held_start, iterate-held}
+use Rattle.rules.proofs.Runs.{coming, held_start, iterate-held}
 
 -- ---- lending, and a round
 run-eq : {r q : Run} → r.progress ≡ q.progress → r.buffers ≡ q.buffers → r ≡ q
@@ -36,8 +36,12 @@ module _ (t : Table) (l : List ℤ) (n : Lengths) (h : Part (needs t) n) where
   unfolding next
   next-lend r = go r.progress.status
     where
+      by_size : (b c : Bool) → c ≡ b → cond c (lend n r) (moved (lend n r) (coming t l (lend n r))) ≡ lend n (cond b r (moved r (coming t l r)))
+      by_size true c e = ap (λ x. cond x (lend n r) (moved (lend n r) (coming t l (lend n r)))) e
+      by_size false c e = ap (λ x. cond x (lend n r) (moved (lend n r) (coming t l (lend n r)))) e ∙ moved-lend r
+
       go : (s : Status) → next_by s (lend n r) (coming t l (lend n r)) ≡ lend n (next_by s r (coming t l r))
-      go running = moved-lend r
+      go running = by_size (too_large (coming t l r).entries) (too_large (coming t l (lend n r)).entries) (ap (λ d. too_large d.entries) (coming-lend r))
       go certified = refl
       go spent = refl
 
@@ -57,7 +61,7 @@ refused-back k n r = called-eq refl (run-eq refl (over-same n r.buffers))
 -- parts that are long enough
 module _ (t : Table) (l : List ℤ) (n : Lengths) (h : Part (needs t) n) (k : ℕ) (r : Run) where
   ran-back : Part n (lengths_of r.buffers) → give_back (perform t l k (lend n r) (gives tt)) r ≡ perform t l k r (gives tt)
-  ran-back p = ap (λ q. give_back (ran_on q) r) (iterate-lend t l n h k r)
+  ran-back p = ap (λ q. give_back (ran_on (r.progress.rounds + k) q) r) (iterate-lend t l n h k r)
       ∙ called-eq refl (run-eq refl (over-parts (needs t) n (iterate t l k r).buffers r.buffers h p
       (iterate-held t l k r.buffers r (held_start t r (part-trans (needs t) n (lengths_of r.buffers) h p))).past))
 

@@ -10,7 +10,6 @@ pub mod Search
 pub mod Multiplier
 pub mod Steps
 pub mod Pass
-pub mod MultiplierLimit
 pub mod RoundTurns
 pub mod WordTurns
 pub mod Duality
@@ -33,8 +32,6 @@ pub mod FillLaws
 pub mod RoundSizes
 pub mod RangeLaws
 pub mod Runs
-pub mod CallLaws
-pub mod RefusalLaws
 pub mod Lends
 pub mod Twins
 pub mod Lists

@@ -3,7 +3,7 @@ use mathlib.Core.Path.{◌≡◌, refl, sym, ◌∙◌, ap, ap₂}
 use mathlib.Core.Bool.{true}
 use mathlib.Core.Logic.{◌↔◌}
 use mathlib.Core.List.{List, [], ◌∷◌, ◌++◌}
-use Prim.Native.Nat.{ℕ, zero, suc, ◌+◌, ◌*◌, ◌≤◌}
+use Prim.Native.Nat.{ℕ, zero, suc, ◌+◌, ◌*◌, ◌^◌, ◌≤◌}
 use native.Mathlib.Omega.{arith}
 use native.Mathlib.Nat.{le-add_right}
 use lib.ListN.{length, get_or, take, drop, length-append, length-map}
@@ -18,6 +18,7 @@ use Rattle.rules.specs.Cut.{cut, depth}
 use Rattle.rules.specs.Step.{Entry, inactive, active, Step, step}
 use Rattle.rules.specs.Bound.{Row, rows_of}
 use Rattle.rules.specs.Round.{State, spin, values, pass, copies_in, offsets_in, entries_in, depths_in, round}
+use Rattle.rules.specs.Buffers.{multiplier_of}
 use Rattle.rules.proofs.Signs.{alike-sym, alike-trans, alike-length}
 use Rattle.rules.proofs.Steps.{Proper, Shape, step-shape, values_after, depth-again, cut_in, set-again, step-depth-most, step-inactive⇔}
 
@@ -144,11 +145,23 @@ values-within u m f [] ys w h = tt
 values-within u m f (i ∷ ms) [] w h = (within_wider u (u + m) (f i) (le-add_right u m) (w i), values-within u m f ms [] w h)
 values-within u m f (i ∷ ms) (y ∷ ys) w h = (within-add u m (f i) y (w i) h.0, values-within u m f ms ys w h.1)
 
+-- every multiplier is at most n
+abbrev pub AtMost : ℕ → List Entry → Type 0
+AtMost n [] = Unit {0}
+AtMost n (e ∷ es) = (multiplier_of e ≤ n) × AtMost n es
+
 module _ (u m : ℕ) (f : ℕ → ℤ) (w : (i : ℕ) → Within u (f i)) where
   pub offsets-within : (cs : List (List ℕ)) (ys : List ℤ) → AllWithin m ys → AllWithin (u + m + u) (offsets_in (pass u f cs ys))
   offsets-within [] ys h = tt
   offsets-within (ms ∷ cs) ys h = append-within (u + m + u) (step u (values f ms ys)).offsets (offsets_in (pass u f cs (drop (length ms) ys)))
       ((step-shape u (values f ms ys)).limit (u + m) (values-within u m f ms ys w h)) (offsets-within cs (drop (length ms) ys) (drop-within m (length ms) ys h))
+
+  pub multipliers-within : (cs : List (List ℕ)) (ys : List ℤ) → AllWithin m ys → u + (u + m) ≤ 2 ^ 24 → AtMost (u + (u + m)) (entries_in (pass u f cs ys))
+  multipliers-within [] ys h k = tt
+  multipliers-within (ms ∷ cs) ys h k = (
+    (step-shape u (values f ms ys)).priced (u + m) (values-within u m f ms ys w h) k,
+    multipliers-within cs (drop (length ms) ys) (drop-within m (length ms) ys h) k,
+  )
 
 -- ---- the depths, check by check (document 02, #101): 0 is that of a check without a cut, and none is above 2U
 module _ (u : ℕ) (f : ℕ → ℤ) where

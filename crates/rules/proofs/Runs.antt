@@ -1,52 +1,59 @@
--- A run round by round: it stays or it moves and counts; and the limits of copies, offsets and multipliers, so that 43 never meets a run that was sound.
--- Assumes nothing.
+-- A run round by round: it stays or it moves and counts; and the limits of copies, offsets and multipliers, so that 43 and 44 never meet a run that
+-- was sound. Assumes nothing.
 use mathlib.Core.Path.{◌≡◌, refl, sym, ◌∙◌, ap, ap₂, subst}
-use mathlib.Core.Bool.{Bool, true, false, cond, ◌&&◌}
+use mathlib.Core.Bool.{Bool, true, false, cond, ◌&&◌, ◌||◌}
 use mathlib.Core.Logic.{◌⊎◌, inl, inr}
-use mathlib.Core.List.{List}
+use mathlib.Core.List.{List, [], ◌∷◌}
 use mathlib.Core.Option.{Option, some, none}
-use Prim.Native.Nat.{ℕ, zero, suc, ◌+◌, ◌*◌, ◌≤◌, ◌<◌}
+use Prim.Native.Nat.{ℕ, zero, suc, ◌+◌, ◌*◌, ◌^◌, ◌≤◌, ◌<◌}
 use native.Mathlib.Omega.{arith}
-use native.Mathlib.Nat.{zero-add, suc-add}
-use lib.Dec.{leb, ltb}
-use borrow.Author.Tests.{leb-false, ltb-true, lt-ltb}
+use native.Mathlib.Nat.{zero-add, suc-add, le_trans}
+use lib.Dec.{leb, ltb, eqb}
+use lib.ListN.{length}
+use borrow.Author.Tests.{leb-false, ltb-true, le-ltb, lt-ltb}
 use lib.IntN.{ℤ}
 use Rattle.integers.specs.Linear.{Within}
 use Rattle.integers.specs.Clip.{clip-within}
 use Rattle.integers.specs.Sum.{AllWithin}
-use Rattle.rules.specs.Limits.{unit, round_limit, offset_per_round, offset_limit, step_limit}
+use Rattle.rules.specs.Limits.{unit, frame_limit, round_limit, offset_per_round, step_limit, max_multiplier}
+use Rattle.rules.specs.Refusal.{Answer, refused, gives, frame_length, frame_range, asked_too_much, buffer_short, run_ended, run_damaged}
 use Rattle.rules.specs.Table.{Table, edges}
-use Rattle.rules.specs.Input.{each_within}
-use Rattle.rules.specs.Round.{State, spin, offsets_in, sums_of, round}
-use Rattle.rules.specs.Buffers.{Buffers, lengths_of, needs, Part, over_by, multipliers_of, AllUpTo, word_left, certificate_left}
-use Rattle.rules.specs.Run.{Status, running, certified, spent, Run, status_at, moved, next_by, state_in, sums_in, true_sums, coming, next, iterate, same, limited, sound, sound_run, Safe, written}
-use Rattle.rules.proofs.Pass.{spins_in, steps_in, steps-laid, copies-within, offsets-within, all-wider}
-use Rattle.rules.proofs.MultiplierLimit.{pass-limit}
+use Rattle.rules.specs.CodeFile.{code_file}
+use Rattle.rules.specs.Input.{each_within, on_frame}
+use Rattle.rules.specs.Step.{Entry}
+use Rattle.rules.specs.Round.{State, spin, offsets_in, entries_in, sums_of, Round, round}
+use Rattle.rules.specs.Buffers.{Buffers, Lengths, lengths_of, needs, fits, multiplier_of, Part, over_by, word_left, certificate_left}
+use Rattle.rules.specs.Run.{Status, running, certified, spent, Run, status_at, moved, too_large, next_by, state_in, sums_in, true_sums, next, iterate, same, limited, sound, sound_run, Safe, written}
+use Rattle.rules.specs.Run.{is_running, admits, Called, perform, call_on, call_by, call}
+use Rattle.rules.proofs.Pass.{spins_in, steps_in, steps-laid, copies-within, offsets-within, AtMost, multipliers-within}
 use Rattle.rules.proofs.RoundSizes.{round-sized, state-written, sums-written, written-past}
 use Rattle.rules.proofs.Basics.{and_both}
+use Rattle.rules.proofs.AnswerLaws.{refused≢gives, must-gives}
 use Rattle.rules.proofs.RangeLaws.{each_all, all-each, same-equal, same-is}
 use Rattle.rules.proofs.BufferLaws.{AllPast, all-past-refl, all-past-trans, past-lengths}
+
+-- the round that comes next
+abbrev pub coming : Table → List ℤ → Run → Round
+coming t l r = round t l (state_in t r.buffers)
 
 -- ---- it stays, or it moves and counts
 pub record Moves (t : Table) (l : List ℤ) (r : Run) : Type 0 where
   pub is_running : r.progress.status ≡ running
+  pub small : too_large (coming t l r).entries ≡ false
   pub is : next t l r ≡ moved r (coming t l r)
 
 pub next-cases : (t : Table) (l : List ℤ) (r : Run) → (next t l r ≡ r) ⊎ Moves t l r
 unfolding next
-next-cases t l r = go r.progress.status refl
+next-cases t l r = go r.progress.status refl (too_large (coming t l r).entries) refl
   where
     by : (s : Status) → r.progress.status ≡ s → next t l r ≡ next_by s r (coming t l r)
     by s p = ap (λ x. next_by x r (coming t l r)) p
 
-    go : (s : Status) → r.progress.status ≡ s → (next t l r ≡ r) ⊎ Moves t l r
-    go running p = inr (record { is_running = p; is = by running p })
-    go certified p = inl (by certified p)
-    go spent p = inl (by spent p)
-
-pub running-moves : (t : Table) (l : List ℤ) (r : Run) → r.progress.status ≡ running → next t l r ≡ moved r (coming t l r)
-unfolding next
-running-moves t l r e = ap (λ s. next_by s r (coming t l r)) e
+    go : (s : Status) → r.progress.status ≡ s → (b : Bool) → too_large (coming t l r).entries ≡ b → (next t l r ≡ r) ⊎ Moves t l r
+    go running p true e = inl (by running p ∙ ap (λ b. cond b r (moved r (coming t l r))) e)
+    go running p false e = inr (record { is_running = p; small = e; is = by running p ∙ ap (λ b. cond b r (moved r (coming t l r))) e })
+    go certified p b e = inl (by certified p)
+    go spent p b e = inl (by spent p)
 
 -- what holds of a run and is kept by each round holds ever after
 pub iterate-keeps : (t : Table) (l : List ℤ) (P : Run → Type 0) → ((r : Run) → Moves t l r → P r → P (moved r (coming t l r))) → (k : ℕ) (r : Run) → P r → P (iterate t l k r)
@@ -119,6 +126,57 @@ uncertified k = go (leb round_limit k)
     go true e = spent≢certified e
     go false e = running≢certified e
 
+-- ---- a certified run was certified by its last round
+pub record Ends (t : Table) (l : List ℤ) (q : Run) : Type 0 where
+  pub last : Run
+  pub moves : Moves t l last
+  pub same : q ≡ moved last (coming t l last)
+  pub word : List Bool
+  pub by : (coming t l last).word ≡ some word
+
+-- and until then its word and certificate stayed as they were in b
+pub record Untouched (b : Buffers) (r : Run) : Type 0 where
+  pub word : r.buffers.word ≡ b.word
+  pub certificate : r.buffers.certificate ≡ b.certificate
+
+pub record Kept (t : Table) (l : List ℤ) (b : Buffers) (q : Run) : Type 0 where
+  pub stays : (q.progress.status ≡ certified → ⊥) → Untouched b q
+  pub ends : q.progress.status ≡ certified → Ends t l q
+  pub before : (e : q.progress.status ≡ certified) → Untouched b (ends e).last
+
+kept-moved : (t : Table) (l : List ℤ) (b : Buffers) (r : Run) → Moves t l r → Kept t l b r → Kept t l b (moved r (coming t l r))
+kept-moved t l b r m h = go (coming t l r).word refl
+  where
+    here : Untouched b r
+    here = h.stays (λ e. running≢certified (sym m.is_running ∙ e))
+
+    go : (o : Option (List Bool)) → (coming t l r).word ≡ o → Kept t l b (moved r (coming t l r))
+    go none p =
+        let not : (moved r (coming t l r)).progress.status ≡ certified → ⊥ = λ q. uncertified (suc r.progress.rounds) (ap (status_at (suc r.progress.rounds)) (sym p) ∙ q) in
+        record {
+          stays = λ f. record {
+            word = ap (λ o. over_by (word_left o) r.buffers.word) p ∙ here.word;
+            certificate = ap (λ o. over_by (certificate_left o (coming t l r).entries) r.buffers.certificate) p ∙ here.certificate;
+          };
+          ends = λ q. absurd (not q);
+          before = λ q. absurd (not q);
+        }
+    go (some w) p = record {
+      stays = λ f. absurd (f (ap (status_at (suc r.progress.rounds)) p));
+      ends = λ q. record { last = r; moves = m; same = refl; word = w; by = p };
+      before = λ q. here;
+    }
+
+pub iterate-kept : (t : Table) (l : List ℤ) (k : ℕ) (r : Run) → r.progress.status ≡ running → Kept t l r.buffers (iterate t l k r)
+iterate-kept t l k r e = iterate-keeps t l (Kept t l r.buffers) (kept-moved t l r.buffers) k r (record {
+  stays = λ f. record { word = refl; certificate = refl };
+  ends = λ p. absurd (running≢certified (sym e ∙ p));
+  before = λ p. absurd (running≢certified (sym e ∙ p));
+})
+
+pub iterate-ends : (t : Table) (l : List ℤ) (k : ℕ) (r : Run) → r.progress.status ≡ running → (iterate t l k r).progress.status ≡ certified → Ends t l (iterate t l k r)
+iterate-ends t l k r e = (iterate-kept t l k r e).ends
+
 status-early : (k : ℕ) (o : Option (List Bool)) → status_at k o ≡ running → k < round_limit
 status-early k none e = go (leb round_limit k) refl e
   where
@@ -159,25 +217,36 @@ safe-moved t l r h = record {
 pub iterate-safe : (t : Table) (l : List ℤ) (k : ℕ) (r : Run) → Safe t r → Safe t (iterate t l k r)
 iterate-safe t l k r h = iterate-keeps t l (Safe t) (λ q m. safe-moved t l q) k r h
 
--- what each round of a safe run keeps holds ever after
-pub safe-keeps : (t : Table) (l : List ℤ) (P : Run → Type 0) → ((r : Run) → Safe t r → Moves t l r → P r → P (moved r (coming t l r))) → (k : ℕ) (r : Run) → Safe t r → P r → P (iterate t l k r)
-safe-keeps t l P f k r h p = (iterate-keeps t l (λ q. Safe t q × P q) (λ q m z. (safe-moved t l q z.0, f q z.0 m z.1)) k r (h, p)).1
+-- ---- a multiplier never exceeds 2U and the greatest offset, 8,388,608, in a resumed run too
+at_most : (a b : ℕ) (es : List Entry) → a ≤ b → AtMost a es → AtMost b es
+at_most a b [] h k = tt
+at_most a b (e ∷ es) h k = (le_trans k.0 h, at_most a b es h k.1)
 
--- ---- its offsets before a round, and so its multipliers, in a resumed run too
-pub safe-offsets : (t : Table) (r : Run) → Safe t r → r.progress.status ≡ running → AllWithin offset_limit (state_in t r.buffers).offsets
-safe-offsets t r h e = all-wider (offset_per_round * r.progress.rounds) offset_limit (state_in t r.buffers).offsets (low r.progress.rounds (h.early e)) h.offsets
+pub multipliers-limit : (t : Table) (l : List ℤ) (s : State) (k : ℕ) → k < round_limit → AllWithin (offset_per_round * k) s.offsets → AtMost step_limit (round t l s).entries
+unfolding round
+multipliers-limit t l s k e h = at_most (unit + (unit + offset_per_round * k)) step_limit (entries_in (steps_in t l s)) (low k e)
+    (multipliers-within unit (offset_per_round * k) (spins_in t l s) (spin-within unit (edges t.checks) l s) t.checks s.offsets h (below k e))
   where
-    low : (k : ℕ) → k < round_limit → offset_per_round * k ≤ offset_limit
+    low : (k : ℕ) → k < round_limit → unit + (unit + offset_per_round * k) ≤ step_limit
     low k h = omega arith
 
-pub multipliers-limit : (t : Table) (l : List ℤ) (s : State) → AllWithin offset_limit s.offsets → AllUpTo step_limit (multipliers_of (round t l s).entries)
-unfolding round
-multipliers-limit t l s h = pass-limit (spins_in t l s) (spin-within unit (edges t.checks) l s) t.checks s.offsets h
+    below : (k : ℕ) → k < round_limit → unit + (unit + offset_per_round * k) ≤ 2 ^ 24
+    below k h = omega arith
 
-pub safe-multipliers : (t : Table) (l : List ℤ) (r : Run) → Safe t r → r.progress.status ≡ running → AllUpTo step_limit (multipliers_of (coming t l r).entries)
-safe-multipliers t l r h e = multipliers-limit t l (state_in t r.buffers) (safe-offsets t r h e)
+not-large : (es : List Entry) → AtMost max_multiplier es → too_large es ≡ false
+not-large [] h = refl
+not-large (e ∷ es) h = ap₂ ◌||◌ (le-ltb max_multiplier (multiplier_of e) h.0) (not-large es h.1)
 
--- ---- 43 never meets a safe run
+-- so 44 never meets it
+pub never-44 : (t : Table) (l : List ℤ) (r : Run) → Safe t r → r.progress.status ≡ running → too_large (coming t l r).entries ≡ false
+never-44 t l r h e = not-large (coming t l r).entries (at_most step_limit max_multiplier (coming t l r).entries (omega arith)
+    (multipliers-limit t l (state_in t r.buffers) r.progress.rounds (h.early e) h.offsets))
+
+pub safe-moves : (t : Table) (l : List ℤ) (r : Run) → Safe t r → r.progress.status ≡ running → next t l r ≡ moved r (coming t l r)
+unfolding next
+safe-moves t l r h e = ap (λ s. next_by s r (coming t l r)) e ∙ ap (λ b. cond b r (moved r (coming t l r))) (never-44 t l r h e)
+
+-- and 43 does not either
 pub never-43 : (t : Table) (r : Run) → Safe t r → r.progress.status ≡ running → sound_run t r ≡ true
 unfolding limited sound
 never-43 t r h e = ap₂ ◌&&◌
@@ -209,54 +278,29 @@ sound-safe t r h =
       early = λ e. sound-early t r h;
     }
 
--- ---- a certified run was certified by its last round, before which it was safe
-pub record Ends (t : Table) (l : List ℤ) (q : Run) : Type 0 where
-  pub last : Run
-  pub safe : Safe t last
-  pub moves : Moves t l last
-  pub same : q ≡ moved last (coming t l last)
-  pub word : List Bool
-  pub by : (coming t l last).word ≡ some word
+-- ---- so the sums that a run carries are the true ones, after every round
+pub sums-carried : (t : Table) (l : List ℤ) (k : ℕ) (r : Run) → sound_run t r ≡ true → sums_in t (iterate t l k r).buffers ≡ true_sums t (iterate t l k r).buffers
+sums-carried t l k r h = (iterate-safe t l k r (sound-safe t r h)).sums
 
--- and until then its word and certificate stayed as they were in b
-pub record Untouched (b : Buffers) (r : Run) : Type 0 where
-  pub word : r.buffers.word ≡ b.word
-  pub certificate : r.buffers.certificate ≡ b.certificate
+pub admitted-sound : (t : Table) (l : List ℤ) (v : ℕ) (n : Lengths) (r : Run) → admits t l v n r ≡ gives tt → sound_run t r ≡ true
+unfolding admits on_frame
+admitted-sound t l v n r h =
+    let size = must-gives (eqb (length l) t.bits) frame_length _ tt h in
+    let range = must-gives (each_within frame_limit l) frame_range _ tt size.1 in
+    let asked = must-gives (leb v round_limit) asked_too_much _ tt range.1 in
+    let room = must-gives (fits (needs t) n) buffer_short _ tt asked.1 in
+    let runs = must-gives (is_running r.progress.status) run_ended _ tt room.1 in
+    (must-gives (sound_run t r) run_damaged _ tt runs.1).0
 
-pub record Kept (t : Table) (l : List ℤ) (b : Buffers) (q : Run) : Type 0 where
-  pub stays : (q.progress.status ≡ certified → ⊥) → Untouched b q
-  pub ends : q.progress.status ≡ certified → Ends t l q
-  pub before : (e : q.progress.status ≡ certified) → Untouched b (ends e).last
-
-kept-moved : (t : Table) (l : List ℤ) (b : Buffers) (r : Run) → Safe t r → Moves t l r → Kept t l b r → Kept t l b (moved r (coming t l r))
-kept-moved t l b r safe m h = go (coming t l r).word refl
+-- and after every call that is not refused, on any code file, frame, record and lent buffers
+pub call-sums : (file : List ℕ) (t : Table) (l : List ℤ) (v : ℕ) (r : Run) (s : Status) → code_file file ≡ gives t → (call file l v r).answer ≡ gives s
+    → sums_in t (call file l v r).run.buffers ≡ true_sums t (call file l v r).run.buffers
+unfolding call call_on
+call-sums file t l v r s is_file e = subst (λ a. Holds (call_by l v r a)) (sym is_file) (go (admits t l v (lengths_of r.buffers) r) refl (ap (λ a. (call_by l v r a).answer) (sym is_file) ∙ e))
   where
-    here : Untouched b r
-    here = h.stays (λ e. running≢certified (sym m.is_running ∙ e))
+    Holds : Called → Type 0
+    Holds d = sums_in t d.run.buffers ≡ true_sums t d.run.buffers
 
-    go : (o : Option (List Bool)) → (coming t l r).word ≡ o → Kept t l b (moved r (coming t l r))
-    go none p =
-        let not : (moved r (coming t l r)).progress.status ≡ certified → ⊥ = λ q. uncertified (suc r.progress.rounds) (ap (status_at (suc r.progress.rounds)) (sym p) ∙ q) in
-        record {
-          stays = λ f. record {
-            word = ap (λ o. over_by (word_left o) r.buffers.word) p ∙ here.word;
-            certificate = ap (λ o. over_by (certificate_left o (coming t l r).entries) r.buffers.certificate) p ∙ here.certificate;
-          };
-          ends = λ q. absurd (not q);
-          before = λ q. absurd (not q);
-        }
-    go (some w) p = record {
-      stays = λ f. absurd (f (ap (status_at (suc r.progress.rounds)) p));
-      ends = λ q. record { last = r; safe = safe; moves = m; same = refl; word = w; by = p };
-      before = λ q. here;
-    }
-
-pub iterate-kept : (t : Table) (l : List ℤ) (k : ℕ) (r : Run) → Safe t r → r.progress.status ≡ running → Kept t l r.buffers (iterate t l k r)
-iterate-kept t l k r h e = safe-keeps t l (Kept t l r.buffers) (kept-moved t l r.buffers) k r h (record {
-  stays = λ f. record { word = refl; certificate = refl };
-  ends = λ p. absurd (running≢certified (sym e ∙ p));
-  before = λ p. absurd (running≢certified (sym e ∙ p));
-})
-
-pub iterate-ends : (t : Table) (l : List ℤ) (k : ℕ) (r : Run) → Safe t r → r.progress.status ≡ running → (iterate t l k r).progress.status ≡ certified → Ends t l (iterate t l k r)
-iterate-ends t l k r h e = (iterate-kept t l k r h e).ends
+    go : (a : Answer (Unit {0})) → admits t l v (lengths_of r.buffers) r ≡ a → (perform t l v r a).answer ≡ gives s → Holds (perform t l v r a)
+    go (refused k) p q = absurd (refused≢gives q)
+    go (gives tt) p q = sums-carried t l v r (admitted-sound t l v (lengths_of r.buffers) r p)

@@ -1,7 +1,7 @@
--- The search by digits ends where its test turns. Assumes nothing.
+-- The search by digits ends where its test turns, and never passes 2 ^ k. Assumes nothing.
 use mathlib.Core.Path.{◌≡◌, refl, sym, ◌∙◌, ap}
 use mathlib.Core.Bool.{Bool, true, false, cond}
-use Prim.Native.Nat.{ℕ, zero, suc, ◌+◌, ◌^◌}
+use Prim.Native.Nat.{ℕ, zero, suc, ◌+◌, ◌^◌, ◌<◌}
 use native.Mathlib.Omega.{arith}
 use native.Mathlib.Nat.{pow-suc}
 use Rattle.rules.specs.Step.{last_where}
@@ -30,3 +30,19 @@ last-turns test (suc k) a h l = go (test (a + 2 ^ k)) refl (last-turns test k a)
         → Turns test (last_where test k (cond b (a + 2 ^ k) a))
     go true e f g = g e (ap test (add-pow a k) ∙ l)
     go false e f g = f h e
+
+-- and it never passes 2 ^ k
+pub last-below : (test : ℕ → Bool) (k a : ℕ) → last_where test k a < a + 2 ^ k
+unfolding last_where
+last-below test zero a = omega (arith, add-last a)
+last-below test (suc k) a = go (test (a + 2 ^ k)) (last-below test k a) (last-below test k (a + 2 ^ k))
+  where
+    more : (r : ℕ) → r < a + 2 ^ k + 2 ^ k → r < a + 2 ^ suc k
+    more r h = omega (arith, pow-suc 2 k)
+
+    less : (r : ℕ) → r < a + 2 ^ k → r < a + 2 ^ suc k
+    less r h = omega (arith, pow-suc 2 k)
+
+    go : (b : Bool) → last_where test k a < a + 2 ^ k → last_where test k (a + 2 ^ k) < a + 2 ^ k + 2 ^ k → last_where test k (cond b (a + 2 ^ k) a) < a + 2 ^ suc k
+    go true f g = more (last_where test k (a + 2 ^ k)) g
+    go false f g = less (last_where test k a) f

@@ -1,15 +1,15 @@
 -- A run and its twin on the frame negated under a codeword: alike round by round, and call by call. Assumes nothing.
 use mathlib.Core.Path.{◌≡◌, refl, sym, ◌∙◌, ap, ap₂, subst}
-use mathlib.Core.Bool.{Bool, true, false, ◌&&◌}
+use mathlib.Core.Bool.{Bool, true, false, cond, ◌&&◌, ◌||◌}
 use mathlib.Core.List.{List, [], ◌∷◌}
 use mathlib.Core.Option.{Option, some, none}
-use Prim.Native.Nat.{ℕ, zero, suc, ◌*◌, ◌≤◌}
+use Prim.Native.Nat.{ℕ, zero, suc, ◌+◌, ◌*◌, ◌≤◌}
 use lib.Dec.{leb, ltb, eqb}
 use lib.ListN.{length, take}
 use lib.IntN.{ℤ, pos, negsuc, neg_ℤ, ◌-ℤ◌, nat_abs}
 use Rattle.integers.specs.Linear.{lin, arith_z}
 use Rattle.integers.specs.Product.{abs_neg}
-use Rattle.rules.specs.Limits.{unit, frame_limit, round_limit, offset_per_round}
+use Rattle.rules.specs.Limits.{unit, frame_limit, round_limit, offset_per_round, max_multiplier}
 use Rattle.rules.specs.Refusal.{Answer, refused, gives, must, asked_too_much, buffer_short, run_ended, run_damaged, frame_length, frame_range}
 use Rattle.rules.specs.Table.{Table, edges, checks_of, bits_at}
 use Rattle.rules.specs.Parity.{turn, plus, turns, Codeword}
@@ -17,15 +17,15 @@ use Rattle.rules.specs.Input.{each_within, on_frame}
 use Rattle.rules.specs.Step.{Entry, inactive, active}
 use Rattle.rules.specs.Round.{State, is_zero, sums_of, Round, round}
 use Rattle.rules.specs.Buffers.{Lengths, needs, fits, over_by, word_left, multiplier_of, multipliers_of, bytes_of}
-use Rattle.rules.specs.Run.{Status, running, certified, spent, Progress, Run, status_at, moved, next_by, state_in, sums_in, coming, next, iterate}
-use Rattle.rules.specs.Run.{is_running, same, limited, sound, sound_run, admits, Called, perform, call_on}
+use Rattle.rules.specs.Run.{Status, running, certified, spent, Progress, Run, status_at, moved, too_large, next_by, state_in, sums_in, next, iterate}
+use Rattle.rules.specs.Run.{is_running, same, limited, sound, sound_run, admits, answer_at, Called, perform, call_on}
 use Rattle.rules.proofs.CutRule.{plus_o}
 use Rattle.rules.proofs.Steps.{turn_entry}
 use Rattle.rules.proofs.RoundTurns.{signs, turn_state, turn_entries}
 use Rattle.rules.proofs.WordTurns.{turn_round, sums-turn, round-turns}
 use Rattle.rules.proofs.BufferLaws.{take-over}
 use Rattle.rules.proofs.RoundSizes.{Sized, round-sized, state-written, sums-written}
-use Rattle.rules.proofs.Runs.{uncertified}
+use Rattle.rules.proofs.Runs.{coming, uncertified}
 
 -- a word in the one buffer, and that word plus c in the other
 pub record Worded (n : ℕ) (c : List Bool) (x y : List ℕ) : Type 0 where
@@ -50,6 +50,11 @@ multipliers-turn : (c : List Bool) (cs : List (List ℕ)) (es : List Entry) → 
 multipliers-turn c [] es = refl
 multipliers-turn c (ms ∷ cs) [] = refl
 multipliers-turn c (ms ∷ cs) (e ∷ es) = ap₂ ◌∷◌ (multiplier-turn (bits_at c ms) e) (multipliers-turn c cs es)
+
+large-turn : (c : List Bool) (cs : List (List ℕ)) (es : List Entry) → too_large (turn_entries c cs es) ≡ too_large es
+large-turn c [] es = refl
+large-turn c (ms ∷ cs) [] = refl
+large-turn c (ms ∷ cs) (e ∷ es) = ap₂ (λ a b. ltb max_multiplier a || b) (multiplier-turn (bits_at c ms) e) (large-turn c cs es)
 
 status-turn : (c : List Bool) (k : ℕ) (o : Option (List Bool)) → status_at k (plus_o c o) ≡ status_at k o
 status-turn c k none = refl
@@ -93,9 +98,14 @@ module _ (t : Table) (c : List Bool) (l : List ℤ) (k : Codeword t c) where
       z : Sized t (turn_round c t.checks (coming t l r))
       z = subst (Sized t) (coming-twin r q h) (round-sized t (turns c l) (state_in t q.buffers))
 
+      by_size : (b : Bool) → Twin t c (cond b r (moved r (coming t l r))) (cond b q (moved q (turn_round c t.checks (coming t l r))))
+      by_size true = h
+      by_size false = moved-twin t c r q (coming t l r) (round-sized t l (state_in t r.buffers)) z h
+
       go : (s : Status) → Twin t c (next_by s r (coming t l r)) (next_by s q (coming t (turns c l) q))
-      go running = subst (λ d. Twin t c (moved r (coming t l r)) (moved q d)) (sym (coming-twin r q h))
-          (moved-twin t c r q (coming t l r) (round-sized t l (state_in t r.buffers)) z h)
+      go running = subst (λ d. Twin t c (next_by running r (coming t l r)) (next_by running q d)) (sym (coming-twin r q h))
+          (subst (λ b. Twin t c (next_by running r (coming t l r)) (cond b q (moved q (turn_round c t.checks (coming t l r))))) (sym (large-turn c t.checks (coming t l r).entries))
+          (by_size (too_large (coming t l r).entries)))
       go certified = h
       go spent = h
 
@@ -175,4 +185,7 @@ call-twin t c l v n r q k h = subst (λ a. Alike t c (perform t l v r (admits t 
 
     go : (a : Answer (Unit {0})) → Alike t c (perform t l v r a) (perform t (turns c l) v q a)
     go (refused e) = record { answer = refl; run = h }
-    go (gives u) = record { answer = ap (λ p. gives p.status) i.progress; run = i }
+    go (gives u) = record {
+      answer = ap₂ (λ p p'. answer_at p.status p.rounds (p'.rounds + v)) i.progress h.progress;
+      run = i;
+    }

@@ -9,7 +9,7 @@ use native.Mathlib.Omega.{arith}
 use native.Mathlib.Nat.{zero-add, add-zero, le_of_eq}
 use lib.Dec.{leb, ltb, eqb}
 use lib.Pow.{pow_mono}
-use borrow.Author.Tests.{lt-ltb, le-leb, eq-eqb}
+use borrow.Author.Tests.{lt-ltb, le-leb, eq-eqb, ltb-false}
 use lib.ListN.{length, get_or}
 use lib.IntN.{ℤ}
 use Rattle.integers.specs.Count.{first-in}
@@ -26,7 +26,9 @@ use Rattle.rules.specs.Bound.{Row, rows_of}
 use Rattle.rules.specs.Certificate.{cuts_in, certificate_of, Item, members_at, follows, on_item, on_items, entries_of, scale_of, items_of, on_certificate, rows_at}
 use Rattle.rules.specs.Sole.{sole}
 use Rattle.rules.specs.Judge.{passes, verdict, judge, weigh}
-use Rattle.rules.specs.Buffers.{multipliers_of, AllUpTo, bytes_of}
+use Rattle.rules.specs.Buffers.{bytes_of}
+use Rattle.rules.specs.Run.{too_large}
+use Rattle.rules.proofs.Basics.{or-false}
 use Rattle.rules.proofs.Signs.{alike-length}
 use Rattle.rules.proofs.Masks.{digit-back, set-mask, mask_below, set-right}
 use Rattle.rules.proofs.AnswerLaws.{must-true, then-of}
@@ -53,24 +55,21 @@ pub bytes-length : (w : List Bool) → length (bytes_of w) ≡ length w
 bytes-length [] = refl
 bytes-length (b ∷ w) = ap suc (bytes-length w)
 
--- ---- entries that a round can have: as long as their checks, odd, with multipliers in a certificate's range
-abbrev Ranged : List Entry → Type 0
-Ranged es = AllUpTo max_multiplier (multipliers_of es)
-
+-- ---- entries that a round can have: as long as their checks, odd, with multipliers in range
 abbrev pub AllProper : List (List ℕ) → List Entry → Type 0
 AllProper [] [] = Unit {0}
 AllProper [] (e ∷ es) = ⊥
 AllProper (ms ∷ cs) [] = ⊥
 AllProper (ms ∷ cs) (e ∷ es) = Proper ms e × AllProper cs es
 
-narrow : (cs : List (List ℕ)) (es : List Entry) → Degrees cs → AllProper cs es → Ranged es → Narrow es
+narrow : (cs : List (List ℕ)) (es : List Entry) → Degrees cs → AllProper cs es → too_large es ≡ false → Narrow es
 narrow cs [] d p b = tt
 narrow [] (e ∷ es) d p b = absurd p
-narrow (ms ∷ cs) (inactive ∷ es) d p b = (omega arith, omega arith, narrow cs es d.1 p.1 b.1)
+narrow (ms ∷ cs) (inactive ∷ es) d p b = (omega arith, omega arith, narrow cs es d.1 p.1 (or-false (ltb max_multiplier 0) (too_large es) b).1)
 narrow (ms ∷ cs) (active m ts ∷ es) d p b = (
-  fits m b.0,
+  fits m (ltb-false max_multiplier m (or-false (ltb max_multiplier m) (too_large es) b).0),
   below (mask_of ts) (2 ^ length ts) (mask_below ts) (pow_mono (subst (λ n. n ≤ 32) (alike-length ts ms p.0.1) d.0)),
-  narrow cs es d.1 p.1 b.1,
+  narrow cs es d.1 p.1 (or-false (ltb max_multiplier m) (too_large es) b).1,
 )
   where
     fits : (m : ℕ) → m ≤ max_multiplier → m < u32_limit
@@ -141,17 +140,17 @@ module _ {A : Type 0} (t : Table) where
       ∙ must-true (mask_right (length (members_at t j)) (mask_of ts)) mask_wrong _ (set-right (length (members_at t j)) ts (sym (alike-length ts (members_at t j) proper.1)) proper.0)
       ∙ must-true (follows p (item_of j b ts)) entry_order a (follows_on p (item_of j b ts) bf)
 
-  items-right : (p : Option Item) (j : ℕ) (cs : List (List ℕ)) (es : List Entry) (a : Answer A) → From t j cs → AllProper cs es → Ranged es → Before p j
+  items-right : (p : Option Item) (j : ℕ) (cs : List (List ℕ)) (es : List Entry) (a : Answer A) → From t j cs → AllProper cs es → too_large es ≡ false → Before p j
       → on_items t p (listed j es) a ≡ a
   unfolding on_items
   items-right p j [] [] a f q b h = refl
   items-right p j [] (e ∷ es) a f q b h = absurd q
   items-right p j (ms ∷ cs) [] a f q b h = absurd q
-  items-right p j (ms ∷ cs) (inactive ∷ es) a f q b h = items-right p (suc j) cs es a (from_next t j ms cs f) q.1 b.1 (before-next p j h)
+  items-right p j (ms ∷ cs) (inactive ∷ es) a f q b h = items-right p (suc j) cs es a (from_next t j ms cs f) q.1 (or-false (ltb max_multiplier 0) (too_large es) b).1 (before-next p j h)
   items-right p j (ms ∷ cs) (active m ts ∷ es) a f q b h =
       item-right p j m ts (on_items t (some (item_of j m ts)) (listed (suc j) es) a) (from-below t j ms cs f)
-      (subst (λ l. Proper l (active m ts)) (sym (from-here t j ms cs f)) q.0) b.0 h
-      ∙ items-right (some (item_of j m ts)) (suc j) cs es a (from_next t j ms cs f) q.1 b.1 (omega arith)
+      (subst (λ l. Proper l (active m ts)) (sym (from-here t j ms cs f)) q.0) (ltb-false max_multiplier m (or-false (ltb max_multiplier m) (too_large es) b).0) h
+      ∙ items-right (some (item_of j m ts)) (suc j) cs es a (from_next t j ms cs f) q.1 (or-false (ltb max_multiplier m) (too_large es) b).1 (omega arith)
 
 -- ---- the whole certificate
 -- an entry for each check: the number of cuts reads back
@@ -161,13 +160,13 @@ checks-written es {m} e h = entries-written es (fewer (cuts_in es) (length es) m
     fewer : (q n m : ℕ) → q ≤ n → n ≡ m → m ≤ max_checks → q < u16_limit
     fewer q n m h e k = omega arith
 
-items_back : (t : Table) (es : List Entry) → Sound t → AllProper t.checks es → Ranged es → items_of (certificate_of es) ≡ listed 0 es
+items_back : (t : Table) (es : List Entry) → Sound t → AllProper t.checks es → too_large es ≡ false → items_of (certificate_of es) ≡ listed 0 es
 items_back t es s p b = items-written es (wide (length es) (checks_of t) (proper-many t.checks es p) s.checks.1) (narrow t.checks es s.degrees p b)
   where
     wide : (n m : ℕ) → n ≡ m → m ≤ max_checks → n < u16_limit
     wide n m e h = omega arith
 
-certificate-right : {A : Type 0} (t : Table) (es : List Entry) (a : Answer A) → Sound t → AllProper t.checks es → Ranged es → on_certificate t (certificate_of es) a ≡ a
+certificate-right : {A : Type 0} (t : Table) (es : List Entry) (a : Answer A) → Sound t → AllProper t.checks es → too_large es ≡ false → on_certificate t (certificate_of es) a ≡ a
 unfolding on_certificate in_range
 certificate-right t es a s p b =
     must-true _ certificate_wrong _
@@ -199,7 +198,7 @@ pub record Framed (t : Table) (l : List ℤ) : Type 0 where
 pub record Closes (t : Table) (l : List ℤ) (w : List Bool) (es : List Entry) : Type 0 where
   pub long : length w ≡ t.bits
   pub proper : AllProper t.checks es
-  pub small : Ranged es
+  pub small : too_large es ≡ false
   pub passed : Passed t l (rows_of t.checks es) w
 
 module _ (file : List ℕ) (t : Table) (is_file : code_file file ≡ gives t) where

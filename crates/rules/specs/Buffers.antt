@@ -206,11 +206,6 @@ abbrev pub multipliers_of : List Entry → List ℕ
 multipliers_of [] = []
 multipliers_of (e ∷ es) = multiplier_of e ∷ multipliers_of es
 
--- none of the numbers is above n
-abbrev pub AllUpTo : ℕ → List ℕ → Type 0
-AllUpTo n [] = Unit {0}
-AllUpTo n (b ∷ bs) = (b ≤ n) × AllUpTo n bs
-
 abbrev pub mask_in : Entry → ℕ
 mask_in inactive = 0
 mask_in (active b ts) = mask_of ts

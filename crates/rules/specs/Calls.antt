@@ -1,7 +1,7 @@
 -- A list of calls for rounds in one run, and what demand 3 says of such lists (document 01, "One round"; document 00, demand 3). Definitions only.
 -- Assumes nothing.
-use Rattle.std.specs.Prelude.{◌≡◌, Bool, List, [], ◌∷◌, ℕ, ◌+◌, take, ℤ}
-use Rattle.rules.specs.Refusal.{Answer, refused, gives}
+use Rattle.std.specs.Prelude.{◌≡◌, Bool, cond, List, [], ◌∷◌, ℕ, ◌+◌, ◌-◌, eqb, take, ℤ}
+use Rattle.rules.specs.Refusal.{Answer, refused, gives, multiplier_large}
 use Rattle.rules.specs.Buffers.{Buffers, Lengths, part_of, over_all, bytes_of}
 use Rattle.rules.specs.Run.{Status, certified, Run, Called, call, Started, start, fresh}
 
@@ -47,6 +47,16 @@ wanted_in (x ∷ xs) (d ∷ ds) = wanted_by d.answer x.wanted + wanted_in xs ds
 abbrev pub run_after : Run → List Called → Run
 run_after r [] = r
 run_after r (d ∷ ds) = run_after d.run ds
+
+-- "those wanted by its calls not refused, and those a call counted before 44, added up", of a run that had done n rounds before
+abbrev pub counted_by : Answer Status → ℕ → ℕ → ℕ
+counted_by (refused k) v n = cond (eqb k multiplier_large) n 0
+counted_by (gives s) v n = v
+
+abbrev pub counted_in : ℕ → List Call → List Called → ℕ
+counted_in n [] ds = 0
+counted_in n (x ∷ xs) [] = 0
+counted_in n (x ∷ xs) (d ∷ ds) = counted_by d.answer x.wanted (d.run.progress.rounds - n) + counted_in d.run.progress.rounds xs ds
 
 -- "A list certifies w if one of its calls answers certified and writes w; w took the rounds done by then. A call's multipliers are the m numbers it
 -- leaves in their buffer": of n bits and m checks

@@ -8,7 +8,7 @@ use Rattle.rules.specs.Parity.{plus, turns, Codeword, agreement, Point, point_ag
 use Rattle.rules.specs.CodeFile.{code_file}
 use Rattle.rules.specs.Buffers.{Buffers, Lengths, lengths_of, fits, bytes_of}
 use Rattle.rules.specs.Run.{running, certified, Run, iterate, Called, fresh}
-use Rattle.rules.specs.Calls.{Call, call_list, start_on, started_run, wanted_in, run_after, Certifies}
+use Rattle.rules.specs.Calls.{Call, call_list, start_on, started_run, wanted_in, run_after, counted_in, Certifies}
 
 -- "no codeword and no point of the parity relaxation agrees with the frame better than w"
 pub record Best (t : Table) (l : List ℤ) (w : List Bool) : Type 0 where
@@ -52,11 +52,11 @@ SamePlaces t c [] (y ∷ ys) = ⊥
 SamePlaces t c (x ∷ xs) [] = ⊥
 SamePlaces t c (x ∷ xs) (y ∷ ys) = SamePlace t c x y × SamePlaces t c xs ys
 
--- "The rounds done after a list are those wanted by its calls not refused [..] added up, but none beyond the round that ends the run". That round: the
--- run, let do 1,024, has ended, and has done so many.
+-- "The rounds done after a list are those wanted by its calls not refused, and those a call counted before 44, added up, but none beyond the round
+-- that ends the run". That round: the run, let do 1,024, has ended, and has done so many.
 pub record RoundsDone (t : Table) (l : List ℤ) (calls : List Call) (r : Run) (ds : List Called) : Type 0 where
   pub ends : (iterate t l round_limit r).progress.status ≡ running → ⊥
-  pub rounds : (run_after r ds).progress.rounds ≡ min (wanted_in calls ds) (iterate t l round_limit r).progress.rounds
+  pub rounds : (run_after r ds).progress.rounds ≡ min (counted_in 0 calls ds) (iterate t l round_limit r).progress.rounds
 
 -- "every other list from a fresh start" on this frame certifies w, after k rounds and with multipliers bs, "once its calls not refused want together
 -- at least that many"

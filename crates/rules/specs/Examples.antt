@@ -3,7 +3,7 @@
 use Rattle.std.specs.Prelude.{◌≡◌, refl, List, [], ◌∷◌, ◌++◌, ℕ, zero, suc, ◌+◌, ◌/◌, ◌%◌, ℤ, pos, negsuc, replicate}
 use lib.Count.{ones}
 use Rattle.integers.specs.Clip.{clip_z}
-use Rattle.rules.specs.Refusal.{Reply, must, then, reply_of}
+use Rattle.rules.specs.Refusal.{refused, gives, Reply, must, then, reply_of}
 use Rattle.rules.specs.Bytes.{u16_at, u32_at}
 use Rattle.rules.specs.Parity.{agreement}
 use Rattle.rules.specs.Mask.{mask_right}
@@ -19,10 +19,10 @@ use Rattle.rules.specs.Judge.{verdict, judge, judge_reply}
 use Rattle.rules.specs.Scaled.{times, at_scale}
 use Rattle.rules.specs.Buffers.{Buffers, Lengths, needs_by, fits, fits_start, blank}
 use Rattle.rules.specs.Run.{running, certified, spent, Run, next, iterate, limited, sound, admits, call_on, call, start}
-use Rattle.rules.specs.Calls.{Call, lent_call}
+use Rattle.rules.specs.Calls.{Call, lent_call, counted_by}
 use Rattle.rules.specs.Report.{certified_line, spent_line, frame_line}
 use Rattle.rules.specs.Question.{Question, file_is, cut_is, judged, start_is, call_is, shows, line_is, list_is, count_is, Case, asked, said, answer_to}
-use Rattle.rules.specs.Question.{Place, Said, reply, shown, buffers, extreme, edge, dirty, leaving, line, places, counts}
+use Rattle.rules.specs.Question.{Place, Said, reply, shown, buffers, extreme, dirty, leaving, line, places, counts}
 use Rattle.rules.specs.Frames.{three_bits, one_bit, frame_a, with_multiplier, word000}
 
 abbrev no : ℕ → Reply
@@ -247,12 +247,6 @@ calls =
     -- the largest sum that 43 lets pass: 32 times U and 8,192 × 1,023
     ∷ unchanged (on_bit0 32) 0 (stands 1023 running (extreme (pos 268304384)))
     ∷ row (call_is (on_bit0 32) (pos 5 ∷ []) 0 (stands 1023 running (extreme (pos 268304385)))) (stays 43 (stands 1023 running (extreme (pos 268304385))))
-    -- the largest multiplier, 8,388,608, in round 1,024 of a run resumed at 43's edge; and an offset one further
-    ∷ row (call_is (on_bit0 3) (pos 8191 ∷ []) 1 (stands 1023 running (edge (negsuc 8380415) (negsuc 8392703))))
-    (leaving (yes (pos 2 ∷ [])) 1024
-    (negsuc 4095 ∷ []) (replicate 3 (pos 4096)) (negsuc 8388607 ∷ pos 8372224 ∷ pos 8372224 ∷ []) (negsuc 8343551 ∷ [])
-    (8388608 ∷ 0 ∷ 0 ∷ []) (1 ∷ 0 ∷ 0 ∷ []) (8192 ∷ 0 ∷ 0 ∷ []) (6 ∷ []) (replicate 34 5))
-    ∷ row (call_is (on_bit0 3) (pos 8191 ∷ []) 1 (stands 1023 running (edge (negsuc 8380416) (negsuc 8392702)))) (stays 43 (stands 1023 running (edge (negsuc 8380416) (negsuc 8392702))))
     -- round 1,024 without a certificate: spent
     ∷ row (call_is one_bit (pos 0 ∷ []) 1024 (stands 1023 running (buffers (pos 0 ∷ []) (pos 0 ∷ []) (pos 0 ∷ []))))
     (leaving (yes (pos 2 ∷ [])) 1024
@@ -365,6 +359,10 @@ report =
     ∷ row (line_is three_bits (pos 10 ∷ pos 10 ∷ pos 10 ∷ [])) (line (certified_line 1 (pos 30) 0))
     ∷ row (line_is three_bits (pos 0 ∷ pos 0 ∷ pos 0 ∷ [])) (line (spent_line 1024))
     ∷ []
+
+-- "those a call counted before 44"; of other refusals none
+counted-44 : (counted_by (refused 44) 7 2 ≡ 2) × (counted_by (refused 43) 7 2 ≡ 0) × (counted_by (gives running) 7 2 ≡ 7)
+counted-44 = (refl, refl, refl)
 
 pub cases : List Case
 cases = files ++ cuts ++ certificates ++ empties ++ scales ++ marks ++ calls ++ rounds ++ lists ++ report

@@ -52,9 +52,9 @@ offset_limit = offset_per_round * (round_limit - 1)
 abbrev pub value_limit : ℕ
 value_limit = unit + offset_limit
 
--- "a multiplier never exceeds 8,388,608" (document 02, #114): U and the size of a value
+-- its greatest multiplier: U and the size of a value
 abbrev pub step_limit : ℕ
-step_limit = 8388608
+step_limit = unit + value_limit
 
 -- the size of z − y after it, and of a bit's sum of them
 abbrev pub weight_limit : ℕ

@@ -11,7 +11,7 @@ use Rattle.rules.specs.Certificate.{scale_of, items_of, rows_at}
 use Rattle.rules.specs.Judge.{judge_reply}
 use Rattle.rules.specs.Buffers.{Buffers, lent, needs, start_lent, blank}
 use Rattle.rules.specs.Run.{Run, iterate, Called, call, status_values, start, progress_values}
-use Rattle.rules.specs.Calls.{Call, call_list, started_run, wanted_in, run_after}
+use Rattle.rules.specs.Calls.{Call, call_list, started_run, run_after, counted_in}
 use Rattle.rules.specs.Report.{Line, frame_line}
 
 pub data Question : Type 0 where
@@ -33,7 +33,7 @@ pub data Question : Type 0 where
   line_is : List ℕ → List ℤ → Question
   -- answer, rounds, multipliers, depths and word at each place of a list of calls from a fresh start
   list_is : List ℕ → List ℤ → List Call → Buffers → Question
-  -- the rounds done after such a list, those that its calls not refused want, and the round that ends the run
+  -- the rounds done after such a list, those that its calls count, and the round that ends the run
   count_is : List ℕ → List ℤ → List Call → Buffers → Question
 
 pub record Place : Type 0 where
@@ -61,11 +61,6 @@ buffers z y x = lent (pos 9 ∷ []) z y x (8 ∷ []) (7 ∷ []) (4 ∷ []) (6 �
 abbrev pub extreme : ℤ → Buffers
 extreme x =
     lent (pos 9 ∷ []) (replicate 32 (pos unit)) (replicate 32 (neg_ℤ (pos offset_limit))) (x ∷ []) (replicate 32 8) (replicate 32 7) (replicate 32 4) (6 ∷ []) (replicate 324 5)
-
--- of one bit in three checks of one member, before round 1,024: copies at −U, two offsets at 43's limit, and this offset on the first check and this sum
-abbrev pub edge : ℤ → ℤ → Buffers
-edge y x =
-    lent (pos 9 ∷ []) (replicate 3 (neg_ℤ (pos unit))) (y ∷ replicate 2 (pos offset_limit)) (x ∷ []) (replicate 3 8) (replicate 3 7) (replicate 3 4) (6 ∷ []) (replicate 34 5)
 
 abbrev pub dirty : ℤ → ℕ → Buffers
 dirty z n = lent (replicate 3 z) (replicate 4 z) (replicate 5 z) (replicate 6 z) (replicate 1 n) (replicate 1 n) (replicate 1 n) (replicate 3 n) (replicate 15 n)
@@ -99,7 +94,7 @@ abbrev ran_fresh : List ℕ → List ℤ → ℕ → Table → Called
 ran_fresh file l k t = call file l k (started_run file (blank (needs t)))
 
 abbrev counts_of : Table → List ℤ → List Call → Run → List Called → Said
-counts_of t l xs r ds = counts (run_after r ds).progress.rounds (wanted_in xs ds) (iterate t l round_limit r).progress.rounds
+counts_of t l xs r ds = counts (run_after r ds).progress.rounds (counted_in 0 xs ds) (iterate t l round_limit r).progress.rounds
 
 abbrev bound_of : Table → List ℤ → List ℕ → Said
 bound_of t l bs = number (bound t.bits (scale_of bs) l (rows_at t (items_of bs)))

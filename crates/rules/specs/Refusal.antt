@@ -1,6 +1,6 @@
 -- An answer, or a refusal by its number (document 01, "Turned down because of what was handed in" and "because of how the run stands").
 -- Definitions only. Assumes nothing.
-use Rattle.std.specs.Prelude.{◌≡◌, Bool, true, false, ◌&&◌, ◌||◌, List, [], leb, ℤ, ℕ}
+use Rattle.std.specs.Prelude.{Bool, true, false, List, [], ℤ, ℕ}
 
 pub data Answer (A : Type 0) : Type 0 where
   refused : ℕ → Answer A
@@ -79,16 +79,8 @@ run_ended = 42
 abbrev pub run_damaged : ℕ
 run_damaged = 43
 
--- ---- the numbers that there are: 1 to 17, and 41 to 43
-abbrev pub is_refusal : ℕ → Bool
-is_refusal k = (leb header_short k && leb k asked_too_much) || (leb buffer_short k && leb k run_damaged)
-
--- if it refuses, then by one of them
-abbrev pub Numbered : {A : Type 0} → Answer A → Type 0
-Numbered a = (k : ℕ) → a ≡ refused k → is_refusal k ≡ true
-
-abbrev pub NotRefused : {A : Type 0} → Answer A → Type 0
-NotRefused a = (k : ℕ) → a ≡ refused k → ⊥
+abbrev pub multiplier_large : ℕ
+multiplier_large = 44
 
 -- ---- the number and the values of an answer: number 0 and what the call answers, or the refusal's number and no value
 pub record Reply : Type 0 where

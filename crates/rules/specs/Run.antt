@@ -1,15 +1,16 @@
 -- A run: its record, its start, a call for rounds, and what each buffer holds afterwards (document 01, "One round" and "Turned down because of how
 -- the run stands"). Definitions only. Assumes nothing.
-use Rattle.std.specs.Prelude.{◌≡◌, Bool, true, false, cond, ◌&&◌, List, [], ◌∷◌, ℕ, zero, suc, ◌*◌, ◌<◌, leb, ltb, take, ℤ, pos, ◌-ℤ◌}
+use Rattle.std.specs.Prelude.{◌≡◌, Bool, true, false, cond, ◌&&◌, ◌||◌, List, [], ◌∷◌, ℕ, zero, suc, ◌+◌, ◌*◌, ◌<◌, leb, ltb, eqb, take, ℤ, pos, ◌-ℤ◌}
 use Rattle.std.proofs.Math.Option.{Option, some, none}
 use Rattle.integers.specs.Sum.{AllWithin}
-use Rattle.rules.specs.Limits.{unit, round_limit, offset_per_round, step_limit}
-use Rattle.rules.specs.Refusal.{Answer, refused, gives, must, then, asked_too_much, buffer_short, run_ended, run_damaged}
-use Rattle.rules.specs.Table.{Table, edges, edges_of, checks_of}
+use Rattle.rules.specs.Limits.{unit, round_limit, offset_per_round, max_multiplier}
+use Rattle.rules.specs.Refusal.{Answer, refused, gives, must, then, asked_too_much, buffer_short, run_ended, run_damaged, multiplier_large}
+use Rattle.rules.specs.Table.{Table, edges, edges_of}
 use Rattle.rules.specs.CodeFile.{code_file}
 use Rattle.rules.specs.Input.{each_within, on_frame}
+use Rattle.rules.specs.Step.{Entry}
 use Rattle.rules.specs.Round.{State, is_zero, sums_of, Round, round}
-use Rattle.rules.specs.Buffers.{Buffers, Lengths, lengths_of, needs, fits, write, fits_start, zeroing, multipliers_of, AllUpTo, leaves}
+use Rattle.rules.specs.Buffers.{Buffers, Lengths, lengths_of, needs, fits, write, fits_start, zeroing, multiplier_of, leaves}
 
 -- "whether the run is running, certified or spent"
 pub data Status : Type 0 where
@@ -46,9 +47,14 @@ moved r d = record {
   buffers = written d r.buffers;
 }
 
--- a run that has ended stays
+-- "44 a round's multiplier above 16,777,215"
+abbrev pub too_large : List Entry → Bool
+too_large [] = false
+too_large (e ∷ es) = ltb max_multiplier (multiplier_of e) || too_large es
+
+-- A run that has ended, or whose next round is refused with 44 ("that round is not counted and no buffer shows it"), stays.
 abbrev pub next_by : Status → Run → Round → Run
-next_by running r d = moved r d
+next_by running r d = cond (too_large d.entries) r (moved r d)
 next_by certified r d = r
 next_by spent r d = r
 
@@ -62,12 +68,8 @@ sums_in t b = take t.bits b.sums
 abbrev pub true_sums : Table → Buffers → List ℤ
 true_sums t b = sums_of t.bits (edges t.checks) (state_in t b)
 
--- the round that comes next
-abbrev pub coming : Table → List ℤ → Run → Round
-coming t l r = round t l (state_in t r.buffers)
-
 unfoldable pub next : Table → List ℤ → Run → Run
-next t l r = next_by r.progress.status r (coming t l r)
+next t l r = next_by r.progress.status r (round t l (state_in t r.buffers))
 
 -- "fewer are done if the run ends. 0 rounds change nothing"
 unfoldable pub iterate : Table → List ℤ → ℕ → Run → Run
@@ -116,13 +118,18 @@ admits t l wanted lent r =
     (gives tt)))))
 
 -- ---- a call for rounds
+-- "a call for rounds that neither is refused nor ends the run answers running"; running with fewer rounds done than due, the next was refused with 44
+abbrev pub answer_at : Status → ℕ → ℕ → Answer Status
+answer_at running done due = cond (eqb done due) (gives running) (refused multiplier_large)
+answer_at certified done due = gives certified
+answer_at spent done due = gives spent
+
 pub record Called : Type 0 where
   pub answer : Answer Status
   pub run : Run
 
--- "a call for rounds that neither is refused nor ends the run answers running"
-abbrev pub ran_on : Run → Called
-ran_on r = record { answer = gives r.progress.status; run = r }
+abbrev pub ran_on : ℕ → Run → Called
+ran_on due r = record { answer = answer_at r.progress.status r.progress.rounds due; run = r }
 
 -- "A refusal returns its number, the run's record unchanged, and no buffer changed"
 abbrev pub refused_at : ℕ → Run → Called
@@ -130,7 +137,7 @@ refused_at k r = record { answer = refused k; run = r }
 
 abbrev pub perform : Table → List ℤ → ℕ → Run → Answer (Unit {0}) → Called
 perform t l wanted r (refused k) = refused_at k r
-perform t l wanted r (gives u) = ran_on (iterate t l wanted r)
+perform t l wanted r (gives u) = ran_on (r.progress.rounds + wanted) (iterate t l wanted r)
 
 unfoldable pub call_on : Table → List ℤ → ℕ → Lengths → Run → Called
 call_on t l wanted lent r = perform t l wanted r (admits t l wanted lent r)
@@ -142,12 +149,6 @@ call_by l wanted r (gives t) = call_on t l wanted (lengths_of r.buffers) r
 -- any code file, frame, wanted number, record and lent buffers
 unfoldable pub call : List ℕ → List ℤ → ℕ → Run → Called
 call file l wanted r = call_by l wanted r (code_file file)
-
--- "a multiplier never exceeds 8,388,608" (document 02, #114), where a call on the run r left d: in every round that the run does from there, however
--- many are wanted, and in the m numbers that the call left if it did a round
-pub record MultipliersLimited (t : Table) (l : List ℤ) (r : Run) (d : Called) : Type 0 where
-  pub each : (k : ℕ) → (iterate t l k r).progress.status ≡ running → AllUpTo step_limit (multipliers_of (coming t l (iterate t l k r)).entries)
-  pub left : r.progress.rounds < d.run.progress.rounds → AllUpTo step_limit (take (checks_of t) d.run.buffers.multipliers)
 
 -- the values of the answer: 0 running, 1 certified, 2 spent
 abbrev pub status_number : Status → ℕ

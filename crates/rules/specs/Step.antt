@@ -30,8 +30,8 @@ unfoldable pub last_where : (ℕ → Bool) → ℕ → ℕ → ℕ
 last_where test zero a = a
 last_where test (suc k) a = last_where test k (cond (test (a + 2 ^ k)) (a + 2 ^ k) a)
 
--- "the multiplier b is the least whole number for which z meets V's inequality": one more than the last at which it is not met. The search is for
--- numbers up to 2 ^ 24, twice the largest multiplier of a run that 43 lets pass, which is 2 ^ 23.
+-- "the multiplier b is the least whole number for which z meets V's inequality": one more than the last at which it is not met. The search ends
+-- at 2 ^ 24, which is above the limit of a multiplier and refused as such.
 unfoldable pub multiplier : ℕ → List Bool → List ℤ → ℕ
 multiplier u ts vs = suc (last_where (short u ts vs) 24 0)
 

@@ -1,5 +1,7 @@
 // How a run stands: its record, its start, and the refusals of a call for rounds (document 01,
 // "Turned down because of how the run stands").
+#![tactic(auto)]
+
 mod bounds;
 pub mod clear;
 pub mod ending;

@@ -1,5 +1,7 @@
 // A bit's spin from its total, and whether all spins are decided (document 01, "One round", steps 1
 // and 4).
+#![tactic(auto)]
+
 pub mod totals;
 
 ghost use Rattle.std.specs.Prelude.{◌≡◌, not, ◌&&◌, neg_ℤ, nat_abs};

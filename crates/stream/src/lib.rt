@@ -1,5 +1,7 @@
 // Numbers on standard input and output, for the programs. No contract can say what is read or
 // written: the readers' contracts say how much they answer and what they leave alone.
+#![tactic(auto)]
+
 ghost use Rattle.std.specs.Prelude.{◌≡◌, ◌+◌, ◌*◌, ◌≤◌, ◌<◌, pos, nat_abs, length, ◌≤ℤ◌};
 ghost use Rattle.std.specs.Int.{w16, w32};
 ghost use Rattle.std.proofs.Common.{to_z};

@@ -1,5 +1,7 @@
 // The code file of document 01: checked, or refused with the document's number, and loaded into
 // starts and members.
+#![tactic(auto)]
+
 mod bodies;
 mod contents;
 mod degrees;

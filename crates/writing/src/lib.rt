@@ -1,5 +1,7 @@
 // What a certified run writes, as bytes: the word and the certificate (document 01, "Certificates").
 // Each answers 0, or the refusal's number of document 01 with nothing changed.
+#![tactic(auto)]
+
 mod entries;
 
 ghost use Rattle.std.specs.Prelude.{◌≡◌};

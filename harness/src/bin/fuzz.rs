@@ -2,7 +2,8 @@
 //! one.
 //!
 //! Each refusal, cuts of the least and of the greatest depth, and the multipliers at 43's limits must be met at
-//! least a few times over a whole series, and verdicts of gap 0 more often, with the mark and without it.
+//! least a few times over a whole series, and verdicts of gap 0 more often, with the mark and without it. Refusal
+//! 44 is not among them: no run that passes 43 can meet it.
 //!
 //! FILE gets a line for each block of cases: the first one's number, and a digest of all inputs and of all that
 //! the proved decoder answered and left. The independent one's would be the same, or the program fails. Without

@@ -82,7 +82,7 @@ fn relax(table: &Table, check: usize, lent: &mut Buffers) {
             (mask, least_multiplier(&values, mask), FACET - left_side(&values, mask, 0))
         }
     };
-    // No call that passes 43 has a greater one (the search would find it), so a round refuses nothing.
+    // So no call is refused with 44.
     assert!(multiplier <= GREATEST_MULTIPLIER, "multiplier {multiplier}");
     for (place, edge) in row.enumerate() {
         lent.copies[edge] = moved(&values, mask, multiplier, place);

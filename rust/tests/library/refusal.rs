@@ -39,7 +39,7 @@ fn each_has_a_text_of_its_own() {
     let known: BTreeSet<&str> = ALL.iter().map(|refusal| refusal.meaning()).collect();
     assert_eq!(known.len(), ALL.len());
     assert!(!known.contains("no known refusal"));
-    for number in [0, 18, 40, 45, u32::MAX] {
+    for number in [0, 18, 40, 44, u32::MAX] {
         assert_eq!(Refusal(number).meaning(), "no known refusal");
     }
 }
@@ -48,5 +48,5 @@ fn each_has_a_text_of_its_own() {
 fn as_text() {
     let refusal: Box<dyn Error> = Refusal::ENDED.into();
     assert_eq!(refusal.to_string(), "refused 42: run already certified or spent");
-    assert_eq!(format!("{:?}", Refusal(99)), "refused 99");
+    assert_eq!(format!("{:?}", Refusal(44)), "refused 44");
 }
