@@ -5,7 +5,7 @@ use Prim.Native.Nat.{ℕ, zero, suc, ◌+◌, ◌*◌, ◌≤◌, ◌<◌, min}
 use native.Mathlib.Omega.{arith}
 use native.Mathlib.Numerals.{add-one}
 use lib.ListN.{length, get_or}
-use lib.IntN.{ℤ, ◌+ℤ◌}
+use lib.IntN.{pos, ℤ, ◌+ℤ◌}
 use mir.Syntax.{w64}
 use mir.Val.{SFits, to_z, of_z}
 use mir.Facts.{to_z-of_z}
@@ -32,12 +32,12 @@ agreement-next : (l : List ℤ) (w : List ℕ) (i : ℕ) → agreement (i + 1) l
 unfolding agreement
 agreement-next l w i = ap (λ k. agreement k l (bits_of w)) (add-one i) ∙ ap (λ b. agreement i l (bits_of w) +ℤ turn b (at l i)) (bits-at w i)
 
--- ---- the first i bits' sum, in the bits t of a machine number
-pub record Added (l : List ℤ) (w : List ℕ) (i t : ℕ) : Type 0 where
-  pub value : to_z w64 t ≡ agreement i l (bits_of w)
-  pub size : Within (frame_size * i) (to_z w64 t)
+-- ---- the first i bits' sum t
+pub record Added (l : List ℤ) (w : List ℕ) (i : ℕ) (t : ℤ) : Type 0 where
+  pub value : t ≡ agreement i l (bits_of w)
+  pub size : Within (frame_size * i) t
 
-pub added_none : (l : List ℤ) (w : List ℕ) → Added l w 0 0
+pub added_none : (l : List ℤ) (w : List ℕ) → Added l w 0 (pos 0)
 unfolding agreement
 added_none l w = record { value = refl; size = within-zero 0 }
 
@@ -47,22 +47,22 @@ sum_fits i t r = simp lin (omega arith_z)
 sum-within : (i : ℕ) (t r : ℤ) → Within (frame_size * i) t → Within frame_size r → Within (frame_size * (i + 1)) (t +ℤ r)
 sum-within i t r = simp lin (omega arith_z)
 
-module _ {l : List ℤ} {w : List ℕ} {i t : ℕ} {r : ℤ} (h : Added l w i t) (few : i < max_bits) (f : SFits w64 r) (small : Within frame_size r) where
-  pub added-fits : SFits w64 (to_z w64 t +ℤ to_z w64 (of_z w64 r))
-  added-fits = subst (λ z. SFits w64 (to_z w64 t +ℤ z)) (sym (to_z-of_z f)) (sum_fits i (to_z w64 t) r few h.size small)
+module _ {l : List ℤ} {w : List ℕ} {i : ℕ} {t r : ℤ} (h : Added l w i t) (few : i < max_bits) (f : SFits w64 r) (small : Within frame_size r) where
+  pub added-fits : SFits w64 (t +ℤ to_z w64 (of_z w64 r))
+  added-fits = subst (λ z. SFits w64 (t +ℤ z)) (sym (to_z-of_z f)) (sum_fits i t r few h.size small)
 
-  pub added_more : r ≡ number_under l w i → Added l w (i + 1) (of_z w64 (to_z w64 t +ℤ to_z w64 (of_z w64 r)))
+  pub added_more : r ≡ number_under l w i → Added l w (i + 1) (to_z w64 (of_z w64 (t +ℤ to_z w64 (of_z w64 r))))
   added_more e =
-      let sum = reads added-fits (ap (λ z. to_z w64 t +ℤ z) (to_z-of_z f)) in
+      let sum = reads added-fits (ap (λ z. t +ℤ z) (to_z-of_z f)) in
       record {
         value = sum ∙ ap₂ ◌+ℤ◌ h.value e ∙ sym (agreement-next l w i);
-        size = subst (Within (frame_size * (i + 1))) (sym sum) (sum-within i (to_z w64 t) r h.size small);
+        size = subst (Within (frame_size * (i + 1))) (sym sum) (sum-within i t r h.size small);
       }
 
 -- of all bits that both have
-pub added-all : {l : List ℤ} {w : List ℕ} {i t : ℕ} → Added l w i t → i ≡ shared_bits l w → (to_z w64 t ≡ agreed l w) × Within agreement_limit (to_z w64 t)
+pub added-all : {l : List ℤ} {w : List ℕ} {i : ℕ} {t : ℤ} → Added l w i t → i ≡ shared_bits l w → (t ≡ agreed l w) × Within agreement_limit t
 unfolding agreed
-added-all {l} {w} {i} {t} h e = (h.value ∙ ap (λ n. agreement n l (bits_of w)) e, within_wider (frame_size * i) agreement_limit (to_z w64 t) (omega arith) h.size)
+added-all {l} {w} {i} {t} h e = (h.value ∙ ap (λ n. agreement n l (bits_of w)) e, within_wider (frame_size * i) agreement_limit t (omega arith) h.size)
 
 -- ---- where word and frame are equally long
 pub agreed-whole : (l : List ℤ) (w : List ℕ) → length w ≡ length l → length l ≤ max_bits → agreed l w ≡ agreement (length l) l (bits_of w)

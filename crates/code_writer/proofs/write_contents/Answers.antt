@@ -14,7 +14,7 @@ loop-j-preserved c =
     let count = c.wide-d in
     let put = c.put_content in
     let h : loop.j < length args.counts.now = c.loop-j-test.true in
-    let next = content-more loop.file put.new.0 args.counts.now loop.j loop.start count.result h count.ensures.0 put.ensures in
+    let next = content-more loop.file put.new.file args.counts.now loop.j loop.start count.result h count.ensures.0 put.ensures in
     (omega (arith, h), omega (arith, loop.invariant.1, count.ensures.1), search rules, next ∙ loop.invariant.3)
 
 pub returns : goal.returns

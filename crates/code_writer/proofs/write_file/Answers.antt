@@ -15,4 +15,4 @@ returns c =
     let number = c.wide in
     let first = bits.ensures ∙ ap (λ n. sets old 0 (le16 n)) number.ensures.0 in
     file-all c.args.bits c.args.counts.now c.args.members.now old c.requires.2
-    bits.new.0 checks.new.0 first checks.ensures contents.new.1.0 members.new.1.1.0 contents.ensures members.ensures
+    bits.new.bytes checks.new.bytes first checks.ensures contents.new.file members.new.file contents.ensures members.ensures

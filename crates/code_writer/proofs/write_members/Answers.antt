@@ -15,7 +15,7 @@ loop-k-preserved c =
     let member = c.wide in
     let put = c.put16 in
     let h : loop.k < length args.members.now = c.loop-k-test.true in
-    let next = member-more loop.file put.new.0 args.members.now args.from loop.k member.result h member.ensures.0 put.ensures in
+    let next = member-more loop.file put.new.bytes args.members.now args.from loop.k member.result h member.ensures.0 put.ensures in
     (omega (arith, h), search rules, next ∙ loop.invariant.2)
 
 pub returns : goal.returns

@@ -19,7 +19,7 @@ loop-i-init c = (omega arith, c.least-n.ensures ∙ ap (min max_bits) c.least.en
 pub overflow_add-total : goal.overflow_add-total
 overflow_add-total c =
     let few : c.loop-i.i < max_bits = omega arith in
-    added-fits c.loop-i.invariant.2 few (fit w64 c.turned-total.result c.turned-total.type-inv) c.turned-total.ensures.1
+    added-fits c.loop-i.invariant.2 few (fit w64 c.turned-total.result c.turned-total.type_inv) c.turned-total.ensures.1
 
 pub loop-i-preserved : goal.loop-i-preserved
 loop-i-preserved c =
@@ -28,7 +28,7 @@ loop-i-preserved c =
     let args = c.args in
     let number = to_z-of_z (fit w16 (at args.frame.now loop.i) c.turned-arg-1.given) in
     let under = c.turned-total.ensures.0 ∙ ap (turn (bit_of_byte (get_or args.word.now loop.i 0))) number in
-    (omega arith, loop.invariant.1, added_more loop.invariant.2 few (fit w64 c.turned-total.result c.turned-total.type-inv) c.turned-total.ensures.1 under)
+    (omega arith, loop.invariant.1, added_more loop.invariant.2 few (fit w64 c.turned-total.result c.turned-total.type_inv) c.turned-total.ensures.1 under)
 
 pub returns : goal.returns
 returns c =

@@ -23,7 +23,7 @@ loop-i-preserved c =
     let read = to_z-of_z (fit w32 (at c.loop-i.spins c.loop-i.i) c.clip-arg-1.given) ∙ old in (
       omega arith,
       fill_more c.loop-i.i _ _ _ _ (pos 0) (omega (arith, clips-length unit spins))
-          (to_z-of_z (fit w32 c.clip.result c.clip.type-inv) ∙ c.clip.ensures ∙ ap (clip_z unit) read ∙ sym (clips-at unit spins c.loop-i.i inside)) c.loop-i.invariant.1,
+          (to_z-of_z (fit w32 c.clip.result c.clip.type_inv) ∙ c.clip.ensures ∙ ap (clip_z unit) read ∙ sym (clips-at unit spins c.loop-i.i inside)) c.loop-i.invariant.1,
     )
 
 pub returns : goal.returns

@@ -30,4 +30,4 @@ divided-requires c =
 pub returns : goal.returns
 returns c =
     let degree-is : to_z w32 c.args.degree ≡ pos c.args.degree = to_z_pos w32 (omega (arith, c.ranges.degree)) in
-        to_z-of_z (fit w32 c.divided.result c.divided.type-inv) ∙ c.divided.ensures ∙ ap₂ (λ t d. divided t (nat_abs d)) (to_z-of_z c.ranges.total) degree-is
+        to_z-of_z (fit w32 c.divided.result c.divided.type_inv) ∙ c.divided.ensures ∙ ap₂ (λ t d. divided t (nat_abs d)) (to_z-of_z c.ranges.total) degree-is

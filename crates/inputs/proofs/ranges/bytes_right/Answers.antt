@@ -11,15 +11,18 @@ use Rattle.rules.specs.Input.{each_bit}
 use Rattle.rules.proofs.Basics.{and-more, and-end}
 use Rattle.inputs.proofs.EachLaws.{one_more, each-end}
 use Rattle.inputs.proofs.ranges.bytes_right.Goals as goal
+use Rattle.inputs.proofs.ranges.bytes_right.Goals.{then-w-i-gt1, else-w-i-gt1}
 
 pub loop-i-preserved : goal.loop-i-preserved
 loop-i-preserved c =
     let loop = c.loop-i in
     let bytes = c.args.w.now in
     let byte = get_or bytes loop.i 0 in
-    let more : c.if-w-i-gt1.right ≡ (loop.right && leb byte 1) = by_arm c.if-w-i-gt1.branch
-    (λ w. w.1 ∙ sym (and-false loop.right) ∙ ap (λ b. loop.right && b) (sym (lt-leb byte 1 w.0.taken)))
-    (λ w. w.1 ∙ sym (and-true loop.right) ∙ ap (λ b. loop.right && b) (sym (le-leb byte 1 w.0.left))) in
+    let more : c.if-w-i-gt1.right ≡ (loop.right && leb byte 1) =
+        elim c.if-w-i-gt1.branch [
+          then-w-i-gt1 w ↦ w.right-is ∙ sym (and-false loop.right) ∙ ap (λ b. loop.right && b) (sym (lt-leb byte 1 w.if-w-i-gt1.true))
+        | else-w-i-gt1 w ↦ w.right-is ∙ sym (and-true loop.right) ∙ ap (λ b. loop.right && b) (sym (le-leb byte 1 w.if-w-i-gt1.false))
+        ] in
     (omega arith, loop.invariant.1 ∙ and-more loop.right (leb byte 1) _ _ (one_more 0 (λ x. leb x 1) each_bit refl (λ x xs. refl) bytes loop.i c.loop-i-test.true) more)
 
 pub returns : goal.returns

@@ -9,12 +9,12 @@ pub loop-i-preserved : goal.loop-i-preserved
 loop-i-preserved c =
             let ds = c.args.degrees.now in
     let l = c.loop-i in
-    (omega arith, every_more _ ds l.i l.all l.inv.1 0 _ (omega arith) c.same-all.ensures)
+    (omega arith, every_more _ ds l.i l.all l.invariant.1 0 _ (omega arith) c.same-all.ensures)
 
 pub returns : goal.returns
 returns c =
             let l = c.loop-i in
-    sym (every-end _ c.args.degrees.now l.i l.all l.inv.1 (omega arith))
+    sym (every-end _ c.args.degrees.now l.i l.all l.invariant.1 (omega arith))
 
 pub loop-i-init : goal.loop-i-init
 loop-i-init c = (omega arith, refl)

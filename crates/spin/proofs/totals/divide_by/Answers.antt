@@ -19,7 +19,7 @@ loop-i-preserved c =
     let d = c.args.d in
     let inside : c.loop-i.i < length ts = omega (arith, long) in
     let read = to_z-of_z (fit w32 (at c.loop-i.totals c.loop-i.i) c.quotient_of-arg-1.given) in
-    let made = to_z-of_z (fit w32 c.quotient_of.result c.quotient_of.type-inv) ∙ c.quotient_of.ensures ∙ ap (λ t. divided t d) read in
+    let made = to_z-of_z (fit w32 c.quotient_of.result c.quotient_of.type_inv) ∙ c.quotient_of.ensures ∙ ap (λ t. divided t d) read in
     (omega arith, quotients-more (λ _. d) ts _ c.loop-i.i _ inside made c.loop-i.invariant.1)
 
 pub returns : goal.returns

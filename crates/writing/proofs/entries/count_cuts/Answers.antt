@@ -5,6 +5,7 @@ use lib.ListN.{length}
 use Rattle.integers.specs.Machine.{by_arm}
 use Rattle.writing.proofs.CertificateLaws.{cuts-some, cuts-none, cuts-end}
 use Rattle.writing.proofs.entries.count_cuts.Goals as goal
+use Rattle.writing.proofs.entries.count_cuts.Goals.{then-masks-j-ne0, else-masks-j-ne0}
 
 pub loop-j-preserved : goal.loop-j-preserved
 loop-j-preserved c =
@@ -12,10 +13,14 @@ loop-j-preserved c =
     let loop = c.loop-j in
     let h : loop.j < length args.masks.now = omega arith in (
       omega arith,
-      by_arm c.if-masks-j-ne0.branch
-          (λ w. omega (arith, w.1, cuts-some args.masks.now loop.j h w.0.taken, loop.invariant.1))
-          (λ w. omega (arith, w.1, cuts-none args.masks.now loop.j h w.0.left, loop.invariant.1)),
-      by_arm c.if-masks-j-ne0.branch (λ w. omega (arith, w.1, loop.invariant.2)) (λ w. omega (arith, w.1, loop.invariant.2)),
+      elim c.if-masks-j-ne0.branch [
+        then-masks-j-ne0 w ↦ omega (arith, w.q-is, cuts-some args.masks.now loop.j h w.if-masks-j-ne0.true, loop.invariant.1)
+      | else-masks-j-ne0 w ↦ omega (arith, w.q-is, cuts-none args.masks.now loop.j h w.if-masks-j-ne0.false, loop.invariant.1)
+      ],
+      elim c.if-masks-j-ne0.branch [
+        then-masks-j-ne0 w ↦ omega (arith, w.q-is, loop.invariant.2)
+      | else-masks-j-ne0 w ↦ omega (arith, w.q-is, loop.invariant.2)
+      ],
     )
 
 pub returns : goal.returns

@@ -17,4 +17,4 @@ returns c =
     let a = c.args in
     let e = cut-some a.bytes.now a.at a.mask (le16 a.j ++ le32 a.b) c.if-mask-eq0.false in
     let first = c.put16 in
-    (c.put32.ensures ∙ sets-next a.bytes.now first.new.0 a.at (a.at + 2) (le16 a.j) (le32 a.b) first.ensures refl ∙ e.0, e.1)
+    (c.put32.ensures ∙ sets-next a.bytes.now first.new.bytes a.at (a.at + 2) (le16 a.j) (le32 a.b) first.ensures refl ∙ e.0, e.1)

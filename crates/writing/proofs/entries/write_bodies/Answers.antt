@@ -20,11 +20,11 @@ loop-j-preserved c =
     let call = c.put_body-at in
     let k = get_or args.masks.now loop.j 0 in
     let h : loop.j < length args.masks.now = c.loop-j-test.true in
-    let long : length call.new.0 ≡ length loop.bytes = ap length call.ensures.0 ∙ length-sets loop.bytes loop.at (if_cut k (le32 k)) in (
+    let long : length call.new.bytes ≡ length loop.bytes = ap length call.ensures.0 ∙ length-sets loop.bytes loop.at (if_cut k (le32 k)) in (
       omega (arith, h),
       long ∙ loop.invariant.1,
       omega (arith, h, long, call.ensures.1, loop.invariant.2, if-most k 4 (le32 k) (omega arith)),
-      sets-next loop.bytes call.new.0 loop.at call.result (if_cut k (le32 k)) (bodies_from (drop (loop.j + 1) args.masks.now)) call.ensures.0 call.ensures.1
+      sets-next loop.bytes call.new.bytes loop.at call.result (if_cut k (le32 k)) (bodies_from (drop (loop.j + 1) args.masks.now)) call.ensures.0 call.ensures.1
           ∙ ap (sets loop.bytes loop.at) (sym (bodies-next args.masks.now loop.j h)) ∙ loop.invariant.3,
     )
 

@@ -25,12 +25,12 @@ loop-j-preserved c =
     let h : loop.j < length args.masks.now = c.loop-j-test.true in
     let g : loop.j < length args.multipliers.now = omega (arith, h, pre.0) in
     let next = contents-next args.multipliers.now args.masks.now loop.j g h in
-    let long : length call.new.0 ≡ length loop.bytes = ap length call.ensures.0 ∙ length-sets loop.bytes loop.at (if_cut k xs) in (
+    let long : length call.new.bytes ≡ length loop.bytes = ap length call.ensures.0 ∙ length-sets loop.bytes loop.at (if_cut k xs) in (
       omega (arith, h),
       long ∙ loop.invariant.1,
       omega (arith, h, long, call.ensures.1, loop.invariant.2, if-most k 6 xs (omega arith)),
       omega (arith, call.ensures.1, loop.invariant.3, ap length next, length-append (if_cut k xs) (contents_left args.multipliers.now args.masks.now (loop.j + 1))),
-      sets-next loop.bytes call.new.0 loop.at call.result (if_cut k xs) (contents_left args.multipliers.now args.masks.now (loop.j + 1)) call.ensures.0 call.ensures.1
+      sets-next loop.bytes call.new.bytes loop.at call.result (if_cut k xs) (contents_left args.multipliers.now args.masks.now (loop.j + 1)) call.ensures.0 call.ensures.1
           ∙ ap (sets loop.bytes loop.at) (sym next) ∙ loop.invariant.4,
     )
 
