@@ -29,7 +29,7 @@ const END: u8 = 7;
 pub(crate) const FIELDS_LIMIT: usize = 64;
 
 // How much of the code file and of the frame is there goes on from record to record.
-#[derive(Drop)]
+#[derive(Clone, Copy)]
 pub(crate) struct Command {
     pub operation: u8,
     pub fields: [u8; FIELDS_LIMIT],
@@ -38,7 +38,7 @@ pub(crate) struct Command {
 }
 
 // A set: the record of the run, and the element that fills each buffer.
-#[derive(Drop)]
+#[derive(Clone, Copy)]
 pub(crate) struct Fill {
     pub run: Record,
     pub spin: i32,
@@ -53,7 +53,7 @@ pub(crate) struct Fill {
 }
 
 // A call for rounds: the rounds wanted, and how much of each input and buffer is lent.
-#[derive(Drop)]
+#[derive(Clone, Copy)]
 pub(crate) struct Parts {
     pub wanted: u32,
     pub code: usize,

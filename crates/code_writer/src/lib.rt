@@ -14,7 +14,7 @@ use limits::refusals::{BUFFER_SHORT, SIZE_RANGE, START_WRONG};
 use limits::{MAX_CHECKS, MAX_EDGES};
 
 // The answer: a refusal's number, or how long the file is.
-#[derive(Drop)]
+#[derive(Clone, Copy)]
 pub enum Written {
     Refused(u8),
     Length(usize),

@@ -22,7 +22,7 @@ use table::Checked;
 
 // 0 or a refusal's number; the cut's mask and depth, or 0 and 0 for none, and the greatest height as it
 // sees the members.
-#[derive(Drop)]
+#[derive(Clone, Copy)]
 pub struct Cut {
     pub number: u8,
     pub mask: u32,
@@ -31,7 +31,7 @@ pub struct Cut {
 }
 
 // The answer: a refusal's number, none, or the violated set and by how much it falls short.
-#[derive(Drop)]
+#[derive(Clone, Copy)]
 pub enum Found {
     Refused(u8),
     Nothing,

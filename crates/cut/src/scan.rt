@@ -45,7 +45,7 @@ fn sign_bit(x: i32, k: usize) -> u32
 
 // The negative values as a mask, the sum of the heights above 0, the greatest height and the first
 // place that has it.
-#[derive(Drop)]
+#[derive(Clone, Copy)]
 pub struct Scan {
     pub mask: u32,
     pub room: u32,

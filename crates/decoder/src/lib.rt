@@ -24,7 +24,7 @@ use perform::{outcome_of, perform};
 use run::{Admitted, Lent, Record};
 
 // The answer of a call for rounds: a refusal's number, or how the run stands.
-#[derive(Drop)]
+#[derive(Clone, Copy)]
 pub enum Outcome {
     Refused(u8),
     Running,
@@ -33,7 +33,7 @@ pub enum Outcome {
 }
 
 // A call's answer, and the run's record after it.
-#[derive(Drop)]
+#[derive(Clone, Copy)]
 pub struct Called {
     pub outcome: Outcome,
     pub run: Record,

@@ -10,7 +10,7 @@ ghost use Rattle.multiplier_search.specs.Sums.{AllNarrow, partials, first_sums, 
 use limits::{RIGHT_SIDE, UNIT};
 
 // The sum of the heights above 0, and their number.
-#[derive(Drop)]
+#[derive(Clone, Copy)]
 pub struct Slope {
     pub sum: u32,
     pub count: u32,

@@ -19,7 +19,7 @@ use limits::common::{DEGREE_6, DEGREE_8};
 use spin::clip;
 
 // What a check adds to the round's multipliers, masks and depths: zeros without a cut.
-#[derive(Drop)]
+#[derive(Clone, Copy)]
 pub struct Entry {
     pub multiplier: u32,
     pub mask: u32,

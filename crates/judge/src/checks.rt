@@ -10,7 +10,7 @@ ghost use Rattle.judge.specs.Reply.{found_in};
 use super::starts::start_at;
 
 // A check's number, or none.
-#[derive(Drop)]
+#[derive(Clone, Copy)]
 pub enum Found {
     At(usize),
     Nothing,

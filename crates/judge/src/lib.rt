@@ -19,7 +19,7 @@ use table::Checked;
 
 // The judge's answer: a refusal's number, the first broken check, certified, or the gap. Certified
 // with a mark, `sole`: every reduced number differs from 0.
-#[derive(Drop)]
+#[derive(Clone, Copy)]
 pub enum Verdict {
     Refused(u8),
     Broken(usize),
@@ -28,7 +28,7 @@ pub enum Verdict {
 }
 
 // A word's parity checks: a refusal's number, all met, or the first broken one.
-#[derive(Drop)]
+#[derive(Clone, Copy)]
 pub enum Parity {
     Refused(u8),
     Met,
@@ -36,7 +36,7 @@ pub enum Parity {
 }
 
 // A refusal's number, or the agreement.
-#[derive(Drop)]
+#[derive(Clone, Copy)]
 pub enum Agreed {
     Refused(u8),
     Is(i64),

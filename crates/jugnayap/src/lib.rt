@@ -19,7 +19,7 @@ use table::Checked;
 
 // `number` is 0 or the refusal's number; a refused call has zeros in the other fields.
 #[repr(C)]
-#[derive(Drop)]
+#[derive(Clone, Copy)]
 pub struct JugnayapTable {
     pub number: u32,
     pub bits: u32,
@@ -29,7 +29,7 @@ pub struct JugnayapTable {
 
 // `mask` and `depth` are 0 for no cut.
 #[repr(C)]
-#[derive(Drop)]
+#[derive(Clone, Copy)]
 pub struct JugnayapCut {
     pub number: u32,
     pub mask: u32,
@@ -39,7 +39,7 @@ pub struct JugnayapCut {
 // `kind` 0: `value` is the first broken check; 1: certified, and `sole` is its mark; 2: `value` is the
 // gap.
 #[repr(C)]
-#[derive(Drop)]
+#[derive(Clone, Copy)]
 pub struct JugnayapVerdict {
     pub number: u32,
     pub kind: u32,
@@ -48,7 +48,7 @@ pub struct JugnayapVerdict {
 }
 
 #[repr(C)]
-#[derive(Drop)]
+#[derive(Clone, Copy)]
 pub struct JugnayapAgreement {
     pub number: u32,
     pub agreement: i64,
@@ -56,14 +56,14 @@ pub struct JugnayapAgreement {
 
 // The run's record: the rounds done, and 0 running, 1 certified, 2 spent.
 #[repr(C)]
-#[derive(Drop)]
+#[derive(Clone, Copy)]
 pub struct JugnayapRun {
     pub rounds: u32,
     pub status: u32,
 }
 
 #[repr(C)]
-#[derive(Drop)]
+#[derive(Clone, Copy)]
 pub struct JugnayapCalled {
     pub number: u32,
     pub run: JugnayapRun,

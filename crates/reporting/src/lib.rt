@@ -26,7 +26,7 @@ const CERTIFICATE_LIMIT: usize = 4 + 10 * MAX_CHECKS;
 
 // What is said of a frame: a refusal's number, or the rounds and how the run stands. "After certified:
 // rounds, agreement, cuts."
-#[derive(Drop)]
+#[derive(Clone, Copy)]
 pub enum Line {
     Refused(u8),
     Running(u32),

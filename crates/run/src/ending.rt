@@ -7,7 +7,7 @@ ghost use Rattle.run.specs.Ending.{found_of, closing, counted, status_by, record
 use super::{Record, Status};
 
 // What step 4 finds: no candidate that meets all checks, or one, with its gap.
-#[derive(Drop)]
+#[derive(Clone, Copy)]
 pub enum Found {
     Nothing,
     Codeword(i64),

@@ -23,7 +23,7 @@ use refusals::admit_sized;
 use table::Checked;
 
 // "whether the run is running, certified or spent"
-#[derive(Drop)]
+#[derive(Clone, Copy)]
 pub enum Status {
     Running,
     Certified,
@@ -31,7 +31,7 @@ pub enum Status {
 }
 
 // "The run's record holds the rounds done and whether the run is running, certified or spent"
-#[derive(Drop)]
+#[derive(Clone, Copy)]
 pub struct Record {
     pub rounds: u32,
     pub status: Status,
@@ -56,7 +56,7 @@ impl Record {
 }
 
 // The answer of a start: a refusal's number, or the record of a fresh run.
-#[derive(Drop)]
+#[derive(Clone, Copy)]
 pub enum Started {
     Refused(u8),
     Fresh(Record),
@@ -93,7 +93,7 @@ pub fn start(code: &[u8], copies: &mut [i32], offsets: &mut [i32], sums: &mut [i
 }
 
 // The lengths of the lent buffers that admitting a call does not read.
-#[derive(Drop)]
+#[derive(Clone, Copy)]
 pub struct Lent {
     pub spins: usize,
     pub multipliers: usize,
@@ -147,7 +147,7 @@ pub(crate) fn long_enough(
 }
 
 // A refusal's number, or n, m and E of the table.
-#[derive(Drop)]
+#[derive(Clone, Copy)]
 pub enum Admitted {
     Refused(u8),
     Sized {

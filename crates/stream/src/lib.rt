@@ -23,7 +23,7 @@ const BYTES_AT_ONCE: usize = 2 * NUMBERS_AT_ONCE;
 pub const CODE_LIMIT: usize = 30000;
 
 // A 32-bit number on the input, or the input's end before its last byte.
-#[derive(Drop)]
+#[derive(Clone, Copy)]
 pub enum Number {
     Missing,
     Is(u32),
@@ -31,7 +31,7 @@ pub enum Number {
 
 // A part of a record: a 32-bit size and as many elements. Its size is missing, or more than the
 // buffer has room for; or the elements are cut short, or all there.
-#[derive(Drop)]
+#[derive(Clone, Copy)]
 pub enum Part {
     Missing,
     TooLong,

@@ -23,7 +23,7 @@ use numbers::{in_range, u16_at};
 use stages::check_contents;
 
 // The answer: a refusal's number, or n, m and E.
-#[derive(Drop)]
+#[derive(Clone, Copy)]
 pub enum Checked {
     Refused(u8),
     Accepted {

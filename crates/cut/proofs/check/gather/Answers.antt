@@ -1,0 +1,41 @@
+-- `gather` meets its contract: the first k values are the members' spins. Assumes nothing.
+use mathlib.Core.Path.{◌≡◌, ◌∙◌, ap}
+use Prim.Native.Nat.{◌-◌, ◌<◌}
+use native.Mathlib.Omega.{arith}
+use lib.ListN.{length}
+use mir.Syntax.{w32}
+use mir.Facts.{to_z-of_z}
+use borrow.Author.Rules.{rules}
+use Rattle.integers.specs.Machine.{fit}
+use Rattle.rules.specs.Table.{at}
+use Rattle.rules.proofs.Duality.{below_at}
+use Rattle.cut.proofs.GatherLaws.{gather-more, gather-all}
+use Rattle.cut.proofs.check.gather.Goals as goal
+
+pub offset_bounds-spins-i : goal.offset_bounds-spins-i
+offset_bounds-spins-i c =
+    let reads-inside : c.wide-i.result < length c.args.spins.now = omega (arith, c.wide-i.ensures, below_at (length c.args.spins.now) c.args.members.now c.loop-k.k c.loop-k-test.true c.requires.1) in
+    let inside : c.wide-i.result < length c.args.spins.now = reads-inside in
+    search rules
+
+pub bounds-spins-i : goal.bounds-spins-i
+bounds-spins-i c =
+    let reads-inside : c.wide-i.result < length c.args.spins.now = omega (arith, c.wide-i.ensures, below_at (length c.args.spins.now) c.args.members.now c.loop-k.k c.loop-k-test.true c.requires.1) in
+    reads-inside
+
+pub loop-k-preserved : goal.loop-k-preserved
+loop-k-preserved c =
+        let args = c.args in
+    let loop = c.loop-k in
+    let read = to_z-of_z (fit w32 (at args.spins.now c.wide-i.result) c.values-1.given) in (
+      omega arith,
+      search rules,
+      gather-more (at args.spins.now) args.members.now args.values.now loop.values loop.k _ c.loop-k-test.true c.requires.0 loop.invariant.2
+          (read ∙ ap (at args.spins.now) c.wide-i.ensures),
+    )
+
+pub returns : goal.returns
+returns c =
+    let args = c.args in
+    let done : c.loop-k.k ≡ length args.members.now = omega arith in
+    c.loop-k.invariant.2 ∙ gather-all (at args.spins.now) args.members.now args.values.now c.loop-k.k done
