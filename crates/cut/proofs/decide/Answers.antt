@@ -39,7 +39,7 @@ change_side-requires c =
 
 pub returns-then-s-right : goal.returns-then-s-right
 returns-then-s-right c =
-    let even : ones c.args.s.mask % 2 ≡ 1 → ⊥ = ? in
+    let even : ones c.args.s.mask % 2 ≡ 1 → ⊥ = λ o. omega arith in
     let above-is : c.above-right.result ≡ up c.args.s.top = let top : SFits w32 c.args.s.top = fit w32 c.args.s.top (search) in
     c.above-right.ensures ∙ ap up (to_z-of_z top) in
     let short : c.args.s.room < 2 * up c.args.s.top = omega (arith, above-is) in
@@ -48,7 +48,7 @@ returns-then-s-right c =
 
 pub returns : goal.returns
 returns c =
-    let even : ones c.args.s.mask % 2 ≡ 1 → ⊥ = ? in
+    let even : ones c.args.s.mask % 2 ≡ 1 → ⊥ = λ o. omega arith in
     let above-is : c.above-right.result ≡ up c.args.s.top = let top : SFits w32 c.args.s.top = fit w32 c.args.s.top (search) in
     c.above-right.ensures ∙ ap up (to_z-of_z top) in
     let enough : 2 * up c.args.s.top ≤ c.args.s.room = omega (arith, above-is) in

@@ -11,7 +11,7 @@ use mir.Val.{to_z, of_z}
 use mir.Facts.{to_z-of_z}
 use Rattle.integers.specs.Machine.{fit}
 use Rattle.rules.specs.Table.{at}
-use Rattle.rules.proofs.FillLaws.{fill-length, fill-at, fill_more, fill-all}
+use Rattle.rules.proofs.FillLaws.{fill_none, fill-length, fill-at, fill_more, fill-all}
 use Rattle.cut.proofs.HeightLaws.{set-picks}
 use Rattle.cut.proofs.put.Goals as goal
 
@@ -36,3 +36,6 @@ returns c =
         let args = c.args in
     c.loop-i.invariant.1 ∙ fill-all c.loop-i.i _ _ (length-set args.heights.now args.k kept) (omega (arith, long))
     ∙ ap (set args.heights.now args.k) (to_z-of_z c.ranges.x)
+
+pub loop-i-init : goal.loop-i-init
+loop-i-init c = (omega arith, sym (fill_none _ _))
