@@ -1,13 +1,13 @@
 -- What a call is lent, as the code has it: slices, as they come and as they are left, and the lengths that it tells. Definitions only. Assumes nothing.
 use Rattle.std.specs.Prelude.{List, ℕ, length, ℤ}
-use Rattle.std.specs.Borrow.{Bor}
+use Rattle.std.specs.Borrow.{MutBor}
 use denote.Triple.Both.{Both}
 use Rattle.rules.specs.Buffers.{Buffers, by_name, lent, Lengths}
 use Rattle.run.specs.declared.Lent.{Lent}
 
 -- ---- a slice
 abbrev pub Slice : Type 0 → Type 0
-Slice A = Both (Bor (List A)) (Bor (List A))
+Slice A = Both (MutBor (List A)) (MutBor (List A))
 
 abbrev pub came : {A : Type 0} → Slice A → List A
 came x = x.entry.now
