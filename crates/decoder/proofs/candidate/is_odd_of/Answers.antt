@@ -1,0 +1,45 @@
+-- `is_odd_of` meets its contract: the parity found and that of the members from k on make the whole. Assumes nothing.
+use mathlib.Core.Path.{refl, sym, ◌∙◌, ap}
+use Prim.Native.Nat.{◌-◌}
+use native.Mathlib.Omega.{arith}
+use lib.ListN.{length, get_or}
+use mir.Syntax.{w32}
+use mir.Facts.{to_z-of_z}
+use Rattle.integers.specs.Machine.{fit}
+use Rattle.rules.specs.Table.{at}
+use Rattle.rules.specs.Parity.{◌⊕◌, odd}
+use Rattle.rules.specs.Cut.{is_neg, negatives}
+use Rattle.rules.proofs.Duality.{below_at}
+use Rattle.rules.proofs.ParityLaws.{odd-more, odd-end}
+use Rattle.decoder.proofs.CandidateLaws.{negatives-at}
+use Rattle.decoder.proofs.candidate.is_odd_of.Goals as goal
+
+pub overflow_cast-i : goal.overflow_cast-i
+overflow_cast-i c = omega (arith, c.shared_slice_known-in-loop-k-1.given c.loop-k.k)
+
+pub offset_bounds-spins-i : goal.offset_bounds-spins-i
+offset_bounds-spins-i c = omega (arith, c.shared_slice_known-in-loop-k-1.given c.loop-k.k)
+
+pub bounds-spins-i : goal.bounds-spins-i
+bounds-spins-i c =
+        below_at (length c.args.spins.now) c.args.members.now c.loop-k.k c.loop-k-test.true c.requires
+
+pub loop-k-preserved : goal.loop-k-preserved
+loop-k-preserved c =
+    let args = c.args in
+    let loop = c.loop-k in
+    let s = args.spins.now in
+    let ms = args.members.now in
+    let i = get_or ms loop.k 0 in
+    let read = to_z-of_z (fit w32 (at s i) c.flipped-arg-1.given) in
+    let bit = c.flipped-odd.ensures ∙ ap (λ z. loop.odd ⊕ is_neg z) read ∙ ap (λ b. loop.odd ⊕ b) (sym (negatives-at s i)) in
+    (omega arith, odd-more (negatives s) ms loop.k loop.odd (omega arith) bit ∙ loop.invariant.1)
+
+pub returns : goal.returns
+returns c =
+    let args = c.args in
+    let loop = c.loop-k in
+    odd-end (negatives args.spins.now) args.members.now loop.k loop.odd c.loop-k-test.false ∙ loop.invariant.1
+
+pub loop-k-init : goal.loop-k-init
+loop-k-init c = (omega arith, refl)

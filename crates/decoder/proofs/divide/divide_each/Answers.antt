@@ -1,0 +1,47 @@
+-- `divide_each` meets its contract: the first i places are divided, and the others still as they came. Assumes nothing.
+use mathlib.Core.Path.{◌≡◌, sym, ◌∙◌, ap}
+use Prim.Native.Nat.{◌-◌, ◌<◌}
+use native.Mathlib.Omega.{arith}
+use lib.ListN.{length, get_or}
+use mir.Syntax.{w32}
+use mir.Facts.{to_z-of_z}
+use Rattle.integers.specs.Machine.{fit}
+use Rattle.rules.specs.Table.{at}
+use Rattle.rules.specs.Round.{divided}
+use Rattle.rules.proofs.FillLaws.{fill_none, fill-length, fill-all}
+use Rattle.spin.proofs.TotalsLaws.{quotients-length, quotients-more}
+use Rattle.decoder.proofs.divide.divide_each.Goals as goal
+
+pub bounds-degrees-i : goal.bounds-degrees-i
+bounds-degrees-i c =
+    let long : length c.loop-i.totals ≡ length c.args.totals.now = ap length c.loop-i.invariant.1 ∙ fill-length c.loop-i.i _ _ in
+        omega (arith, long, c.requires)
+
+pub loop-i-preserved : goal.loop-i-preserved
+loop-i-preserved c =
+    let long : length c.loop-i.totals ≡ length c.args.totals.now = ap length c.loop-i.invariant.1 ∙ fill-length c.loop-i.i _ _ in
+        let ts = c.args.totals.now in
+    let ds = c.args.degrees.now in
+    let d = get_or ds c.loop-i.i 0 in
+    let inside : c.loop-i.i < length ts = omega (arith, long) in
+    let read = to_z-of_z (fit w32 (at c.loop-i.totals c.loop-i.i) c.quotient_of-arg-1.given) in
+    let made = to_z-of_z (fit w32 c.quotient_of.result c.quotient_of.type_inv) ∙ c.quotient_of.ensures ∙ ap (λ t. divided t d) read in
+    (omega arith, quotients-more (λ i. get_or ds i 0) ts _ c.loop-i.i _ inside made c.loop-i.invariant.1)
+
+pub returns : goal.returns
+returns c =
+    let long : length c.loop-i.totals ≡ length c.args.totals.now = ap length c.loop-i.invariant.1 ∙ fill-length c.loop-i.i _ _ in
+        c.loop-i.invariant.1 ∙ fill-all c.loop-i.i _ _ (quotients-length _ _) (omega (arith, long))
+
+pub loop-i-init : goal.loop-i-init
+loop-i-init c = (omega arith, sym (fill_none _ _))
+
+pub loop-i-smaller : goal.loop-i-smaller
+loop-i-smaller c =
+    let long : length c.loop-i.totals ≡ length c.args.totals.now = ap length c.loop-i.invariant.1 ∙ fill-length c.loop-i.i _ _ in
+    omega (arith, long)
+
+pub shape_of-totals : goal.shape_of-totals
+shape_of-totals c =
+    let long : length c.loop-i.totals ≡ length c.args.totals.now = ap length c.loop-i.invariant.1 ∙ fill-length c.loop-i.i _ _ in
+    long

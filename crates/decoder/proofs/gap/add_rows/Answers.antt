@@ -1,0 +1,86 @@
+-- `add_rows` meets its contract: the rows from check j on, and the prices summed, make the whole. Assumes nothing.
+use mathlib.Core.Path.{refl, ap}
+use Prim.Native.Nat.{◌+◌, ◌-◌}
+use native.Mathlib.Omega.{arith}
+use lib.IntN.{◌+ℤ◌}
+use mir.Syntax.{w64}
+use mir.Val.{to_z}
+use mir.Facts.{to_z-of_z}
+use Rattle.integers.specs.Machine.{fit, reads}
+use Rattle.integers.specs.Signed64.{sized, summed-fits}
+use Rattle.rules.specs.Limits.{row_limit}
+use Rattle.rules.proofs.BoundLaws.{rows_none, rows-room, rows_more, rows_end}
+use Rattle.decoder.specs.Closing.{rows_left}
+use Rattle.decoder.proofs.GapLaws.{first-begins, rows-past, starts-in, few-rows, part-ends, multiplier-in, row_fits, step-adds, rows_next}
+use Rattle.decoder.proofs.gap.add_rows.Goals as goal
+
+pub loop-j-init : goal.loop-j-init
+loop-j-init c =
+    let rows = c.requires in
+    (omega arith, rows_none rows.sizes, first-begins rows)
+
+pub bounds-starts-j : goal.bounds-starts-j
+bounds-starts-j c =
+        starts-in c.requires c.loop-j.j c.loop-j-test.true
+
+pub overflow_cast-e : goal.overflow_cast-e
+overflow_cast-e c = omega (arith, c.shared_slice_known-in-loop-j-1.given (c.loop-j.j + 1))
+
+pub offset_bounds-members-a : goal.offset_bounds-members-a
+offset_bounds-members-a c = omega (arith, c.shared_slice_known-in-loop-j-1.given c.loop-j.j)
+
+pub slice_bounds-add_check-count : goal.slice_bounds-add_check-count
+slice_bounds-add_check-count c =
+        (part-ends c.requires c.loop-j.j c.loop-j-test.true c.loop-j.invariant.2).0
+
+pub slice_bounds-add_check-start : goal.slice_bounds-add_check-start
+slice_bounds-add_check-start c = ((part-ends c.requires c.loop-j.j c.loop-j-test.true c.loop-j.invariant.2).0)
+
+pub slice_bounds-add_check-end : goal.slice_bounds-add_check-end
+slice_bounds-add_check-end c =
+        (part-ends c.requires c.loop-j.j c.loop-j-test.true c.loop-j.invariant.2).1
+
+pub bounds-multipliers-j : goal.bounds-multipliers-j
+bounds-multipliers-j c =
+        multiplier-in c.requires c.loop-j.j c.loop-j-test.true
+
+pub add_check-sum-requires : goal.add_check-sum-requires
+add_check-sum-requires c =
+        let loop = c.loop-j in
+    let fit = c.requires in
+    let few = few-rows fit loop.j c.loop-j-test.true in
+    row_fits fit loop.j c.loop-j-test.true loop.invariant.2 loop.invariant.1.long (rows-room loop.invariant.1 (omega (arith, few)))
+
+pub overflow_add-sum : goal.overflow_add-sum
+overflow_add-sum c =
+        let loop = c.loop-j in
+    let rows = c.requires in
+    let call = c.add_check-sum in
+    let few = few-rows rows loop.j c.loop-j-test.true in
+    summed-fits row_limit loop.j loop.sum call.result (to_z w64 loop.sum) (fit w64 call.result call.type_inv) (omega (arith, few)) (refl, loop.invariant.1.sum)
+    (sized call.ensures.prices (step-adds rows loop.j c.loop-j-test.true loop.invariant.2).sum).1
+
+pub loop-j-preserved : goal.loop-j-preserved
+loop-j-preserved c =
+        let loop = c.loop-j in
+        let args = c.args in
+    let j = loop.j in
+    let taken = c.loop-j-test.true in
+    let call = c.add_check-sum in
+    let rest = rows_left args.starts.now args.members.now args.multipliers.now args.masks.now (j + 1) in
+    let sum = reads ((let loop = c.loop-j in
+    let rows = c.requires in
+    let call = c.add_check-sum in
+    let few = few-rows rows loop.j c.loop-j-test.true in
+    summed-fits row_limit loop.j loop.sum call.result (to_z w64 loop.sum) (fit w64 call.result call.type_inv) (omega (arith, few)) (refl, loop.invariant.1.sum)
+    (sized call.ensures.prices (step-adds rows loop.j c.loop-j-test.true loop.invariant.2).sum).1)) (ap (λ z. to_z w64 loop.sum +ℤ z) (to_z-of_z (fit w64 call.result call.type_inv))) in
+    (omega (arith, taken), rows_more loop.invariant.1 rest (step-adds c.requires j taken loop.invariant.2) call.ensures (rows_next c.requires j taken loop.invariant.2) sum, refl)
+
+pub shape_of-numbers : goal.shape_of-numbers
+shape_of-numbers c = c.loop-j.invariant.1.long
+
+pub returns : goal.returns
+returns c =
+    let rows = c.requires in
+    let loop = c.loop-j in
+    rows_end loop.invariant.1 (omega (arith, rows.holds.sound.checks, rows.masks_long)) (rows-past rows loop.j c.loop-j-test.false)

@@ -1,0 +1,46 @@
+-- `bound_of` meets its contract: the scattered numbers are the reduced numbers. Assumes nothing.
+use mathlib.Core.Path.{◌≡◌, refl, sym, ◌∙◌, ap, subst}
+use Prim.Native.Nat.{◌*◌}
+use native.Mathlib.Omega.{arith}
+use lib.ListN.{length}
+use mir.Syntax.{w64}
+use Rattle.integers.specs.Order.{within-add}
+use Rattle.integers.specs.Product.{abs}
+use Rattle.integers.specs.Sum.{sum_to}
+use Rattle.integers.specs.Machine.{fit}
+use Rattle.integers.specs.Signed64.{sized, plus-fits, plus-reads}
+use Rattle.rules.specs.Limits.{max_bits, size_limit}
+use Rattle.rules.specs.Table.{at}
+use Rattle.rules.specs.Scatter.{Put}
+use Rattle.rules.proofs.BoundLaws.{scaled-once, bound-is}
+use Rattle.decoder.specs.Closing.{rows_on, RowsFit}
+use Rattle.decoder.proofs.gap.bound_of.Goals as goal
+
+pub add_rows-prices-requires : goal.add_rows-prices-requires
+add_rows-prices-requires c =
+        let a = c.args in
+    subst (RowsFit a.starts.now a.members.now a.multipliers.now a.masks.now) (sym c.load.ensures) c.requires.0
+
+pub overflow_add-result : goal.overflow_add-result
+overflow_add-result c =
+    let sizes = c.sum_sizes in
+    let put = c.add_rows-prices in
+    plus-fits (fit w64 sizes.result sizes.type_inv) (fit w64 put.result put.type_inv) sizes.ensures.1 put.ensures.sum (omega arith)
+
+pub returns : goal.returns
+returns c =
+        let a = c.args in
+    let l = a.frame.now in
+    let rows = rows_on a.starts.now a.members.now a.multipliers.now a.masks.now in
+    let put = c.add_rows-prices in
+    let sizes = c.sum_sizes in
+    let new = put.new.1.1.1.1.0 in
+    let sum = plus-reads (fit w64 sizes.result sizes.type_inv) (fit w64 put.result put.type_inv) ((let sizes = c.sum_sizes in
+    let put = c.add_rows-prices in
+    plus-fits (fit w64 sizes.result sizes.type_inv) (fit w64 put.result put.type_inv) sizes.ensures.1 put.ensures.sum (omega arith))) in
+    let long : length new ≡ length l = omega arith in
+    let total = sizes.ensures.0 ∙ ap (λ n. sum_to n (λ i. abs (at new i))) long in
+    let loaded = subst (λ z. Put rows z new put.result) c.load.ensures put.ensures.put in (
+      sum ∙ bound-is 1 l refl (scaled-once c.requires.0.sizes) loaded total,
+      (sized sum (within-add (max_bits * size_limit) size_limit sizes.result put.result sizes.ensures.1 put.ensures.sum)).1,
+    )

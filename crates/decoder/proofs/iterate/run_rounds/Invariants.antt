@@ -1,0 +1,14 @@
+-- `run_rounds` meets its contract. The invariant: what is left of the rounds is done from where the run stands. Assumes nothing.
+use lib.ListN.{length}
+use Rattle.rules.specs.Buffers.{spins, copies, offsets, sums, multipliers, masks, depths}
+use Rattle.table.specs.Layout.{table_of}
+use Rattle.decoder.specs.Lent.{loop_in}
+use Rattle.decoder.proofs.IterateLaws.{Going}
+use Rattle.decoder.proofs.iterate.run_rounds.Given as goal
+
+abbrev pub invariant-loop-k : goal.invariant-loop-k
+invariant-loop-k l =
+    Going (table_of (length l.frame) l.starts l.members) l.frame l.wanted (loop_in l.initial.at l.initial.spins l.initial.copies l.initial.offsets l.initial.sums l.initial.multipliers l.initial.masks l.initial.depths) l.k (loop_in l.at l.spins l.copies l.offsets l.sums l.multipliers l.masks l.depths)
+
+abbrev pub decreases-loop-k : goal.decreases-loop-k
+decreases-loop-k l = l.k

@@ -1,0 +1,15 @@
+-- `pass` meets its contract: j checks are done, and the lists of the others are as they came. Assumes nothing.
+use mathlib.Core.Path.{◌≡◌}
+use Prim.Native.Nat.{◌-◌}
+use lib.ListN.{length, get_or}
+use Rattle.rules.specs.Table.{at}
+use Rattle.decoder.specs.Passed.{passed_to}
+use Rattle.decoder.proofs.PassLoopLaws.{Passing}
+use Rattle.decoder.proofs.pass.pass.Given as goal
+
+abbrev pub invariant-loop-j : goal.invariant-loop-j
+invariant-loop-j l =
+    Passing (at l.spins) l.starts l.members (passed_to l.initial.copies l.initial.offsets l.initial.sums l.initial.multipliers l.initial.masks l.initial.depths) (passed_to l.copies l.offsets l.sums l.multipliers l.masks l.depths) l.j × (l.a ≡ get_or l.starts l.j 0)
+
+abbrev pub decreases-loop-j : goal.decreases-loop-j
+decreases-loop-j l = length l.starts - l.j

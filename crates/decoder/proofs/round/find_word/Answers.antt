@@ -1,0 +1,13 @@
+-- `find_word` meets its contract. Assumes nothing.
+use mathlib.Core.Path.{sym, ◌∙◌}
+use mir.Syntax.{w64}
+use mir.Facts.{to_z-of_z}
+use Rattle.integers.specs.Machine.{fit}
+use Rattle.decoder.proofs.RoundLaws.{none_found, word-found}
+use Rattle.decoder.proofs.round.find_word.Goals as goal
+
+pub returns-then-not-meets_checks : goal.returns-then-not-meets_checks
+returns-then-not-meets_checks c = none_found _ _ _ _ _ (sym c.meets_checks.ensures ∙ c.if-not-meets_checks.true)
+
+pub returns : goal.returns
+returns c = word-found _ _ _ _ _ _ (sym c.meets_checks.ensures ∙ c.if-not-meets_checks.false) (to_z-of_z (fit w64 c.gap_of.result c.gap_of.type_inv) ∙ c.gap_of.ensures)
