@@ -1,0 +1,71 @@
+-- `put_entries` meets its contract: what is put on and the entries from k on make the numbers and the sum of prices. Assumes nothing.
+use mathlib.Core.Path.{◌≡◌, refl, sym, ap, subst}
+use Prim.Native.Nat.{◌+◌}
+use native.Mathlib.Omega.{arith}
+use lib.IntN.{ℤ, ◌+ℤ◌, pos}
+use mir.Syntax.{w64}
+use mir.Val.{SFits, to_z, of_z}
+use mir.Facts.{to_z-of_z}
+use Rattle.integers.specs.Machine.{fit, reads}
+use Rattle.integers.specs.Signed64.{sized, summed-fits}
+use Rattle.rules.specs.Limits.{row_limit}
+use Rattle.rules.specs.Certificate.{item_at, items_at}
+use Rattle.rules.specs.Scatter.{RowsPut}
+use Rattle.rules.proofs.BoundLaws.{rows_none, rows-room, rows_more, rows_end}
+use Rattle.judge.specs.Rows.{rows_in, rows_left, Placed}
+use Rattle.judge.proofs.RowLaws.{rows_next, rows-past, rows_all, entry-adds}
+use Rattle.judge.proofs.bound.put_entries.Goals as goal
+
+pub loop-k-init : goal.loop-k-init
+loop-k-init c =
+    let args = c.args in
+    let all = rows_all args.starts.now args.members.now args.bytes.now args.q in
+    let rows = rows_in args.starts.now args.members.now (items_at args.bytes.now args.q 0 args.q) in
+    (omega arith, subst (λ left. RowsPut rows args.reduced.now 0 left args.reduced.now (pos 0)) all (rows_none c.requires.1))
+
+pub put_entry-total-requires : goal.put_entry-total-requires
+put_entry-total-requires c =
+    let args = c.args in
+    let loop = c.loop-k in
+    let test = c.loop-k-test.true in
+    let all = c.requires.0 in
+    let item = item_at args.bytes.now args.q loop.k in (
+      record { long = all.long; inside = test },
+      subst (λ n. Placed n args.starts.now args.members.now item) (sym loop.invariant.1.long) (all.each loop.k test),
+      rows-room loop.invariant.1 (omega (arith, all.long.few)),
+    )
+
+pub overflow_add-total : goal.overflow_add-total
+overflow_add-total c =
+    let loop = c.loop-k in
+    let put = c.put_entry-total in
+    let adds = entry-adds (c.requires.0.each loop.k c.loop-k-test.true) in
+    summed-fits row_limit loop.k _ put.result _ (fit w64 put.result put.type_inv)
+    (omega (arith, c.requires.0.long.few)) (refl, loop.invariant.1.sum) (sized put.ensures.prices adds.sum).1
+
+added-reads : (t : ℤ) {x : ℤ} → SFits w64 x → SFits w64 (t +ℤ to_z w64 (of_z w64 x)) → to_z w64 (of_z w64 (t +ℤ to_z w64 (of_z w64 x))) ≡ t +ℤ x
+added-reads t f g = reads g (ap (λ z. t +ℤ z) (to_z-of_z f))
+
+pub loop-k-preserved : goal.loop-k-preserved
+loop-k-preserved c =
+    let args = c.args in
+    let loop = c.loop-k in
+    let test = c.loop-k-test.true in
+    let put = c.put_entry-total in
+    let rest = rows_left args.starts.now args.members.now args.bytes.now args.q (loop.k + 1) in
+    let next = rows_next args.starts.now args.members.now args.bytes.now args.q loop.k test in
+    let adds = entry-adds (c.requires.0.each loop.k test) in
+    let fits = fit w64 put.result put.type_inv in (
+      omega arith,
+      rows_more loop.invariant.1 rest adds put.ensures next (added-reads _ fits (summed-fits row_limit loop.k _ put.result _ fits
+          (omega (arith, c.requires.0.long.few)) (refl, loop.invariant.1.sum) (sized put.ensures.prices adds.sum).1)),
+    )
+
+pub shape_of-reduced : goal.shape_of-reduced
+shape_of-reduced c = c.loop-k.invariant.1.long
+
+pub returns : goal.returns
+returns c =
+    let args = c.args in
+    let loop = c.loop-k in
+    rows_end loop.invariant.1 (omega (arith, c.requires.0.long.few)) (rows-past args.starts.now args.members.now args.bytes.now args.q loop.k c.loop-k-test.false)
