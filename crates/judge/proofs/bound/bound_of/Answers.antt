@@ -36,7 +36,9 @@ returns c =
     let scaled = c.scale_frame in
     let put = c.put_entries-price in
     let sizes = c.sizes in
-    let sum = plus-reads (fit w64 sizes.result sizes.type_inv) (fit w64 put.result put.type_inv) (plus-fits (fit w64 sizes.result sizes.type_inv) (fit w64 put.result put.type_inv) sizes.ensures.1 put.ensures.sum (omega arith)) in
+    let sizes_fit = fit w64 sizes.result sizes.type_inv in
+    let put_fits = fit w64 put.result put.type_inv in
+    let sum = plus-reads sizes_fit put_fits (plus-fits sizes_fit put_fits sizes.ensures.1 put.ensures.sum (omega arith)) in
     let long : length put.new.reduced ≡ length args.frame.now = omega arith in
     let total = sizes.ensures.0 ∙ ap (λ n. sum_to n (λ i. abs (at put.new.reduced i))) long in (
       sum ∙ bound-is args.scale args.frame.now (omega arith) scaled.ensures put.ensures.put total,

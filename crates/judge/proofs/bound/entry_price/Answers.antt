@@ -10,9 +10,6 @@ use Rattle.rules.specs.Limits.{max_degree, max_multiplier}
 use Rattle.integers.specs.Signed64.{product-fits, product-reads}
 use Rattle.judge.proofs.bound.entry_price.Goals as goal
 
-pub overflow_sub-result : goal.overflow_sub-result
-overflow_sub-result c = let d : to_z w64 c.args.d ≡ pos c.args.d = to_z_pos w64 (omega arith) in simp lin (omega arith_z)
-
 pub overflow_mul-result : goal.overflow_mul-result
 overflow_mul-result c =
     let d : to_z w64 c.args.d ≡ pos c.args.d = to_z_pos w64 (omega arith) in

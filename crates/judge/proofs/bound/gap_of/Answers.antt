@@ -44,11 +44,12 @@ returns c =
     let bs = args.bytes.now in
     let sum = c.agreement in
     let least = c.bound_of-bound in
+    let least_fits = fit w64 least.result least.type_inv in
+    let times_fits = fit w64 c.times.result c.times.type_inv in
     let scale = c.u16_at-scale.ensures.0 in
     let entries = c.u16_at-q.ensures.0 in
     let rows = rows_in args.starts.now args.members.now in (
-      less-reads (fit w64 least.result least.type_inv) (fit w64 c.times.result c.times.type_inv) ((let bound = c.bound_of-bound in
-          less-fits (fit w64 bound.result bound.type_inv) (fit w64 c.times.result c.times.type_inv) bound.ensures.1 c.times.ensures.1 (omega arith)))
+      less-reads least_fits times_fits (less-fits least_fits times_fits least.ensures.1 c.times.ensures.1 (omega arith))
           ∙ gap_is (length l) (scale_of bs) l (rows (items_of bs)) (bits_of args.word.now)
           (least.ensures.0 ∙ ap₂ (λ s q. bound (length l) s l (rows (items_at bs q 0 q))) scale entries)
           (c.times.ensures.0 ∙ ap₂ (λ s a. pos s *ℤ a) scale (to_z-of_z (fit w64 sum.result sum.type_inv) ∙ sum.ensures.0 ∙ agreed-whole l args.word.now c.requires.1.0 c.requires.1.1)),

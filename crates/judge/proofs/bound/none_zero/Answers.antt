@@ -1,5 +1,5 @@
 -- `none_zero` meets its contract: none of the first numbers, up to the bit, is 0. Assumes nothing.
-use mathlib.Core.Path.{◌≡◌, refl, ◌∙◌, ap}
+use mathlib.Core.Path.{◌≡◌, ◌∙◌, ap}
 use native.Mathlib.Omega.{arith}
 use lib.ListN.{length}
 use mir.Syntax.{w64}
@@ -17,7 +17,7 @@ loop-bit-preserved c =
     let loop = c.loop-bit in
     let f = at c.args.reduced.now in
     let x = f loop.bit in
-    let fits = fit w64 x c.t7-1.given in (
+    let fits = fit w64 x (omega arith) in (
       elim c.if-reduced-bit-eq0.branch [
         | then-reduced-bit-eq0 w ↦ w.none-is ∙ none-zero-found loop.bit f (is-zero x (eq-lit fits w.if-reduced-bit-eq0.true))
         | else-reduced-bit-eq0 w ↦ w.none-is ∙ none-zero-more loop.bit f loop.none loop.invariant.0 (not-zero x (λ e. w.if-reduced-bit-eq0.false (ap (of_z w64) e)))
@@ -31,6 +31,3 @@ returns c =
     let r = c.args.reduced.now in
     let all : loop.bit ≡ length r = omega arith in
     loop.invariant.0 ∙ ap (λ n. none_zero n (at r)) all
-
-pub loop-bit-init : goal.loop-bit-init
-loop-bit-init c = (refl, omega arith)

@@ -61,9 +61,6 @@ loop-k-preserved c =
           (omega (arith, c.requires.0.long.few)) (refl, loop.invariant.1.sum) (sized put.ensures.prices adds.sum).1)),
     )
 
-pub shape_of-reduced : goal.shape_of-reduced
-shape_of-reduced c = c.loop-k.invariant.1.long
-
 pub returns : goal.returns
 returns c =
     let args = c.args in

@@ -13,21 +13,6 @@ use Rattle.rules.proofs.BoundLaws.{row_put}
 use Rattle.judge.proofs.RowLaws.{degree-few, part-order, part_end, part-few, part-read, part-long, row_read}
 use Rattle.judge.proofs.bound.put_entry.Goals as goal
 
-pub check_at-check-requires : goal.check_at-check-requires
-check_at-check-requires c = c.requires.0
-
-pub multiplier_at-multiplier-requires : goal.multiplier_at-multiplier-requires
-multiplier_at-multiplier-requires c = c.requires.0
-
-pub mask_at-mask-requires : goal.mask_at-mask-requires
-mask_at-mask-requires c = c.requires.0
-
-pub start_at-a-requires : goal.start_at-a-requires
-start_at-a-requires c = omega (arith, c.check_at-check.ensures.0, c.requires.1.part.start.room)
-
-pub start_at-e-requires : goal.start_at-e-requires
-start_at-e-requires c = omega (arith, c.check_at-check.ensures.0, c.requires.1.part.start.room)
-
 pub put_on-requires : goal.put_on-requires
 put_on-requires c =
     let p = c.requires.1 in

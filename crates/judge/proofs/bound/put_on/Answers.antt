@@ -10,17 +10,8 @@ use Rattle.integers.specs.Machine.{fit}
 use Rattle.integers.specs.Signed64.{sized, plus-fits, plus-reads}
 use Rattle.rules.specs.Table.{at}
 use Rattle.rules.proofs.Duality.{below_at}
-use Rattle.rules.proofs.BoundLaws.{side-within, members-none, members-room, members-more, members-end}
+use Rattle.rules.proofs.BoundLaws.{side-within, members-room, members-more, members-end}
 use Rattle.judge.proofs.bound.put_on.Goals as goal
-
-pub loop-k-init : goal.loop-k-init
-loop-k-init c = (omega arith, members-none c.requires.3)
-
-pub overflow_cast-i : goal.overflow_cast-i
-overflow_cast-i c = omega (arith, c.shared_slice_known-in-loop-k-1.given c.loop-k.k)
-
-pub offset_bounds-reduced-i : goal.offset_bounds-reduced-i
-offset_bounds-reduced-i c = omega (arith, c.shared_slice_known-in-loop-k-1.given c.loop-k.k)
 
 pub slice_copy_out-reduced : goal.slice_copy_out-reduced
 slice_copy_out-reduced c =
@@ -32,13 +23,10 @@ overflow_add-reduced c =
     let loop = c.loop-k in
     let w = c.weight-w in
     let i = get_or c.args.members.now loop.k 0 in
-    plus-fits (fit w64 (at loop.reduced i) c.reduced-1.given) (fit w64 w.result w.type_inv)
+    plus-fits (fit w64 (at loop.reduced i) (omega arith)) (fit w64 w.result w.type_inv)
     ((members-room loop.invariant.1 c.loop-k-test.true c.requires.1).place i)
     (sized w.ensures (side-within (eqb (loop.left % 2) 1) c.args.multiplier c.requires.2)).1
     (omega arith)
-
-pub offset_bounds-reduced-i-in-loop-k : goal.offset_bounds-reduced-i-in-loop-k
-offset_bounds-reduced-i-in-loop-k c = omega (arith, c.shared_slice_known-in-loop-k-1.given c.loop-k.k)
 
 pub bounds-reduced-i : goal.bounds-reduced-i
 bounds-reduced-i c =
@@ -49,18 +37,14 @@ pub loop-k-preserved : goal.loop-k-preserved
 loop-k-preserved c =
     let loop = c.loop-k in
     let w = c.weight-w in
-    let x = at loop.reduced (get_or c.args.members.now loop.k 0) in
-    let sum = plus-reads (fit w64 x c.reduced-1.given) (fit w64 w.result w.type_inv) ((let loop = c.loop-k in
-    let w = c.weight-w in
     let i = get_or c.args.members.now loop.k 0 in
-    plus-fits (fit w64 (at loop.reduced i) c.reduced-1.given) (fit w64 w.result w.type_inv)
-    ((members-room loop.invariant.1 c.loop-k-test.true c.requires.1).place i)
-    (sized w.ensures (side-within (eqb (loop.left % 2) 1) c.args.multiplier c.requires.2)).1
-    (omega arith))) in
+    let x = at loop.reduced i in
+    let x_fits = fit w64 x (omega arith) in
+    let w_fits = fit w64 w.result w.type_inv in
+    let room = (members-room loop.invariant.1 c.loop-k-test.true c.requires.1).place i in
+    let small = (sized w.ensures (side-within (eqb (loop.left % 2) 1) c.args.multiplier c.requires.2)).1 in
+    let sum = plus-reads x_fits w_fits (plus-fits x_fits w_fits room small (omega arith)) in
     (omega arith, members-more loop.invariant.1 _ c.loop-k-test.true c.requires.2 (sum ∙ ap (λ z. x +ℤ z) w.ensures))
-
-pub shape_of-reduced : goal.shape_of-reduced
-shape_of-reduced c = c.loop-k.invariant.1.long
 
 pub returns : goal.returns
 returns c = members-end c.loop-k.invariant.1 c.loop-k-test.false

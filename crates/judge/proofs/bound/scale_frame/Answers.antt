@@ -1,5 +1,5 @@
 -- `scale_frame` meets its contract: the first i numbers are scaled. Assumes nothing.
-use mathlib.Core.Path.{refl, ◌∙◌, ap}
+use mathlib.Core.Path.{◌∙◌, ap}
 use Prim.Native.Nat.{◌*◌, ◌<◌}
 use native.Mathlib.Omega.{arith}
 use lib.IntN.{pos, ◌*ℤ◌}
@@ -16,9 +16,6 @@ use Rattle.integers.specs.Signed64.{sized, pos-within}
 use Rattle.rules.proofs.BoundLaws.{scaled-more}
 use Rattle.judge.proofs.bound.scale_frame.Goals as goal
 
-pub loop-i-init : goal.loop-i-init
-loop-i-init c = (omega arith, refl, λ j h. absurd (omega arith))
-
 pub times-requires : goal.times-requires
 times-requires c =
     let small = (sized (to_z-of_z (fit w64 c.wide.result c.wide.type_inv)) c.wide.ensures.1).1 in
@@ -32,14 +29,8 @@ loop-i-preserved c =
     let x = at args.frame.now loop.i in
     let inside : loop.i < length loop.reduced = omega arith in
     let taken = to_z-of_z (fit w64 wide.result wide.type_inv) in
-    let read = taken ∙ wide.ensures.0 ∙ to_z-of_z (fit w16 x c.wide-arg-1.given) in
+    let read = taken ∙ wide.ensures.0 ∙ to_z-of_z (fit w16 x (omega arith)) in
     let product = to_z-of_z (fit w64 c.times.result c.times.type_inv) ∙ c.times.ensures.0 in
     let small = within-* max_scale frame_size (pos args.scale) _ (pos-within max_scale args.scale c.requires.1) (sized taken wide.ensures.1).1 in
     let value = product ∙ ap (λ z. pos args.scale *ℤ z) read in
     (omega arith, search rules, scaled-more loop.reduced inside (record { value = value; size = (sized product small).1 }) loop.invariant.2)
-
-pub shape_of-reduced : goal.shape_of-reduced
-shape_of-reduced c = c.loop-i.invariant.1
-
-pub returns : goal.returns
-returns c = λ i h. c.loop-i.invariant.2 i (omega arith)

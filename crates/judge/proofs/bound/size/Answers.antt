@@ -15,7 +15,7 @@ overflow_sub-result c = neg-fits c.args.x _ (to_z-of_z c.ranges.x) size_limit c.
 pub returns-then-x-lt0 : goal.returns-then-x-lt0
 returns-then-x-lt0 c =
     let low : c.args.x ⩽ pos 0 = simp lin (omega arith_z) in
-    sized (neg-reads c.args.x _ (to_z-of_z c.ranges.x) ((neg-fits c.args.x _ (to_z-of_z c.ranges.x) size_limit c.requires (omega arith))) ∙ sym (abs-negative _ low)) (abs-within size_limit _ c.requires)
+    sized (neg-reads c.args.x _ (to_z-of_z c.ranges.x) (neg-fits c.args.x _ (to_z-of_z c.ranges.x) size_limit c.requires (omega arith)) ∙ sym (abs-negative _ low)) (abs-within size_limit _ c.requires)
 
 pub returns-else-x-lt0 : goal.returns-else-x-lt0
 returns-else-x-lt0 c =

@@ -12,13 +12,13 @@ use Rattle.integers.specs.Product.{abs}
 use Rattle.integers.specs.Sum.{sum_to}
 use Rattle.rules.specs.Limits.{max_bits, size_limit}
 use Rattle.rules.specs.Table.{at}
-use Rattle.integers.specs.Signed64.{sized, summed-none, summed-fits, summed-next}
+use Rattle.integers.specs.Signed64.{sized, summed-fits, summed-next}
 use Rattle.judge.proofs.bound.sizes.Goals as goal
 
 pub size-total-requires : goal.size-total-requires
 size-total-requires c =
     let loop = c.loop-i in
-    (sized (to_z-of_z (fit w64 (at c.args.reduced.now loop.i) c.size-arg-1.given)) (c.requires.1.place loop.i)).1
+    (sized (to_z-of_z (fit w64 (at c.args.reduced.now loop.i) (omega arith))) (c.requires.1.place loop.i)).1
 
 pub overflow_add-total : goal.overflow_add-total
 overflow_add-total c =
@@ -30,7 +30,7 @@ loop-i-preserved c =
     let loop = c.loop-i in
     let r = c.args.reduced.now in
     let f : ℕ → ℤ = λ j. abs (at r j) in
-    let is : c.size-total.result ≡ f loop.i = c.size-total.ensures.0 ∙ ap abs (to_z-of_z (fit w64 (at r loop.i) c.size-arg-1.given)) in
+    let is : c.size-total.result ≡ f loop.i = c.size-total.ensures.0 ∙ ap abs (to_z-of_z (fit w64 (at r loop.i) (omega arith))) in
     let next = summed-next size_limit loop.i _ c.size-total.result f (fit w64 c.size-total.result c.size-total.type_inv) (loop.invariant.1, loop.invariant.2) c.size-total.ensures.1 is (omega arith) in
     (omega arith, next.0, next.1)
 
@@ -40,6 +40,3 @@ returns c =
     let r = c.args.reduced.now in
     let all : loop.i ≡ length r = omega arith in
     (loop.invariant.1 ∙ ap (λ n. sum_to n (λ j. abs (at r j))) all, within_wider (size_limit * loop.i) (max_bits * size_limit) _ (omega arith) loop.invariant.2)
-
-pub loop-i-init : goal.loop-i-init
-loop-i-init c = (omega arith, (summed-none size_limit).0, (summed-none size_limit).1)

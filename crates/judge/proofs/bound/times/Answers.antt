@@ -12,5 +12,5 @@ overflow_mul-result c = product-fits max_scale (max_bits * frame_size) c.args.sc
 
 pub returns : goal.returns
 returns c =
-    sized (product-reads max_scale (max_bits * frame_size) c.args.scale c.args.x c.ranges.x c.requires.0 (omega arith) ((product-fits max_scale (max_bits * frame_size) c.args.scale c.args.x c.ranges.x c.requires.0 (omega arith) (omega arith) c.requires.1)))
+    sized (product-reads max_scale (max_bits * frame_size) c.args.scale c.args.x c.ranges.x c.requires.0 (omega arith) (product-fits max_scale (max_bits * frame_size) c.args.scale c.args.x c.ranges.x c.requires.0 (omega arith) (omega arith) c.requires.1))
     (within-* max_scale (max_bits * frame_size) (pos c.args.scale) c.args.x (pos-within max_scale c.args.scale c.requires.0) c.requires.1)

@@ -22,6 +22,7 @@ returns-then-mask-eq1 c =
 
 pub returns-else-mask-eq1 : goal.returns-else-mask-eq1
 returns-else-mask-eq1 c =
-    let args = c.args in
-    neg-reads (pos args.multiplier) _ (to_z_pos w64 (omega arith)) ((let b = c.args.multiplier in
-    neg-fits (pos b) _ (to_z_pos w64 (omega arith)) (2 ^ 32) (pos-within (2 ^ 32) b (omega arith)) (omega arith))) ∙ ap (λ t. side t (pos args.multiplier)) (sym (ne_eqb (args.mask % 2) 1 c.if-mask-eq1.false))
+    let b = c.args.multiplier in
+    let read = to_z_pos w64 {n = b} (omega arith) in
+    neg-reads (pos b) _ read (neg-fits (pos b) _ read (2 ^ 32) (pos-within (2 ^ 32) b (omega arith)) (omega arith))
+    ∙ ap (λ t. side t (pos b)) (sym (ne_eqb (c.args.mask % 2) 1 c.if-mask-eq1.false))

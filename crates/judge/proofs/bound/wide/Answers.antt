@@ -9,9 +9,6 @@ use Rattle.rules.specs.Limits.{frame_size}
 use Rattle.integers.specs.Signed64.{sized}
 use Rattle.judge.proofs.bound.wide.Goals as goal
 
-pub overflow_cast-result : goal.overflow_cast-result
-overflow_cast-result c = simp (to_z-of_z, c.ranges.x) (sfits_widen tt c.ranges.x)
-
 small : (x : ℤ) → SFits w16 x → Within frame_size x
 small x = simp lin (omega arith_z)
 

@@ -1,5 +1,5 @@
 -- `first_broken` meets its contract: the checks from j on decide, and check j's part of the members is that check. Assumes nothing.
-use mathlib.Core.Path.{refl, sym, ◌∙◌, subst}
+use mathlib.Core.Path.{sym, ◌∙◌, subst}
 use mathlib.Core.List.{List}
 use Prim.Native.Nat.{ℕ, ◌≤◌, ◌<◌}
 use native.Mathlib.Omega.{arith}
@@ -10,12 +10,6 @@ use Rattle.table.specs.Layout.{checks_from}
 use Rattle.table.proofs.LayoutLaws.{starts-long, part-lent, part-below, part_in_lem}
 use Rattle.judge.proofs.CheckLaws.{broken-here, broken-later, broken-none}
 use Rattle.judge.proofs.checks.first_broken.Goals as goal
-
-pub start_at-a-requires : goal.start_at-a-requires
-start_at-a-requires c = omega (arith, c.loop-j-test.true, c.requires.1)
-
-pub start_at-e-requires : goal.start_at-e-requires
-start_at-e-requires c = omega (arith, c.loop-j-test.true, c.requires.1)
 
 pub slice_bounds-odd_check-count : goal.slice_bounds-odd_check-count
 slice_bounds-odd_check-count c =
@@ -67,6 +61,3 @@ returns c =
     let checks : List (List ℕ) = checks_from c.args.starts.now c.args.members.now in
     let done : length checks ≤ c.loop-j.j = omega (arith, c.loop-j-test.false, c.requires.1, starts-long _ _ _ c.requires.0) in
     sym (c.loop-j.invariant.1 ∙ broken-none (bits_of c.args.word.now) _ _ done)
-
-pub loop-j-init : goal.loop-j-init
-loop-j-init c = (omega arith, refl)

@@ -1,5 +1,5 @@
 -- `odd_check` meets its contract: the sum so far and the members from k on decide. Assumes nothing.
-use mathlib.Core.Path.{refl, sym, ◌∙◌, ap}
+use mathlib.Core.Path.{sym, ◌∙◌, ap}
 use native.Mathlib.Omega.{arith}
 use lib.ListN.{length, get_or}
 use Rattle.rules.specs.Parity.{◌⊕◌}
@@ -8,9 +8,6 @@ use Rattle.rules.proofs.Duality.{below_at}
 use Rattle.rules.proofs.ParityLaws.{odd-more, odd-end}
 use Rattle.inputs.proofs.AgreedLaws.{bits-at}
 use Rattle.judge.proofs.checks.odd_check.Goals as goal
-
-pub overflow_cast-i : goal.overflow_cast-i
-overflow_cast-i c = omega (arith, c.shared_slice_known-in-loop-k-1.given c.loop-k.k)
 
 pub bounds-word-i : goal.bounds-word-i
 bounds-word-i c =
@@ -30,6 +27,3 @@ returns c =
     let args = c.args in
     let loop = c.loop-k in
     odd-end (bits_of args.word.now) args.members.now loop.k loop.sum c.loop-k-test.false ∙ loop.invariant.1
-
-pub loop-k-init : goal.loop-k-init
-loop-k-init c = (omega arith, refl)

@@ -17,10 +17,6 @@ returns-then-not-in_range c =
     certificate-scale _ _ _ _ c.u16_at-q.ensures.0 c.if-bytes-lt4.false c.if-q-gt-MAX_ENTRIES.false c.if-bytes-q.false
     _ c.u16_at.ensures.0 (sym c.in_range.ensures ∙ c.if-not-in_range.true)
 
-pub entries_refusal-requires : goal.entries_refusal-requires
-entries_refusal-requires c =
-    (c.requires, record { few = c.if-q-gt-MAX_ENTRIES.false; size = c.if-bytes-q.false })
-
 pub returns : goal.returns
 returns c =
     c.entries_refusal.ensures

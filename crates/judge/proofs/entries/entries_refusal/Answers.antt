@@ -10,9 +10,6 @@ loop-k-init c =
     let args = c.args in
     (omega arith, sym (items-all args.m (degree_at args.starts.now) args.bytes.now args.q))
 
-pub entry_refusal-refusal-requires : goal.entry_refusal-refusal-requires
-entry_refusal-refusal-requires c = (c.requires.0, record { long = c.requires.1; inside = c.loop-k-test.true })
-
 pub returns-then-refusal-ne0 : goal.returns-then-refusal-ne0
 returns-then-refusal-ne0 c =
     let args = c.args in

@@ -1,6 +1,5 @@
 -- `entry_refusal` meets its contract: each return has the tests that led there. Assumes nothing.
 use mathlib.Core.Path.{refl, sym, ◌∙◌}
-use native.Mathlib.Omega.{arith}
 use Rattle.judge.proofs.RefusalLaws.{entry-check, entry-multiplier, entry-mask, entry-order, entry-right}
 use Rattle.judge.proofs.entries.entry_refusal.Goals as goal
 
@@ -11,15 +10,6 @@ pub returns-then-not-in_range : goal.returns-then-not-in_range
 returns-then-not-in_range c =
     let outside = sym c.in_range.ensures ∙ c.if-not-in_range.true in
     entry-multiplier _ _ _ _ _ _ c.check_at-check.ensures.0 c.multiplier_at-multiplier.ensures c.if-m-check.false outside
-
-pub degree-requires : goal.degree-requires
-degree-requires c =
-    let start = c.requires.0 c.check_at-check.result c.if-m-check.false in
-    (start.room, start.order)
-
-pub mask_right-requires : goal.mask_right-requires
-mask_right-requires c =
-    omega (arith, c.degree.ensures, (c.requires.0 c.check_at-check.result c.if-m-check.false).degree)
 
 pub returns-then-not-mask_right : goal.returns-then-not-mask_right
 returns-then-not-mask_right c =

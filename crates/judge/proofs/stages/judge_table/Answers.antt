@@ -1,5 +1,5 @@
 -- `judge_table` meets its contract. Assumes nothing.
-use mathlib.Core.Path.{sym, ◌∙◌}
+use mathlib.Core.Path.{◌∙◌}
 use Rattle.judge.proofs.StageLaws.{ordered, judge-turned, judge-passes}
 use Rattle.judge.proofs.stages.judge_table.Goals as goal
 
@@ -11,10 +11,6 @@ pub returns-then-refusal-ne0 : goal.returns-then-refusal-ne0
 returns-then-refusal-ne0 c =
     let args = c.args in
     judge-turned _ _ _ _ c.requires.0 c.requires.1 args.frame.now args.word.now args.certificate.now _ c.refusal_of-refusal.ensures c.if-refusal-ne0.true
-
-pub verdict_of-requires : goal.verdict_of-requires
-verdict_of-requires c =
-    (c.requires.0, c.requires.1, sym c.refusal_of-refusal.ensures ∙ c.if-refusal-ne0.false)
 
 pub returns : goal.returns
 returns c =

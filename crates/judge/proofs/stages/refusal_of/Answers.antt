@@ -22,9 +22,6 @@ returns-then-second-ne0 c =
     sym (ap₂ (λ j k. or_else j (or_else k last)) (sym c.frame-first.ensures) (sym c.word-second.ensures)
     ∙ else-next c.frame-first.result (or_else c.word-second.result last) c.if-first-ne0.false ∙ else-refused c.word-second.result last c.if-second-ne0.true)
 
-pub certificate_refusal-requires : goal.certificate_refusal-requires
-certificate_refusal-requires c = c.requires
-
 pub returns : goal.returns
 unfolding judge_refusal
 returns c =

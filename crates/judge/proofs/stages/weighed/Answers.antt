@@ -11,9 +11,6 @@ use Rattle.judge.proofs.RowLaws.{sole-found}
 use Rattle.judge.proofs.StageLaws.{weighed-certified, weighed-gap}
 use Rattle.judge.proofs.stages.weighed.Goals as goal
 
-pub gap_of-gap-requires : goal.gap_of-gap-requires
-gap_of-gap-requires c = c.requires
-
 pub returns-then-gap-eq0 : goal.returns-then-gap-eq0
 returns-then-gap-eq0 c =
     let gap = c.gap_of-gap in
