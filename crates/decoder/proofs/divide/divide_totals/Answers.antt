@@ -11,11 +11,6 @@ use Rattle.decoder.proofs.PartLaws.{part_length, fill-coming, fill-part}
 use Rattle.decoder.proofs.DivideLaws.{over-part}
 use Rattle.decoder.proofs.divide.divide_totals.Goals as goal
 
-pub slice-bounds-divide-block-end-2-UNKNOWN : goal.slice-bounds-divide-block-end-2-UNKNOWN
-slice-bounds-divide-block-end-2-UNKNOWN c =
-    let long : length c.loop-a.totals ≡ length c.args.totals.now = ap length c.loop-a.invariant.1 ∙ fill-length c.loop-a.a _ _ in
-        omega (arith, long)
-
 pub divide_block-requires : goal.divide_block-requires
 unfolding part
 divide_block-requires c =

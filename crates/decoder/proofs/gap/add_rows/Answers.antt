@@ -1,10 +1,10 @@
 -- `add_rows` meets its contract: the rows from check j on, and the prices summed, make the whole. Assumes nothing.
-use mathlib.Core.Path.{refl, ap}
+use mathlib.Core.Path.{◌≡◌, refl, ap}
 use Prim.Native.Nat.{◌+◌, ◌-◌}
 use native.Mathlib.Omega.{arith}
-use lib.IntN.{◌+ℤ◌}
+use lib.IntN.{ℤ, ◌+ℤ◌}
 use mir.Syntax.{w64}
-use mir.Val.{to_z}
+use mir.Val.{SFits, to_z, of_z}
 use mir.Facts.{to_z-of_z}
 use Rattle.integers.specs.Machine.{fit, reads}
 use Rattle.integers.specs.Signed64.{sized, summed-fits}
@@ -57,8 +57,11 @@ overflow_add-sum c =
     let rows = c.requires in
     let call = c.add_check-sum in
     let few = few-rows rows loop.j c.loop-j-test.true in
-    summed-fits row_limit loop.j loop.sum call.result (to_z w64 loop.sum) (fit w64 call.result call.type_inv) (omega (arith, few)) (refl, loop.invariant.1.sum)
+    summed-fits row_limit loop.j _ call.result _ (fit w64 call.result call.type_inv) (omega (arith, few)) (refl, loop.invariant.1.sum)
     (sized call.ensures.prices (step-adds rows loop.j c.loop-j-test.true loop.invariant.2).sum).1
+
+added-reads : (t : ℤ) {x : ℤ} → SFits w64 x → SFits w64 (t +ℤ to_z w64 (of_z w64 x)) → to_z w64 (of_z w64 (t +ℤ to_z w64 (of_z w64 x))) ≡ t +ℤ x
+added-reads t f g = reads g (ap (λ z. t +ℤ z) (to_z-of_z f))
 
 pub loop-j-preserved : goal.loop-j-preserved
 loop-j-preserved c =
@@ -68,12 +71,10 @@ loop-j-preserved c =
     let taken = c.loop-j-test.true in
     let call = c.add_check-sum in
     let rest = rows_left args.starts.now args.members.now args.multipliers.now args.masks.now (j + 1) in
-    let sum = reads ((let loop = c.loop-j in
-    let rows = c.requires in
-    let call = c.add_check-sum in
-    let few = few-rows rows loop.j c.loop-j-test.true in
-    summed-fits row_limit loop.j loop.sum call.result (to_z w64 loop.sum) (fit w64 call.result call.type_inv) (omega (arith, few)) (refl, loop.invariant.1.sum)
-    (sized call.ensures.prices (step-adds rows loop.j c.loop-j-test.true loop.invariant.2).sum).1)) (ap (λ z. to_z w64 loop.sum +ℤ z) (to_z-of_z (fit w64 call.result call.type_inv))) in
+    let few = few-rows c.requires j taken in
+    let fits = fit w64 call.result call.type_inv in
+    let sum = added-reads _ fits (summed-fits row_limit j _ call.result _ fits (omega (arith, few)) (refl, loop.invariant.1.sum)
+        (sized call.ensures.prices (step-adds c.requires j taken loop.invariant.2).sum).1) in
     (omega (arith, taken), rows_more loop.invariant.1 rest (step-adds c.requires j taken loop.invariant.2) call.ensures (rows_next c.requires j taken loop.invariant.2) sum, refl)
 
 pub shape_of-numbers : goal.shape_of-numbers

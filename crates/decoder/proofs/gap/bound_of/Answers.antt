@@ -34,7 +34,7 @@ returns c =
     let rows = rows_on a.starts.now a.members.now a.multipliers.now a.masks.now in
     let put = c.add_rows-prices in
     let sizes = c.sum_sizes in
-    let new = put.new.1.1.1.1.0 in
+    let new = put.new.numbers in
     let sum = plus-reads (fit w64 sizes.result sizes.type_inv) (fit w64 put.result put.type_inv) ((let sizes = c.sum_sizes in
     let put = c.add_rows-prices in
     plus-fits (fit w64 sizes.result sizes.type_inv) (fit w64 put.result put.type_inv) sizes.ensures.1 put.ensures.sum (omega arith))) in

@@ -25,8 +25,7 @@ returns c =
     let l = a.frame.now in
     let least = c.bound_of-least in
     let rows = rows_on a.starts.now a.members.now a.multipliers.now a.masks.now in
-    less-reads (fit w64 least.result least.type_inv) (fit w64 c.agreed.result c.agreed.type_inv) ((let least = c.bound_of-least in
-    less-fits (fit w64 least.result least.type_inv) (fit w64 c.agreed.result c.agreed.type_inv) least.ensures.1 c.agreed.ensures.1 (omega arith)))
+    less-reads (fit w64 least.result least.type_inv) (fit w64 c.agreed.result c.agreed.type_inv) (less-fits (fit w64 least.result least.type_inv) (fit w64 c.agreed.result c.agreed.type_inv) least.ensures.1 c.agreed.ensures.1 (omega arith))
     ∙ gap_is (length a.spins.now) 1 l rows (negatives a.spins.now)
     (least.ensures.0 ∙ ap (λ n. bound n 1 l rows) c.requires.gap_fits.frame_long) (c.agreed.ensures.0 ∙ once _)
 

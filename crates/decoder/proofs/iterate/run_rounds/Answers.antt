@@ -12,7 +12,7 @@ loop-k-init c =
 
 pub do_round-at-requires : goal.do_round-at-requires
 do_round-at-requires c =
-                (c.requires.given, going-ready c.loop-k.invariant c.loop-k-test.true)
+                record { given = c.requires.given; ready = going-ready c.loop-k.invariant c.loop-k-test.true }
 
 pub left-k-requires : goal.left-k-requires
 left-k-requires c =

@@ -20,7 +20,7 @@ loop-i-init c = (omega arith, refl)
 pub overflow_add-sum : goal.overflow_add-sum
 overflow_add-sum c =
     let height : ℤ = at c.args.heights.now c.loop-i.i in
-    let sum_before : ℤ = c.loop-i.sum in
+    let sum_before : ℤ = to_z w32 c.loop-i.sum-bits in
     let next-is : sum_before +ℤ to_z w32 (of_z w32 height) ≡ sum_before +ℤ height = ap (λ z. sum_before +ℤ z) (to_z-of_z (fit w32 height c.sum-1.given)) in
         let l = c.loop-i in
     subst (SFits w32) (sym (next-is ∙ ap (λ z. z +ℤ height) l.invariant.1)) (sum-narrow c.args.heights.now l.i (omega arith) c.requires)
@@ -28,12 +28,13 @@ overflow_add-sum c =
 pub loop-i-preserved : goal.loop-i-preserved
 loop-i-preserved c =
     let height : ℤ = at c.args.heights.now c.loop-i.i in
-    let sum_before : ℤ = c.loop-i.sum in
+    let sum_before : ℤ = to_z w32 c.loop-i.sum-bits in
     let next-is : sum_before +ℤ to_z w32 (of_z w32 height) ≡ sum_before +ℤ height = ap (λ z. sum_before +ℤ z) (to_z-of_z (fit w32 height c.sum-1.given)) in
     let a = c.args in
     let l = c.loop-i in
-    let e = to_z-of_z ((let l = c.loop-i in
-    subst (SFits w32) (sym (next-is ∙ ap (λ z. z +ℤ height) l.invariant.1)) (sum-narrow c.args.heights.now l.i (omega arith) c.requires))) ∙ next-is in (
+    let sum_fits : SFits w32 (sum_before +ℤ to_z w32 (of_z w32 height)) =
+        subst (SFits w32) (sym (next-is ∙ ap (λ z. z +ℤ height) l.invariant.1)) (sum-narrow c.args.heights.now l.i (omega arith) c.requires) in
+    let e = to_z-of_z sum_fits ∙ next-is in (
       omega arith,
       e ∙ ap (λ z. z +ℤ height) l.invariant.1 ∙ sym (sum-take a.heights.now l.i (omega arith)),
     )

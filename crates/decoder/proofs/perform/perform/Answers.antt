@@ -93,89 +93,75 @@ slice_bounds-run_rounds-end-17 c =
 
 pub run_rounds-after-requires : goal.run_rounds-after-requires
 run_rounds-after-requires c =
-            (given-all c.requires (search rules) c.count_degrees-degrees.ensures, parts-ready c.requires)
+            record { given = given-all c.requires (search rules) c.count_degrees-degrees.ensures; ready = parts-ready c.requires }
 
 pub slice_bounds-finish-end : goal.slice_bounds-finish-end
 slice_bounds-finish-end c =
-    let begun : goal.Start = search in
-    let spins-kept : KeptBy begun.args.n c.run_rounds-after.new.spins begun.args.spins.now = length_front begun.args.spins.now c.run_rounds-after.new.spins begun.args.n c.run_rounds-after.auto.spins in
-        room_after spins-kept (begun.requires.room spins)
+    let spins-kept : KeptBy c.args.n c.run_rounds-after.new.spins c.args.spins.now = length_front c.args.spins.now c.run_rounds-after.new.spins c.args.n c.run_rounds-after.auto.spins in
+        room_after spins-kept (c.requires.room spins)
 
 pub slice_bounds-finish-end-2 : goal.slice_bounds-finish-end-2
 slice_bounds-finish-end-2 c =
-    let begun : goal.Start = search in
-    let spins-kept : KeptBy begun.args.n c.run_rounds-after.new.spins begun.args.spins.now = length_front begun.args.spins.now c.run_rounds-after.new.spins begun.args.n c.run_rounds-after.auto.spins in
-        sym (length-take-le _ _ (room_after spins-kept (begun.requires.room spins)))
+    let spins-kept : KeptBy c.args.n c.run_rounds-after.new.spins c.args.spins.now = length_front c.args.spins.now c.run_rounds-after.new.spins c.args.n c.run_rounds-after.auto.spins in
+        sym (length-take-le _ _ (room_after spins-kept (c.requires.room spins)))
 
 pub slice_bounds-finish-end-3 : goal.slice_bounds-finish-end-3
 slice_bounds-finish-end-3 c =
-    let begun : goal.Start = search in
-    let multipliers-kept : KeptBy begun.args.m c.run_rounds-after.new.multipliers begun.args.multipliers.now = length_front begun.args.multipliers.now c.run_rounds-after.new.multipliers begun.args.m c.run_rounds-after.auto.multipliers in
-        room_after multipliers-kept (begun.requires.room multipliers)
+    let multipliers-kept : KeptBy c.args.m c.run_rounds-after.new.multipliers c.args.multipliers.now = length_front c.args.multipliers.now c.run_rounds-after.new.multipliers c.args.m c.run_rounds-after.auto.multipliers in
+        room_after multipliers-kept (c.requires.room multipliers)
 
 pub slice_bounds-finish-end-4 : goal.slice_bounds-finish-end-4
 slice_bounds-finish-end-4 c =
-    let begun : goal.Start = search in
-    let multipliers-kept : KeptBy begun.args.m c.run_rounds-after.new.multipliers begun.args.multipliers.now = length_front begun.args.multipliers.now c.run_rounds-after.new.multipliers begun.args.m c.run_rounds-after.auto.multipliers in
-        sym (length-take-le _ _ (room_after multipliers-kept (begun.requires.room multipliers)))
+    let multipliers-kept : KeptBy c.args.m c.run_rounds-after.new.multipliers c.args.multipliers.now = length_front c.args.multipliers.now c.run_rounds-after.new.multipliers c.args.m c.run_rounds-after.auto.multipliers in
+        sym (length-take-le _ _ (room_after multipliers-kept (c.requires.room multipliers)))
 
 pub slice_bounds-finish-end-5 : goal.slice_bounds-finish-end-5
 slice_bounds-finish-end-5 c =
-    let begun : goal.Start = search in
-    let masks-kept : KeptBy begun.args.m c.run_rounds-after.new.masks begun.args.masks.now = length_front begun.args.masks.now c.run_rounds-after.new.masks begun.args.m c.run_rounds-after.auto.masks in
-        room_after masks-kept (begun.requires.room masks)
+    let masks-kept : KeptBy c.args.m c.run_rounds-after.new.masks c.args.masks.now = length_front c.args.masks.now c.run_rounds-after.new.masks c.args.m c.run_rounds-after.auto.masks in
+        room_after masks-kept (c.requires.room masks)
 
 pub slice_bounds-finish-end-6 : goal.slice_bounds-finish-end-6
 slice_bounds-finish-end-6 c =
-    let begun : goal.Start = search in
-    let masks-kept : KeptBy begun.args.m c.run_rounds-after.new.masks begun.args.masks.now = length_front begun.args.masks.now c.run_rounds-after.new.masks begun.args.m c.run_rounds-after.auto.masks in
-        sym (length-take-le _ _ (room_after masks-kept (begun.requires.room masks)))
+    let masks-kept : KeptBy c.args.m c.run_rounds-after.new.masks c.args.masks.now = length_front c.args.masks.now c.run_rounds-after.new.masks c.args.m c.run_rounds-after.auto.masks in
+        sym (length-take-le _ _ (room_after masks-kept (c.requires.room masks)))
 
 pub finish-requires : goal.finish-requires
 finish-requires c =
-    let begun : goal.Start = search in
-        finish-fits begun.requires _ c.run_rounds-after.ensures
+        finish-fits c.requires _ c.run_rounds-after.ensures
 
 pub shape_of-spins : goal.shape_of-spins
 shape_of-spins c =
-    let begun : goal.Start = search in
-    let spins-kept : KeptBy begun.args.n c.run_rounds-after.new.spins begun.args.spins.now = length_front begun.args.spins.now c.run_rounds-after.new.spins begun.args.n c.run_rounds-after.auto.spins in
+    let spins-kept : KeptBy c.args.n c.run_rounds-after.new.spins c.args.spins.now = length_front c.args.spins.now c.run_rounds-after.new.spins c.args.n c.run_rounds-after.auto.spins in
         spins-kept
 
 pub shape_of-copies : goal.shape_of-copies
 shape_of-copies c =
-    let begun : goal.Start = search in
-    let copies_kept : KeptBy begun.args.e c.run_rounds-after.new.copies begun.args.copies.now = length_front begun.args.copies.now c.run_rounds-after.new.copies begun.args.e c.run_rounds-after.auto.copies in
+    let copies_kept : KeptBy c.args.e c.run_rounds-after.new.copies c.args.copies.now = length_front c.args.copies.now c.run_rounds-after.new.copies c.args.e c.run_rounds-after.auto.copies in
         copies_kept
 
 pub shape_of-offsets : goal.shape_of-offsets
 shape_of-offsets c =
-    let begun : goal.Start = search in
-    let offsets-kept : KeptBy begun.args.e c.run_rounds-after.new.offsets begun.args.offsets.now = length_front begun.args.offsets.now c.run_rounds-after.new.offsets begun.args.e c.run_rounds-after.auto.offsets in
+    let offsets-kept : KeptBy c.args.e c.run_rounds-after.new.offsets c.args.offsets.now = length_front c.args.offsets.now c.run_rounds-after.new.offsets c.args.e c.run_rounds-after.auto.offsets in
         offsets-kept
 
 pub shape_of-sums : goal.shape_of-sums
 shape_of-sums c =
-    let begun : goal.Start = search in
-    let sums_kept : KeptBy begun.args.n c.run_rounds-after.new.sums begun.args.sums.now = length_front begun.args.sums.now c.run_rounds-after.new.sums begun.args.n c.run_rounds-after.auto.sums in
+    let sums_kept : KeptBy c.args.n c.run_rounds-after.new.sums c.args.sums.now = length_front c.args.sums.now c.run_rounds-after.new.sums c.args.n c.run_rounds-after.auto.sums in
         sums_kept
 
 pub shape_of-multipliers : goal.shape_of-multipliers
 shape_of-multipliers c =
-    let begun : goal.Start = search in
-    let multipliers-kept : KeptBy begun.args.m c.run_rounds-after.new.multipliers begun.args.multipliers.now = length_front begun.args.multipliers.now c.run_rounds-after.new.multipliers begun.args.m c.run_rounds-after.auto.multipliers in
+    let multipliers-kept : KeptBy c.args.m c.run_rounds-after.new.multipliers c.args.multipliers.now = length_front c.args.multipliers.now c.run_rounds-after.new.multipliers c.args.m c.run_rounds-after.auto.multipliers in
         multipliers-kept
 
 pub shape_of-masks : goal.shape_of-masks
 shape_of-masks c =
-    let begun : goal.Start = search in
-    let masks-kept : KeptBy begun.args.m c.run_rounds-after.new.masks begun.args.masks.now = length_front begun.args.masks.now c.run_rounds-after.new.masks begun.args.m c.run_rounds-after.auto.masks in
+    let masks-kept : KeptBy c.args.m c.run_rounds-after.new.masks c.args.masks.now = length_front c.args.masks.now c.run_rounds-after.new.masks c.args.m c.run_rounds-after.auto.masks in
         masks-kept
 
 pub shape_of-depths : goal.shape_of-depths
 shape_of-depths c =
-    let begun : goal.Start = search in
-    let depths-kept : KeptBy begun.args.m c.run_rounds-after.new.depths begun.args.depths.now = length_front begun.args.depths.now c.run_rounds-after.new.depths begun.args.m c.run_rounds-after.auto.depths in
+    let depths-kept : KeptBy c.args.m c.run_rounds-after.new.depths c.args.depths.now = length_front c.args.depths.now c.run_rounds-after.new.depths c.args.m c.run_rounds-after.auto.depths in
         depths-kept
 
 pub shape_of-word : goal.shape_of-word
@@ -188,5 +174,4 @@ shape_of-certificate c =
 
 pub returns : goal.returns
 returns c =
-    let begun : goal.Start = search in
-            performed begun.requires _ c.run_rounds-after.ensures c.finish.ensures
+            performed c.requires _ c.run_rounds-after.ensures c.finish.ensures

@@ -12,7 +12,7 @@ step_of-requires c =
 pub returns-then-members-eq-DEGREE_6 : goal.returns-then-members-eq-DEGREE_6
 returns-then-members-eq-DEGREE_6 c =
             let a = c.args in
-    part_left 6 a.spins.now a.members.now a.copies.now a.offsets.now a.sums.now (omega arith) c.requires _ _ _ _ _ _ c.step_of_lem.ensures
+    part_left 6 a.spins.now a.members.now a.copies.now a.offsets.now a.sums.now (omega arith) c.requires _ _ _ _ _ _ c.step_of.ensures
 
 pub step_of-requires-then-members-eq-DEGREE_8 : goal.step_of-requires-then-members-eq-DEGREE_8
 step_of-requires-then-members-eq-DEGREE_8 c =
