@@ -47,3 +47,5 @@ pub mod BoundLaws
 pub mod ParityLaws
 pub mod AnnouncedLaws
 pub mod ReportLaws
+pub mod Frames
+pub mod Examples
