@@ -16,7 +16,7 @@ use Rattle.rules.specs.Refusal.{Answer, refused, gives, then, asked_too_much}
 use Rattle.rules.specs.Table.{Table, at, values_at, checks_of}
 use Rattle.rules.specs.CodeFile.{code_file}
 use Rattle.rules.specs.Input.{each_within, on_check}
-use Rattle.rules.specs.Cut.{cut, depth, Violation, measured, violation, cut_search, mask_answer, cut_answer}
+use Rattle.rules.specs.Cut.{cut, Violation, measured, violation, cut_search, mask_answer, cut_answer}
 use Rattle.rules.specs.Certificate.{members_at}
 use Rattle.rules.specs.Step.{clips}
 use Rattle.rules.proofs.Basics.{and_both}

@@ -5,7 +5,6 @@ use Prim.Native.Nat.{ℕ, zero, suc, ◌<◌}
 use native.Mathlib.Omega.{arith}
 use lib.IntN.{ℤ}
 use Rattle.integers.specs.Clip.{clip_z}
-use Rattle.rules.specs.Table.{at}
 use Rattle.rules.specs.Step.{clips}
 use Rattle.rules.specs.Round.{first_of}
 

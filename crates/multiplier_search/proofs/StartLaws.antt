@@ -15,7 +15,7 @@ use Rattle.integers.specs.Linear.{lin, arith_z, ◌⩽◌, Within, up, le_out, l
 use Rattle.integers.specs.Product.{abs-pos}
 use Rattle.integers.specs.Sum.{AllWithin}
 use Rattle.rules.specs.Parity.{left, odd, Alike}
-use Rattle.rules.specs.Step.{clips, moves, short, multiplier}
+use Rattle.rules.specs.Step.{clips, moves, multiplier}
 use Rattle.rules.proofs.CutRule.{Cuts}
 use Rattle.rules.proofs.Multiplier.{moves-zero, multiplier-least, multiplier-unique}
 use Rattle.cut.specs.Heights.{height, heights_of, least_height, higher, highest}

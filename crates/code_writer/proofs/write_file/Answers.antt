@@ -7,7 +7,7 @@ use Rattle.code_writer.proofs.write_file.Goals as goal
 
 pub returns : goal.returns
 returns c =
-        let old = c.args.file.now in
+    let old = c.args.file.now in
     let members = c.write_members in
     let contents = c.write_contents in
     let checks = c.put16-2 in

@@ -6,7 +6,7 @@ use Rattle.cut.proofs.depth_of.Goals as goal
 
 pub overflow_sub-result : goal.overflow_sub-result
 overflow_sub-result c =
-        omega (arith, c.requires c.if-mask-ne0.true)
+    omega (arith, c.requires c.if-mask-ne0.true)
 
 pub returns-then-mask-ne0 : goal.returns-then-mask-ne0
 returns-then-mask-ne0 c = test-fails _ _ _ (ne_eqb _ _ c.if-mask-ne0.true)

@@ -1,7 +1,7 @@
 -- `put` meets its contract: the first i places are as the list with x put in, and the others still as they came. Assumes nothing.
 use mathlib.Core.Path.{◌≡◌, sym, ◌∙◌, ap}
 use mathlib.Core.Bool.{cond}
-use Prim.Native.Nat.{◌-◌, ◌<◌}
+use Prim.Native.Nat.{◌<◌}
 use native.Mathlib.Omega.{arith}
 use lib.Dec.{eqb}
 use lib.ListN.{length, set, length-set}
@@ -20,7 +20,7 @@ loop-i-preserved c =
     let long : length c.loop-i.heights ≡ length c.args.heights.now = ap length c.loop-i.invariant.1 ∙ fill-length c.loop-i.i _ _ in
     let old : at c.loop-i.heights c.loop-i.i ≡ at c.args.heights.now c.loop-i.i = ap (λ l. at l c.loop-i.i) c.loop-i.invariant.1 ∙ fill-at c.loop-i.i _ _ (pos 0) in
     let kept : ℤ = to_z w32 (of_z w32 c.args.x) in
-            let heights = c.args.heights.now in
+    let heights = c.args.heights.now in
     let inside : c.loop-i.i < length heights = omega (arith, long) in
     let read = to_z-of_z (fit w32 (at c.loop-i.heights c.loop-i.i) c.pick-arg-1.given) ∙ old in (
       omega arith,
@@ -33,7 +33,7 @@ pub returns : goal.returns
 returns c =
     let long : length c.loop-i.heights ≡ length c.args.heights.now = ap length c.loop-i.invariant.1 ∙ fill-length c.loop-i.i _ _ in
     let kept : ℤ = to_z w32 (of_z w32 c.args.x) in
-        let args = c.args in
+    let args = c.args in
     c.loop-i.invariant.1 ∙ fill-all c.loop-i.i _ _ (length-set args.heights.now args.k kept) (omega (arith, long))
     ∙ ap (set args.heights.now args.k) (to_z-of_z c.ranges.x)
 

@@ -22,7 +22,7 @@ returns-then-heights-v c =
 pub decide-requires : goal.decide-requires
 decide-requires c =
     let few : length c.args.v.now ≤ max_degree = omega arith in
-        let most = few in
+    let most = few in
     let e = c.scan_values-s.ensures in
     (place-most _ _ _ most _ e.0 e.1, top-most _ _ _ most _ e.0 e.1, place-there _ _ _ most _ e.0 e.1)
 
@@ -30,5 +30,5 @@ pub returns : goal.returns
 returns c =
     let few : length c.args.v.now ≤ max_degree = omega arith in
     let room : length c.args.v.now ≤ length c.args.heights.now = omega arith in
-            let e = c.scan_values-s.ensures in
+    let e = c.scan_values-s.ensures in
     c.decide.ensures ∙ decides-seen _ _ _ few _ e.0 e.1 room

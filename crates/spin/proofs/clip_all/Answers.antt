@@ -1,6 +1,6 @@
 -- `clip_all` meets its contract: the first i places are clipped, and the others still as they came. Assumes nothing.
 use mathlib.Core.Path.{◌≡◌, sym, ◌∙◌, ap}
-use Prim.Native.Nat.{◌-◌, ◌<◌}
+use Prim.Native.Nat.{◌<◌}
 use native.Mathlib.Omega.{arith}
 use lib.ListN.{length}
 use lib.IntN.{pos}
@@ -18,7 +18,7 @@ pub loop-i-preserved : goal.loop-i-preserved
 loop-i-preserved c =
     let long : length c.loop-i.spins ≡ length c.args.spins.now = ap length c.loop-i.invariant.1 ∙ fill-length c.loop-i.i _ _ in
     let old : at c.loop-i.spins c.loop-i.i ≡ at c.args.spins.now c.loop-i.i = ap (λ l. at l c.loop-i.i) c.loop-i.invariant.1 ∙ fill-at c.loop-i.i _ _ (pos 0) in
-        let spins = c.args.spins.now in
+    let spins = c.args.spins.now in
     let inside : c.loop-i.i < length spins = omega (arith, long) in
     let read = to_z-of_z (fit w32 (at c.loop-i.spins c.loop-i.i) c.clip-arg-1.given) ∙ old in (
       omega arith,
@@ -29,7 +29,7 @@ loop-i-preserved c =
 pub returns : goal.returns
 returns c =
     let long : length c.loop-i.spins ≡ length c.args.spins.now = ap length c.loop-i.invariant.1 ∙ fill-length c.loop-i.i _ _ in
-        c.loop-i.invariant.1 ∙ fill-all c.loop-i.i _ _ (clips-length unit c.args.spins.now) (omega (arith, long))
+    c.loop-i.invariant.1 ∙ fill-all c.loop-i.i _ _ (clips-length unit c.args.spins.now) (omega (arith, long))
 
 pub loop-i-init : goal.loop-i-init
 loop-i-init c = (omega arith, sym (fill_none _ _))

@@ -1,11 +1,11 @@
 -- `half_above` meets its contract. Assumes nothing.
-use mathlib.Core.Path.{◌≡◌, ap}
+use mathlib.Core.Path.{ap}
 use lib.IntN.{◌+ℤ◌}
 use mir.Syntax.{w32}
 use mir.Val.{SFits, to_z, of_z}
 use mir.Facts.{to_z-of_z}
 use Rattle.integers.specs.Linear.{lin, arith_z}
-use Rattle.integers.specs.Machine.{known, raw, reads}
+use Rattle.integers.specs.Machine.{known, reads}
 use Rattle.spin.proofs.SpinLaws.{at_most, above, lacks-one, lacks-none}
 use Rattle.spin.proofs.half_above.Goals as goal
 

@@ -19,10 +19,10 @@ returns-then-degree-eq0 c = sym (ap (divided c.args.total) c.if-degree-eq0.true 
 pub divided-requires : goal.divided-requires
 divided-requires c =
     let degree-is : to_z w32 c.args.degree ≡ pos c.args.degree = to_z_pos w32 (omega (arith, c.ranges.degree)) in
- subst Degree (sym degree-is) record {
-  some = pos-le 1 c.args.degree (one c.if-degree-eq0.false);
-  few = pos-le c.args.degree 65535 (omega (arith, c.ranges.degree));
-}
+    subst Degree (sym degree-is) record {
+      some = pos-le 1 c.args.degree (one c.if-degree-eq0.false);
+      few = pos-le c.args.degree 65535 (omega (arith, c.ranges.degree));
+    }
   where
     one : {d : ℕ} → (d ≡ 0 → ⊥) → 1 ≤ d
     one f = omega (arith, f)
@@ -30,4 +30,4 @@ divided-requires c =
 pub returns : goal.returns
 returns c =
     let degree-is : to_z w32 c.args.degree ≡ pos c.args.degree = to_z_pos w32 (omega (arith, c.ranges.degree)) in
-        to_z-of_z (fit w32 c.divided.result c.divided.type_inv) ∙ c.divided.ensures ∙ ap₂ (λ t d. divided t (nat_abs d)) (to_z-of_z c.ranges.total) degree-is
+    to_z-of_z (fit w32 c.divided.result c.divided.type_inv) ∙ c.divided.ensures ∙ ap₂ (λ t d. divided t (nat_abs d)) (to_z-of_z c.ranges.total) degree-is

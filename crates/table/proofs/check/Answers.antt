@@ -38,7 +38,7 @@ pub returns-then-code-contents_end : goal.returns-then-code-contents_end
 returns-then-code-contents_end c =
     let sizes : in_range 1 max_bits c.u16_at-n.result && in_range 1 max_checks c.u16_at-m.result ≡ true = let bits = sym c.in_range.ensures ∙ c.if-not-in_range.false in
     and-holds _ _ bits ∙ sym c.in_range-2.ensures ∙ c.if-not-in_range-2.false in
-        let file = c.args.code.now in
+    let file = c.args.code.now in
     sym (first-stage _ _ _ c.u16_at-n.ensures.0 c.u16_at-m.ensures.0
     ∙ must-holds _ _ _ _ (le-leb _ _ c.if-code-lt4.false)
     ∙ must-holds _ _ _ _ sizes
@@ -48,14 +48,14 @@ pub check_contents-requires : goal.check_contents-requires
 check_contents-requires c =
     let sizes : in_range 1 max_bits c.u16_at-n.result && in_range 1 max_checks c.u16_at-m.result ≡ true = let bits = sym c.in_range.ensures ∙ c.if-not-in_range.false in
     and-holds _ _ bits ∙ sym c.in_range-2.ensures ∙ c.if-not-in_range-2.false in
-        let most = sizes-most c.u16_at-n.result c.u16_at-m.result sizes in
+    let most = sizes-most c.u16_at-n.result c.u16_at-m.result sizes in
     (omega arith, most.0, most.1)
 
 pub returns : goal.returns
 returns c =
     let sizes : in_range 1 max_bits c.u16_at-n.result && in_range 1 max_checks c.u16_at-m.result ≡ true = let bits = sym c.in_range.ensures ∙ c.if-not-in_range.false in
     and-holds _ _ bits ∙ sym c.in_range-2.ensures ∙ c.if-not-in_range-2.false in
-        let file = c.args.code.now in
+    let file = c.args.code.now in
     c.check_contents.ensures
     ∙ sym (first-stage _ _ _ c.u16_at-n.ensures.0 c.u16_at-m.ensures.0
     ∙ must-holds _ _ _ _ (le-leb _ _ c.if-code-lt4.false)

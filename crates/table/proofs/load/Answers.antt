@@ -13,7 +13,7 @@ returns-then-starts-checks c =
     let checks : ℕ = c.in-Accepted.checks in
     let edges : ℕ = c.in-Accepted.edges in
     let accepted : Readable c.args.code.now c.in-Accepted.bits checks edges = readable _ _ _ _ (ap numbered (sym c.in-Accepted.is) ∙ c.check-answer.ensures) in
-        let short : length c.args.starts.now ≤ checks = omega arith in
+    let short : length c.args.starts.now ≤ checks = omega arith in
     loaded-few-starts _ _ _ _ _ _ accepted short
 
 pub returns-then-members-edges : goal.returns-then-members-edges
@@ -22,7 +22,7 @@ returns-then-members-edges c =
     let checks : ℕ = c.in-Accepted.checks in
     let accepted : Readable c.args.code.now c.in-Accepted.bits checks edges = readable _ _ _ _ (ap numbered (sym c.in-Accepted.is) ∙ c.check-answer.ensures) in
     let starts_fit : checks < length c.args.starts.now = omega arith in
-        let short : length c.args.members.now < edges = omega arith in
+    let short : length c.args.members.now < edges = omega arith in
     loaded-few-members _ _ _ _ _ _ accepted starts_fit short
 
 pub write_starts-requires : goal.write_starts-requires
@@ -60,5 +60,5 @@ returns-else-members-edges c =
     let accepted : Readable c.args.code.now c.in-Accepted.bits checks edges = readable _ _ _ _ (ap numbered (sym c.in-Accepted.is) ∙ c.check-answer.ensures) in
     let starts_fit : checks < length c.args.starts.now = omega arith in
     let members-fit : edges ≤ length c.args.members.now = omega arith in
-        loaded-table _ _ _ _ _ _ accepted _ c.contents_end.ensures starts_fit members-fit _ _
+    loaded-table _ _ _ _ _ _ accepted _ c.contents_end.ensures starts_fit members-fit _ _
     c.write_starts.ensures c.write_members.ensures

@@ -49,13 +49,13 @@ slice_bounds-members_cut-end c =
 pub members_cut-requires : goal.members_cut-requires
 members_cut-requires c =
     let check : c.args.j < length (checks_from c.args.starts.now c.args.members.now) = omega (arith, c.requires.1, starts-long _ _ _ c.requires.0) in
-        let n = length c.args.spins.now in
+    let n = length c.args.spins.now in
     subst (λ l. (length l ≤ max_degree) × Below n l) (sym (part-lent _ _ _ c.requires.0 _ check c.wide-a.ensures c.wide-e.ensures))
     (part-degree _ _ _ c.requires.0 _ check, part-below _ _ _ c.requires.0 _ check)
 
 pub returns : goal.returns
 returns c =
     let check : c.args.j < length (checks_from c.args.starts.now c.args.members.now) = omega (arith, c.requires.1, starts-long _ _ _ c.requires.0) in
-        subst (λ l. CutIs (clips unit (values_at (at c.args.spins.now) l)) c.members_cut.result.mask c.members_cut.result.depth)
+    subst (λ l. CutIs (clips unit (values_at (at c.args.spins.now) l)) c.members_cut.result.mask c.members_cut.result.depth)
     (part-lent _ _ _ c.requires.0 _ check c.wide-a.ensures c.wide-e.ensures)
     c.members_cut.ensures

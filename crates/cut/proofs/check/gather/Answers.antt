@@ -1,6 +1,6 @@
 -- `gather` meets its contract: the first k values are the members' spins. Assumes nothing.
 use mathlib.Core.Path.{◌≡◌, ◌∙◌, ap}
-use Prim.Native.Nat.{◌-◌, ◌<◌}
+use Prim.Native.Nat.{◌<◌}
 use native.Mathlib.Omega.{arith}
 use lib.ListN.{length}
 use mir.Syntax.{w32}
@@ -25,7 +25,7 @@ bounds-spins-i c =
 
 pub loop-k-preserved : goal.loop-k-preserved
 loop-k-preserved c =
-        let args = c.args in
+    let args = c.args in
     let loop = c.loop-k in
     let read = to_z-of_z (fit w32 (at args.spins.now c.wide-i.result) c.values-1.given) in (
       omega arith,

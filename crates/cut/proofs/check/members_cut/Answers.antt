@@ -11,11 +11,11 @@ use Rattle.cut.proofs.check.members_cut.Goals as goal
 
 pub slice_bounds-see-end : goal.slice_bounds-see-end
 slice_bounds-see-end c =
-        front_length (at c.args.spins.now) c.args.members.now _ _ c.gather.ensures
+    front_length (at c.args.spins.now) c.args.members.now _ _ c.gather.ensures
 
 pub returns : goal.returns
 returns c =
-        let gathered = c.gather.ensures in
+    let gathered = c.gather.ensures in
     let long = front_length (at c.args.spins.now) c.args.members.now _ _ gathered in
     subst (λ l. CutIs (clips unit l) c.see.result.mask c.see.result.depth)
     (front-is (at c.args.spins.now) c.args.members.now _ _ gathered)

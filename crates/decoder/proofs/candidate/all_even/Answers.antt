@@ -35,21 +35,21 @@ slice_bounds-is_odd-start c =
 pub slice_bounds-is_odd-end : goal.slice_bounds-is_odd-end
 slice_bounds-is_odd-end c =
     let check : c.loop-j.j < length (checks_from c.args.starts.now c.args.members.now) = omega (arith, c.loop-j-test.true, starts-long _ _ _ c.requires) in
-        (part_in_lem _ _ _ c.requires c.loop-j.j check).1
+    (part_in_lem _ _ _ c.requires c.loop-j.j check).1
 
 pub is_odd-requires : goal.is_odd-requires
 is_odd-requires c =
     let check : c.loop-j.j < length (checks_from c.args.starts.now c.args.members.now) = omega (arith, c.loop-j-test.true, starts-long _ _ _ c.requires) in
     let part : take (get_or c.args.starts.now (c.loop-j.j + 1) 0 - c.loop-j.a) (drop c.loop-j.a c.args.members.now) ≡ get_or (checks_from c.args.starts.now c.args.members.now) c.loop-j.j [] = ap (λ a. take (get_or c.args.starts.now (c.loop-j.j + 1) 0 - a) (drop a c.args.members.now)) c.loop-j.invariant.2
     ∙ part-is _ _ _ c.requires c.loop-j.j check in
-            subst (Below (length c.args.spins.now)) (sym part) (part-below _ _ _ c.requires c.loop-j.j check)
+    subst (Below (length c.args.spins.now)) (sym part) (part-below _ _ _ c.requires c.loop-j.j check)
 
 pub returns-then-is_odd : goal.returns-then-is_odd
 returns-then-is_odd c =
     let check : c.loop-j.j < length (checks_from c.args.starts.now c.args.members.now) = omega (arith, c.loop-j-test.true, starts-long _ _ _ c.requires) in
     let part : take (get_or c.args.starts.now (c.loop-j.j + 1) 0 - c.loop-j.a) (drop c.loop-j.a c.args.members.now) ≡ get_or (checks_from c.args.starts.now c.args.members.now) c.loop-j.j [] = ap (λ a. take (get_or c.args.starts.now (c.loop-j.j + 1) 0 - a) (drop a c.args.members.now)) c.loop-j.invariant.2
     ∙ part-is _ _ _ c.requires c.loop-j.j check in
-                    let even = meets-odd (negatives c.args.spins.now) (checks_from c.args.starts.now c.args.members.now) c.loop-j.j check part in
+    let even = meets-odd (negatives c.args.spins.now) (checks_from c.args.starts.now c.args.members.now) c.loop-j.j check part in
     sym (c.loop-j.invariant.1 ∙ even (sym c.is_odd.ensures ∙ c.if-is_odd.true))
 
 pub loop-j-preserved : goal.loop-j-preserved
@@ -57,10 +57,10 @@ loop-j-preserved c =
     let check : c.loop-j.j < length (checks_from c.args.starts.now c.args.members.now) = omega (arith, c.loop-j-test.true, starts-long _ _ _ c.requires) in
     let part : take (get_or c.args.starts.now (c.loop-j.j + 1) 0 - c.loop-j.a) (drop c.loop-j.a c.args.members.now) ≡ get_or (checks_from c.args.starts.now c.args.members.now) c.loop-j.j [] = ap (λ a. take (get_or c.args.starts.now (c.loop-j.j + 1) 0 - a) (drop a c.args.members.now)) c.loop-j.invariant.2
     ∙ part-is _ _ _ c.requires c.loop-j.j check in
-                    let next = meets-even (negatives c.args.spins.now) (checks_from c.args.starts.now c.args.members.now) c.loop-j.j check part in
+    let next = meets-even (negatives c.args.spins.now) (checks_from c.args.starts.now c.args.members.now) c.loop-j.j check part in
     (omega arith, c.loop-j.invariant.1 ∙ next (sym c.is_odd.ensures ∙ c.if-is_odd.false), refl)
 
 pub returns : goal.returns
 returns c =
-        sym (c.loop-j.invariant.1 ∙ meets-end (negatives c.args.spins.now) (checks_from c.args.starts.now c.args.members.now) c.loop-j.j
+    sym (c.loop-j.invariant.1 ∙ meets-end (negatives c.args.spins.now) (checks_from c.args.starts.now c.args.members.now) c.loop-j.j
     (omega (arith, c.loop-j-test.false, starts-long _ _ _ c.requires)))

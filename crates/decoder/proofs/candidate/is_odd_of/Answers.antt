@@ -1,13 +1,12 @@
 -- `is_odd_of` meets its contract: the parity found and that of the members from k on make the whole. Assumes nothing.
 use mathlib.Core.Path.{refl, sym, ◌∙◌, ap}
-use Prim.Native.Nat.{◌-◌}
 use native.Mathlib.Omega.{arith}
 use lib.ListN.{length, get_or}
 use mir.Syntax.{w32}
 use mir.Facts.{to_z-of_z}
 use Rattle.integers.specs.Machine.{fit}
 use Rattle.rules.specs.Table.{at}
-use Rattle.rules.specs.Parity.{◌⊕◌, odd}
+use Rattle.rules.specs.Parity.{◌⊕◌}
 use Rattle.rules.specs.Cut.{is_neg, negatives}
 use Rattle.rules.proofs.Duality.{below_at}
 use Rattle.rules.proofs.ParityLaws.{odd-more, odd-end}
@@ -22,7 +21,7 @@ offset_bounds-spins-i c = omega (arith, c.shared_slice_known-in-loop-k-1.given c
 
 pub bounds-spins-i : goal.bounds-spins-i
 bounds-spins-i c =
-        below_at (length c.args.spins.now) c.args.members.now c.loop-k.k c.loop-k-test.true c.requires
+    below_at (length c.args.spins.now) c.args.members.now c.loop-k.k c.loop-k-test.true c.requires
 
 pub loop-k-preserved : goal.loop-k-preserved
 loop-k-preserved c =

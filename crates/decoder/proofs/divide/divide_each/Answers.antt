@@ -1,6 +1,6 @@
 -- `divide_each` meets its contract: the first i places are divided, and the others still as they came. Assumes nothing.
 use mathlib.Core.Path.{◌≡◌, sym, ◌∙◌, ap}
-use Prim.Native.Nat.{◌-◌, ◌<◌}
+use Prim.Native.Nat.{◌<◌}
 use native.Mathlib.Omega.{arith}
 use lib.ListN.{length, get_or}
 use mir.Syntax.{w32}
@@ -15,12 +15,12 @@ use Rattle.decoder.proofs.divide.divide_each.Goals as goal
 pub bounds-degrees-i : goal.bounds-degrees-i
 bounds-degrees-i c =
     let long : length c.loop-i.totals ≡ length c.args.totals.now = ap length c.loop-i.invariant.1 ∙ fill-length c.loop-i.i _ _ in
-        omega (arith, long, c.requires)
+    omega (arith, long, c.requires)
 
 pub loop-i-preserved : goal.loop-i-preserved
 loop-i-preserved c =
     let long : length c.loop-i.totals ≡ length c.args.totals.now = ap length c.loop-i.invariant.1 ∙ fill-length c.loop-i.i _ _ in
-        let ts = c.args.totals.now in
+    let ts = c.args.totals.now in
     let ds = c.args.degrees.now in
     let d = get_or ds c.loop-i.i 0 in
     let inside : c.loop-i.i < length ts = omega (arith, long) in
@@ -31,7 +31,7 @@ loop-i-preserved c =
 pub returns : goal.returns
 returns c =
     let long : length c.loop-i.totals ≡ length c.args.totals.now = ap length c.loop-i.invariant.1 ∙ fill-length c.loop-i.i _ _ in
-        c.loop-i.invariant.1 ∙ fill-all c.loop-i.i _ _ (quotients-length _ _) (omega (arith, long))
+    c.loop-i.invariant.1 ∙ fill-all c.loop-i.i _ _ (quotients-length _ _) (omega (arith, long))
 
 pub loop-i-init : goal.loop-i-init
 loop-i-init c = (omega arith, sym (fill_none _ _))

@@ -6,7 +6,7 @@ use Rattle.decoder.proofs.divide.divide_part.Goals as goal
 
 pub returns : goal.returns
 returns c =
-            let ds = c.args.degrees.now in
+    let ds = c.args.degrees.now in
     let ts = c.args.totals.now in
     let is = c.common_degree-d.ensures in
     c.divide_all.ensures ∙ ap (λ d. quotients d ts) is ∙ over-common ds ts (λ e. c.if-d-eq0.false (is ∙ e)) c.requires

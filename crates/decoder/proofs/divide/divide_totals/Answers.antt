@@ -1,6 +1,6 @@
 -- `divide_totals` meets its contract: the totals before a are divided, and the others still as they came. Assumes nothing.
 use mathlib.Core.Path.{◌≡◌, sym, ◌∙◌, ap}
-use Prim.Native.Nat.{◌-◌, ◌≤◌}
+use Prim.Native.Nat.{◌≤◌}
 use native.Mathlib.Omega.{arith}
 use lib.ListN.{length}
 use Rattle.rules.proofs.FillLaws.{fill_none, fill-length, fill-all}
@@ -15,19 +15,19 @@ pub divide_block-requires : goal.divide_block-requires
 unfolding part
 divide_block-requires c =
     let long : length c.loop-a.totals ≡ length c.args.totals.now = ap length c.loop-a.invariant.1 ∙ fill-length c.loop-a.a _ _ in
-                let a = c.loop-a.a in
+    let a = c.loop-a.a in
     let e = c.block_end-e.result in
     part_length a e c.loop-a.totals (omega (arith, long, c.block_end-e.ensures))
     ∙ sym (part_length a e c.args.degrees.now (omega (arith, c.block_end-e.ensures, c.requires)))
 
 pub loop-a-smaller : goal.loop-a-smaller
 loop-a-smaller c =
-        omega (arith, c.block_end-e.ensures)
+    omega (arith, c.block_end-e.ensures)
 
 pub loop-a-preserved : goal.loop-a-preserved
 unfolding part splice
 loop-a-preserved c =
-                let ds = c.args.degrees.now in
+    let ds = c.args.degrees.now in
     let ts = c.args.totals.now in
     let a = c.loop-a.a in
     let e = c.block_end-e.result in
@@ -38,7 +38,7 @@ loop-a-preserved c =
 pub returns : goal.returns
 returns c =
     let long : length c.loop-a.totals ≡ length c.args.totals.now = ap length c.loop-a.invariant.1 ∙ fill-length c.loop-a.a _ _ in
-        c.loop-a.invariant.1 ∙ fill-all c.loop-a.a _ _ (quotients-length _ _) (omega (arith, long))
+    c.loop-a.invariant.1 ∙ fill-all c.loop-a.a _ _ (quotients-length _ _) (omega (arith, long))
 
 pub loop-a-init : goal.loop-a-init
 loop-a-init c = (omega arith, sym (fill_none _ _))

@@ -9,7 +9,7 @@ use Rattle.decoder.proofs.gap.add_row.Goals as goal
 
 pub add_row_of-requires : goal.add_row_of-requires
 add_row_of-requires c =
-        let a = c.args in
+    let a = c.args in
     subst (λ ms. RowFits a.b ms a.numbers.now) (sym (take_exact 6 a.members.now (omega arith))) c.requires
 
 pub returns-then-members-eq-DEGREE_6 : goal.returns-then-members-eq-DEGREE_6

@@ -1,6 +1,6 @@
 -- `add_row_of` meets its contract: the members from k on, with what is left of the mask, make the whole row. Assumes nothing.
 use mathlib.Core.Path.{◌∙◌, ap}
-use Prim.Native.Nat.{◌-◌, ◌<◌, ◌%◌}
+use Prim.Native.Nat.{◌<◌, ◌%◌}
 use native.Mathlib.Omega.{arith}
 use lib.ListN.{length, get_or}
 use lib.IntN.{pos, ◌+ℤ◌}
@@ -31,7 +31,7 @@ slice_copy_out-weighted c =
 
 pub weighted-requires : goal.weighted-requires
 weighted-requires c =
-        let loop = c.loop-k in
+    let loop = c.loop-k in
     let i = get_or c.args.members.now loop.k 0 in
     let room = (members-room loop.invariant.1 c.loop-k-test.true c.requires.few).place i in
     ((sized (to_z-of_z (fit w64 (at loop.numbers i) c.weighted-arg-1.given)) room).1, c.requires.small)
@@ -46,7 +46,7 @@ bounds-numbers-i c =
 
 pub loop-k-preserved : goal.loop-k-preserved
 loop-k-preserved c =
-        let args = c.args in
+    let args = c.args in
     let loop = c.loop-k in
     let w = side (eqb (loop.rest % 2) 1) (pos args.b) in
     let read = to_z-of_z (fit w64 (at loop.numbers (get_or args.members.now loop.k 0)) c.weighted-arg-1.given) in

@@ -1,6 +1,6 @@
 -- `add_rows` meets its contract: the rows from check j on, and the prices summed, make the whole. Assumes nothing.
 use mathlib.Core.Path.{◌≡◌, refl, ap}
-use Prim.Native.Nat.{◌+◌, ◌-◌}
+use Prim.Native.Nat.{◌+◌}
 use native.Mathlib.Omega.{arith}
 use lib.IntN.{ℤ, ◌+ℤ◌}
 use mir.Syntax.{w64}
@@ -21,7 +21,7 @@ loop-j-init c =
 
 pub bounds-starts-j : goal.bounds-starts-j
 bounds-starts-j c =
-        starts-in c.requires c.loop-j.j c.loop-j-test.true
+    starts-in c.requires c.loop-j.j c.loop-j-test.true
 
 pub overflow_cast-e : goal.overflow_cast-e
 overflow_cast-e c = omega (arith, c.shared_slice_known-in-loop-j-1.given (c.loop-j.j + 1))
@@ -31,29 +31,29 @@ offset_bounds-members-a c = omega (arith, c.shared_slice_known-in-loop-j-1.given
 
 pub slice_bounds-add_check-count : goal.slice_bounds-add_check-count
 slice_bounds-add_check-count c =
-        (part-ends c.requires c.loop-j.j c.loop-j-test.true c.loop-j.invariant.2).0
+    (part-ends c.requires c.loop-j.j c.loop-j-test.true c.loop-j.invariant.2).0
 
 pub slice_bounds-add_check-start : goal.slice_bounds-add_check-start
 slice_bounds-add_check-start c = ((part-ends c.requires c.loop-j.j c.loop-j-test.true c.loop-j.invariant.2).0)
 
 pub slice_bounds-add_check-end : goal.slice_bounds-add_check-end
 slice_bounds-add_check-end c =
-        (part-ends c.requires c.loop-j.j c.loop-j-test.true c.loop-j.invariant.2).1
+    (part-ends c.requires c.loop-j.j c.loop-j-test.true c.loop-j.invariant.2).1
 
 pub bounds-multipliers-j : goal.bounds-multipliers-j
 bounds-multipliers-j c =
-        multiplier-in c.requires c.loop-j.j c.loop-j-test.true
+    multiplier-in c.requires c.loop-j.j c.loop-j-test.true
 
 pub add_check-sum-requires : goal.add_check-sum-requires
 add_check-sum-requires c =
-        let loop = c.loop-j in
+    let loop = c.loop-j in
     let fit = c.requires in
     let few = few-rows fit loop.j c.loop-j-test.true in
     row_fits fit loop.j c.loop-j-test.true loop.invariant.2 loop.invariant.1.long (rows-room loop.invariant.1 (omega (arith, few)))
 
 pub overflow_add-sum : goal.overflow_add-sum
 overflow_add-sum c =
-        let loop = c.loop-j in
+    let loop = c.loop-j in
     let rows = c.requires in
     let call = c.add_check-sum in
     let few = few-rows rows loop.j c.loop-j-test.true in
@@ -65,8 +65,8 @@ added-reads t f g = reads g (ap (λ z. t +ℤ z) (to_z-of_z f))
 
 pub loop-j-preserved : goal.loop-j-preserved
 loop-j-preserved c =
-        let loop = c.loop-j in
-        let args = c.args in
+    let loop = c.loop-j in
+    let args = c.args in
     let j = loop.j in
     let taken = c.loop-j-test.true in
     let call = c.add_check-sum in
@@ -74,7 +74,7 @@ loop-j-preserved c =
     let few = few-rows c.requires j taken in
     let fits = fit w64 call.result call.type_inv in
     let sum = added-reads _ fits (summed-fits row_limit j _ call.result _ fits (omega (arith, few)) (refl, loop.invariant.1.sum)
-        (sized call.ensures.prices (step-adds c.requires j taken loop.invariant.2).sum).1) in
+    (sized call.ensures.prices (step-adds c.requires j taken loop.invariant.2).sum).1) in
     (omega (arith, taken), rows_more loop.invariant.1 rest (step-adds c.requires j taken loop.invariant.2) call.ensures (rows_next c.requires j taken loop.invariant.2) sum, refl)
 
 pub shape_of-numbers : goal.shape_of-numbers

@@ -1,6 +1,6 @@
 -- `agreed` meets its contract: the sum over the first i numbers, in 32 bits. Assumes nothing.
 use mathlib.Core.Path.{◌≡◌, refl, sym, ◌∙◌, ap, ap₂, subst}
-use Prim.Native.Nat.{ℕ, ◌+◌, ◌*◌, ◌-◌, ◌≤◌}
+use Prim.Native.Nat.{ℕ, ◌+◌, ◌*◌}
 use native.Mathlib.Omega.{arith}
 use lib.ListN.{length}
 use lib.IntN.{ℤ, ◌+ℤ◌}
@@ -47,7 +47,7 @@ loop-i-preserved c =
     let read = ap₂ (λ z y. turn (is_neg z) y) (to_z-of_z (fit w32 s c.turned-arg-in-loop-i-1.given)) (to_z-of_z (fit w16 x c.turned-arg-1.given)) in
     let is : t.result ≡ f loop.i = t.ensures.0 ∙ read ∙ ap (λ b. turn b x) (sym (negatives-at args.spins.now loop.i)) in
     let sum_fits : SFits w32 (before +ℤ to_z w32 (of_z w32 t.result)) =
-        subst (λ z. SFits w32 (before +ℤ z)) (sym turned-reads) (fits-size w32 next (omega (arith, nat_abs-≤ next _ next-within))) in
+    subst (λ z. SFits w32 (before +ℤ z)) (sym turned-reads) (fits-size w32 next (omega (arith, nat_abs-≤ next _ next-within))) in
     let sum = reads sum_fits (ap (λ z. before +ℤ z) turned-reads) in
     (omega arith, sum ∙ ap₂ ◌+ℤ◌ loop.invariant.1 is ∙ sym (sum-next f loop.i), subst (Within (frame_size * (loop.i + 1))) (sym sum) next-within)
 

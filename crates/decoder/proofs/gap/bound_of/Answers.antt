@@ -18,7 +18,7 @@ use Rattle.decoder.proofs.gap.bound_of.Goals as goal
 
 pub add_rows-prices-requires : goal.add_rows-prices-requires
 add_rows-prices-requires c =
-        let a = c.args in
+    let a = c.args in
     subst (RowsFit a.starts.now a.members.now a.multipliers.now a.masks.now) (sym c.load.ensures) c.requires.0
 
 pub overflow_add-result : goal.overflow_add-result
@@ -29,7 +29,7 @@ overflow_add-result c =
 
 pub returns : goal.returns
 returns c =
-        let a = c.args in
+    let a = c.args in
     let l = a.frame.now in
     let rows = rows_on a.starts.now a.members.now a.multipliers.now a.masks.now in
     let put = c.add_rows-prices in

@@ -21,7 +21,7 @@ overflow_sub-result c =
 
 pub returns : goal.returns
 returns c =
-        let a = c.args in
+    let a = c.args in
     let l = a.frame.now in
     let least = c.bound_of-least in
     let rows = rows_on a.starts.now a.members.now a.multipliers.now a.masks.now in

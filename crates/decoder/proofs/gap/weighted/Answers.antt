@@ -15,21 +15,21 @@ use Rattle.decoder.proofs.gap.weighted.Goals as goal
 pub overflow_add-result : goal.overflow_add-result
 overflow_add-result c =
     let b-fits : SFits w64 (pos c.args.b) = fits-size w64 (pos c.args.b) (omega arith) in
-        plus-fits c.ranges.x b-fits c.requires.0 (pos-within max_multiplier c.args.b c.requires.1) (omega arith)
+    plus-fits c.ranges.x b-fits c.requires.0 (pos-within max_multiplier c.args.b c.requires.1) (omega arith)
 
 pub returns-then-mask-eq1 : goal.returns-then-mask-eq1
 returns-then-mask-eq1 c =
     let b-fits : SFits w64 (pos c.args.b) = fits-size w64 (pos c.args.b) (omega arith) in
-        let a = c.args in
+    let a = c.args in
     plus-reads c.ranges.x b-fits ((plus-fits c.ranges.x b-fits c.requires.0 (pos-within max_multiplier c.args.b c.requires.1) (omega arith))) ∙ ap (λ t. a.x +ℤ side t (pos a.b)) (sym (eq-eqb (a.mask % 2) 1 c.if-mask-eq1.true))
 
 pub overflow_sub-result : goal.overflow_sub-result
 overflow_sub-result c =
     let b-fits : SFits w64 (pos c.args.b) = fits-size w64 (pos c.args.b) (omega arith) in
-        less-fits c.ranges.x b-fits c.requires.0 (pos-within max_multiplier c.args.b c.requires.1) (omega arith)
+    less-fits c.ranges.x b-fits c.requires.0 (pos-within max_multiplier c.args.b c.requires.1) (omega arith)
 
 pub returns : goal.returns
 returns c =
     let b-fits : SFits w64 (pos c.args.b) = fits-size w64 (pos c.args.b) (omega arith) in
-        let a = c.args in
+    let a = c.args in
     less-reads c.ranges.x b-fits ((less-fits c.ranges.x b-fits c.requires.0 (pos-within max_multiplier c.args.b c.requires.1) (omega arith))) ∙ ap (λ t. a.x +ℤ side t (pos a.b)) (sym (ne_eqb (a.mask % 2) 1 c.if-mask-eq1.false))

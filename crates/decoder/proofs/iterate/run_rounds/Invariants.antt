@@ -1,6 +1,5 @@
 -- `run_rounds` meets its contract. The invariant: what is left of the rounds is done from where the run stands. Assumes nothing.
 use lib.ListN.{length}
-use Rattle.rules.specs.Buffers.{spins, copies, offsets, sums, multipliers, masks, depths}
 use Rattle.table.specs.Layout.{table_of}
 use Rattle.decoder.specs.Lent.{loop_in}
 use Rattle.decoder.proofs.IterateLaws.{Going}

@@ -19,14 +19,14 @@ first_step-b-requires c =
 
 pub loop-top-init : goal.loop-top-init
 loop-top-init c =
-        let e = c.first_step-b.ensures ∙ ap (first_step c.args.heights.now) (to_z-of_z c.ranges.top) in
+    let e = c.first_step-b.ensures ∙ ap (first_step c.args.heights.now) (to_z-of_z c.ranges.top) in
     (omega arith, subst (λ b. reach ≤ sum_at c.args.heights.now b) (sym e) (first-met c.args.heights.now c.args.top c.requires))
 
 pub fall-d-requires : goal.fall-d-requires
 fall-d-requires c =
     let from_first : c.loop-top.b ≤ nat_abs (pos reach -ℤ c.args.top) = let e = c.first_step-b.ensures ∙ ap (first_step c.args.heights.now) (to_z-of_z c.ranges.top) in
     omega (arith, c.loop-top.invariant.0, e, first-most c.args.heights.now c.args.top) in
-        let hs = c.args.heights.now in (
+    let hs = c.args.heights.now in (
       c.requires.few,
       start_under hs c.args.top c.loop-top.b c.requires.most c.requires.high from_first,
       c.loop-top.invariant.1,

@@ -1,5 +1,5 @@
 -- `least_multiplier` meets its contract: b meets V's inequality all the time, and falls. Assumes nothing.
-use Prim.Native.Nat.{◌-◌, ◌≤◌}
+use Prim.Native.Nat.{◌≤◌}
 use Rattle.multiplier_search.specs.Lifted.{sum_at, reach}
 use Rattle.decoder.proofs.multiplier.least_multiplier.Given as goal
 

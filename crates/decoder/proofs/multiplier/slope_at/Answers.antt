@@ -1,6 +1,6 @@
 -- `slope_at` meets its contract: the first i members in one number. Assumes nothing.
 use mathlib.Core.Path.{◌≡◌, sym, ◌∙◌, ap, ap₂, subst}
-use Prim.Native.Nat.{◌+◌, ◌-◌, ◌/◌, ◌%◌}
+use Prim.Native.Nat.{◌+◌, ◌/◌, ◌%◌}
 use native.Mathlib.Omega.{arith}
 use mir.Syntax.{w32}
 use mir.Val.{SFits}
@@ -19,7 +19,7 @@ loop-i-init c = (omega arith, first-none _ _)
 pub share-both-requires : goal.share-both-requires
 share-both-requires c =
     let element : SFits w32 (at c.args.heights.now c.loop-i.i) = fit w32 (at c.args.heights.now c.loop-i.i) c.share-arg-1.given in
-        let hs = c.args.heights.now in
+    let hs = c.args.heights.now in
     subst (λ h. AllNarrow (share_sums c.args.b h)) (sym (to_z-of_z element))
     (share-at c.args.b hs c.loop-i.i (omega arith) (front (shares_sums c.args.b hs) _ c.requires.2))
 
@@ -30,7 +30,7 @@ overflow_add-both c =
     let both_is : c.loop-i.both + c.share-both.result ≡ packed_first c.args.heights.now c.args.b (c.loop-i.i + 1) = let a = c.args in
     let l = c.loop-i in
     ap₂ ◌+◌ l.invariant.1 share-is ∙ first_next a.heights.now a.b l.i (omega arith) in
-        let hs = c.args.heights.now in
+    let hs = c.args.heights.now in
     let small = packed-narrow hs c.args.b c.loop-i.i (omega arith) (rest (shares_sums c.args.b hs) _ c.requires.2) in
     omega (arith, small, both_is)
 
@@ -45,6 +45,6 @@ loop-i-preserved c =
 
 pub returns : goal.returns
 returns c =
-        let l = c.loop-i in
+    let l = c.loop-i in
     let e = unpacked c.args.heights.now c.args.b l.i c.requires.0 c.requires.1 (omega arith) in
     (ap (λ n. n % one) l.invariant.1 ∙ e.0, ap (λ n. n / one) l.invariant.1 ∙ e.1)

@@ -1,6 +1,5 @@
 -- `sum_of` meets its contract: the sum of the first i heights. Assumes nothing.
 use mathlib.Core.Path.{◌≡◌, refl, sym, ◌∙◌, ap, subst}
-use Prim.Native.Nat.{◌+◌, ◌-◌}
 use native.Mathlib.Omega.{arith}
 use lib.IntN.{ℤ, ◌+ℤ◌}
 use lib.Seq.{take_all}
@@ -22,7 +21,7 @@ overflow_add-sum c =
     let height : ℤ = at c.args.heights.now c.loop-i.i in
     let sum_before : ℤ = to_z w32 c.loop-i.sum-bits in
     let next-is : sum_before +ℤ to_z w32 (of_z w32 height) ≡ sum_before +ℤ height = ap (λ z. sum_before +ℤ z) (to_z-of_z (fit w32 height c.sum-1.given)) in
-        let l = c.loop-i in
+    let l = c.loop-i in
     subst (SFits w32) (sym (next-is ∙ ap (λ z. z +ℤ height) l.invariant.1)) (sum-narrow c.args.heights.now l.i (omega arith) c.requires)
 
 pub loop-i-preserved : goal.loop-i-preserved
@@ -33,7 +32,7 @@ loop-i-preserved c =
     let a = c.args in
     let l = c.loop-i in
     let sum_fits : SFits w32 (sum_before +ℤ to_z w32 (of_z w32 height)) =
-        subst (SFits w32) (sym (next-is ∙ ap (λ z. z +ℤ height) l.invariant.1)) (sum-narrow c.args.heights.now l.i (omega arith) c.requires) in
+    subst (SFits w32) (sym (next-is ∙ ap (λ z. z +ℤ height) l.invariant.1)) (sum-narrow c.args.heights.now l.i (omega arith) c.requires) in
     let e = to_z-of_z sum_fits ∙ next-is in (
       omega arith,
       e ∙ ap (λ z. z +ℤ height) l.invariant.1 ∙ sym (sum-take a.heights.now l.i (omega arith)),

@@ -9,24 +9,24 @@ use Rattle.decoder.proofs.pass.pass_one.Goals as goal
 pub step-entry-requires : goal.step-entry-requires
 unfolding part
 step-entry-requires c =
-        c.requires.step
+    c.requires.step
 
 pub store-requires : goal.store-requires
 store-requires c =
-        c.requires.multiplier_there
+    c.requires.multiplier_there
 
 pub store-requires-2 : goal.store-requires-2
 store-requires-2 c =
-        c.requires.mask_there
+    c.requires.mask_there
 
 pub store-requires-3 : goal.store-requires-3
 store-requires-3 c =
-        c.requires.depth_there
+    c.requires.depth_there
 
 pub returns : goal.returns
 unfolding one_passed part splice
 returns c =
-                    let a = c.args in
+    let a = c.args in
     let came = passed_to a.copies.now a.offsets.now a.sums.now a.multipliers.now a.masks.now a.depths.now in
     passed-eq refl refl refl c.store.ensures c.store-2.ensures c.store-3.ensures
     ∙ ap (λ (t : Stepped). placed a.j a.a a.e t came) c.step-entry.ensures

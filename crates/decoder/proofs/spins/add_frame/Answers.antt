@@ -1,6 +1,6 @@
 -- `add_frame` meets its contract: the first i places hold the totals, and the others what came. Assumes nothing.
 use mathlib.Core.Path.{◌≡◌, sym, ◌∙◌, ap, ap₂, subst}
-use Prim.Native.Nat.{◌-◌, ◌<◌}
+use Prim.Native.Nat.{◌<◌}
 use native.Mathlib.Omega.{arith}
 use lib.ListN.{length}
 use lib.IntN.{pos, ◌+ℤ◌}
@@ -20,8 +20,7 @@ use Rattle.decoder.proofs.spins.add_frame.Goals as goal
 pub total-requires : goal.total-requires
 total-requires c =
     let number : let l = c.args.frame.now in let i = c.loop-i.i in to_z w16 (of_z w16 (at l i)) ≡ at l i = to_z-of_z (fit w16 (at c.args.frame.now c.loop-i.i) c.total-arg-1.given) in
-    let sum : let x = c.args.sums.now in let i = c.loop-i.i in to_z w32 (of_z w32 (at x i)) ≡ at x i = to_z-of_z (fit w32 (at c.args.sums.now c.loop-i.i) c.total-arg-in-loop-i-1.given) in
-        (
+    let sum : let x = c.args.sums.now in let i = c.loop-i.i in to_z w32 (of_z w32 (at x i)) ≡ at x i = to_z-of_z (fit w32 (at c.args.sums.now c.loop-i.i) c.total-arg-in-loop-i-1.given) in (
       subst (Within frame_limit) (sym number) (within-at frame_limit c.args.frame.now c.requires.2 c.loop-i.i),
       subst (Within sum_limit) (sym sum) (within-at sum_limit c.args.sums.now c.requires.3 c.loop-i.i),
     )
@@ -29,14 +28,14 @@ total-requires c =
 pub loop-i-smaller : goal.loop-i-smaller
 loop-i-smaller c =
     let inside : c.loop-i.i < length c.args.spins.now = omega (arith, c.loop-i-test.true, c.requires.0) in
-        omega (arith, inside)
+    omega (arith, inside)
 
 pub loop-i-preserved : goal.loop-i-preserved
 loop-i-preserved c =
     let inside : c.loop-i.i < length c.args.spins.now = omega (arith, c.loop-i-test.true, c.requires.0) in
     let number : let l = c.args.frame.now in let i = c.loop-i.i in to_z w16 (of_z w16 (at l i)) ≡ at l i = to_z-of_z (fit w16 (at c.args.frame.now c.loop-i.i) c.total-arg-1.given) in
     let sum : let x = c.args.sums.now in let i = c.loop-i.i in to_z w32 (of_z w32 (at x i)) ≡ at x i = to_z-of_z (fit w32 (at c.args.sums.now c.loop-i.i) c.total-arg-in-loop-i-1.given) in
-                let l = c.args.frame.now in
+    let l = c.args.frame.now in
     let x = c.args.sums.now in
     let i = c.loop-i.i in
     let here : i < length x = omega (arith, inside, c.requires.1) in (
@@ -53,7 +52,7 @@ shape_of-spins c =
 
 pub returns : goal.returns
 returns c =
-        let l = c.args.frame.now in
+    let l = c.args.frame.now in
     let x = c.args.sums.now in
     c.loop-i.invariant.1
     ∙ fill-all c.loop-i.i (totals_of l x) _ (first-length (length x) (λ i. at l i +ℤ at x i) ∙ c.requires.1) (omega (arith, c.loop-i-test.false, c.requires.0))

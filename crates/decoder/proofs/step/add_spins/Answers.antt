@@ -1,6 +1,6 @@
 -- `add_spins` meets its contract: the first i places hold their values, and the others still the offsets. Assumes nothing.
 use mathlib.Core.Path.{◌≡◌, sym, ◌∙◌, ap, ap₂, subst}
-use Prim.Native.Nat.{◌-◌, ◌<◌}
+use Prim.Native.Nat.{◌<◌}
 use native.Mathlib.Omega.{arith}
 use lib.ListN.{length, get_or}
 use lib.IntN.{ℤ, pos, ◌+ℤ◌}
@@ -41,7 +41,7 @@ value-requires c =
     let old : at c.loop-i.offsets c.loop-i.i ≡ at c.args.offsets.now c.loop-i.i = ap (λ l. at l c.loop-i.i) c.loop-i.invariant.1 ∙ fill-at c.loop-i.i _ _ (pos 0) in
     let offset : ℤ = at c.args.offsets.now c.loop-i.i in
     let offset-is : to_z w32 (of_z w32 (at c.loop-i.offsets c.loop-i.i)) ≡ offset = to_z-of_z (fit w32 _ c.value-arg-in-loop-i-1.given) ∙ old in
-        let l = c.loop-i in (
+    let l = c.loop-i in (
       subst (Within unit) (sym spin-is) (within-at unit c.args.spins.now c.requires.2 (get_or c.args.members.now l.i 0)),
       subst (Within offset_limit) (sym offset-is) (within-at offset_limit c.args.offsets.now c.requires.3 l.i),
     )
@@ -59,7 +59,7 @@ loop-i-preserved c =
     let old : at c.loop-i.offsets c.loop-i.i ≡ at c.args.offsets.now c.loop-i.i = ap (λ l. at l c.loop-i.i) c.loop-i.invariant.1 ∙ fill-at c.loop-i.i _ _ (pos 0) in
     let offset : ℤ = at c.args.offsets.now c.loop-i.i in
     let offset-is : to_z w32 (of_z w32 (at c.loop-i.offsets c.loop-i.i)) ≡ offset = to_z-of_z (fit w32 _ c.value-arg-in-loop-i-1.given) ∙ old in
-        let a = c.args in
+    let a = c.args in
     let l = c.loop-i in
     let inside : l.i < length a.members.now = omega arith in
     let is = to_z-of_z (fit w32 c.value.result c.value.type_inv) ∙ c.value.ensures ∙ ap₂ ◌+ℤ◌ spin-is offset-is in (

@@ -1,6 +1,6 @@
 -- `move_all` meets its contract: the first i places are done, and the others still hold the values. Assumes nothing.
 use mathlib.Core.Path.{◌≡◌, sym, ◌∙◌, ap, ap₂, subst}
-use Prim.Native.Nat.{◌-◌, ◌<◌}
+use Prim.Native.Nat.{◌<◌}
 use native.Mathlib.Omega.{arith}
 use lib.ListN.{length, get_or, set}
 use lib.IntN.{ℤ, ◌+ℤ◌, ◌-ℤ◌}
@@ -27,14 +27,14 @@ pub holds-requires : goal.holds-requires
 holds-requires c =
     let long : length c.loop-i.offsets ≡ length c.args.offsets.now = (moving-long c.requires c.loop-i.invariant).1 in
     let here : c.loop-i.i < length c.args.offsets.now = omega (arith, long, c.loop-i-test) in
-        omega (arith, here, c.requires.few)
+    omega (arith, here, c.requires.few)
 
 pub moved-z-requires : goal.moved-z-requires
 moved-z-requires c =
     let value_at : ℤ = at c.args.offsets.now c.loop-i.i in
     let value : to_z w32 (of_z w32 (at c.loop-i.offsets c.loop-i.i)) ≡ value_at = to_z-of_z (fit w32 (at c.loop-i.offsets c.loop-i.i) c.v-1.given) ∙ moving-at c.requires c.loop-i.invariant in
     let small : Within value_limit value_at = within-at value_limit c.args.offsets.now c.requires.small c.loop-i.i in
-            (subst (Within value_limit) (sym value) small, c.requires.bounded)
+    (subst (Within value_limit) (sym value) small, c.requires.bounded)
 
 pub overflow_sub-y : goal.overflow_sub-y
 overflow_sub-y c =
@@ -42,25 +42,25 @@ overflow_sub-y c =
     let value : to_z w32 (of_z w32 (at c.loop-i.offsets c.loop-i.i)) ≡ value_at = to_z-of_z (fit w32 (at c.loop-i.offsets c.loop-i.i) c.v-1.given) ∙ moving-at c.requires c.loop-i.invariant in
     let small : Within value_limit value_at = within-at value_limit c.args.offsets.now c.requires.small c.loop-i.i in
     let copy : to_z w32 (of_z w32 c.moved-z.result) ≡ move unit c.args.b c.holds.result value_at = to_z-of_z (fit w32 c.moved-z.result c.moved-z.type_inv) ∙ c.moved-z.ensures ∙ ap (move unit c.args.b c.holds.result) value in
-        subst (SFits w32) (sym (ap₂ ◌-ℤ◌ value copy)) (offset-fits _ _ small (clip-within unit _))
+    subst (SFits w32) (sym (ap₂ ◌-ℤ◌ value copy)) (offset-fits _ _ small (clip-within unit _))
 
 pub store_signed-requires : goal.store_signed-requires
 store_signed-requires c =
     let long : length c.loop-i.offsets ≡ length c.args.offsets.now = (moving-long c.requires c.loop-i.invariant).1 in
     let here : c.loop-i.i < length c.args.offsets.now = omega (arith, long, c.loop-i-test) in
-                omega (arith, (moving-long c.requires c.loop-i.invariant).0, here)
+    omega (arith, (moving-long c.requires c.loop-i.invariant).0, here)
 
 pub store_signed-requires-in-loop-i : goal.store_signed-requires-in-loop-i
 store_signed-requires-in-loop-i c =
     let long : length c.loop-i.offsets ≡ length c.args.offsets.now = (moving-long c.requires c.loop-i.invariant).1 in
     let here : c.loop-i.i < length c.args.offsets.now = omega (arith, long, c.loop-i-test) in
-            omega (arith, long, here)
+    omega (arith, long, here)
 
 pub bounds-members-i : goal.bounds-members-i
 bounds-members-i c =
     let long : length c.loop-i.offsets ≡ length c.args.offsets.now = (moving-long c.requires c.loop-i.invariant).1 in
     let here : c.loop-i.i < length c.args.offsets.now = omega (arith, long, c.loop-i-test) in
-            omega (arith, here, c.requires.members_long)
+    omega (arith, here, c.requires.members_long)
 
 pub overflow_sub-z : goal.overflow_sub-z
 overflow_sub-z c =
@@ -71,7 +71,7 @@ overflow_sub-z c =
     let copy : to_z w32 (of_z w32 c.moved-z.result) ≡ move unit c.args.b c.holds.result value_at = to_z-of_z (fit w32 c.moved-z.result c.moved-z.type_inv) ∙ c.moved-z.ensures ∙ ap (move unit c.args.b c.holds.result) value in
     let small : Within value_limit value_at = within-at value_limit c.args.offsets.now c.requires.small c.loop-i.i in
     let offset : to_z w32 (of_z w32 (to_z w32 (of_z w32 (at c.loop-i.offsets c.loop-i.i)) -ℤ to_z w32 (of_z w32 c.moved-z.result))) ≡ value_at -ℤ to_z w32 (of_z w32 c.moved-z.result) = to_z-of_z ((subst (SFits w32) (sym (ap₂ ◌-ℤ◌ value copy)) (offset-fits _ _ small (clip-within unit _)))) ∙ ap (λ v. v -ℤ to_z w32 (of_z w32 c.moved-z.result)) value in
-                        weight-fits c.requires c.loop-i.invariant here c.holds.ensures copy offset
+    weight-fits c.requires c.loop-i.invariant here c.holds.ensures copy offset
 
 pub add_at-requires : goal.add_at-requires
 add_at-requires c =
@@ -81,8 +81,7 @@ add_at-requires c =
     let value : to_z w32 (of_z w32 (at c.loop-i.offsets c.loop-i.i)) ≡ value_at = to_z-of_z (fit w32 (at c.loop-i.offsets c.loop-i.i) c.v-1.given) ∙ moving-at c.requires c.loop-i.invariant in
     let copy : to_z w32 (of_z w32 c.moved-z.result) ≡ move unit c.args.b c.holds.result value_at = to_z-of_z (fit w32 c.moved-z.result c.moved-z.type_inv) ∙ c.moved-z.ensures ∙ ap (move unit c.args.b c.holds.result) value in
     let small : Within value_limit value_at = within-at value_limit c.args.offsets.now c.requires.small c.loop-i.i in
-    let offset : to_z w32 (of_z w32 (to_z w32 (of_z w32 (at c.loop-i.offsets c.loop-i.i)) -ℤ to_z w32 (of_z w32 c.moved-z.result))) ≡ value_at -ℤ to_z w32 (of_z w32 c.moved-z.result) = to_z-of_z ((subst (SFits w32) (sym (ap₂ ◌-ℤ◌ value copy)) (offset-fits _ _ small (clip-within unit _)))) ∙ ap (λ v. v -ℤ to_z w32 (of_z w32 c.moved-z.result)) value in
-                    (
+    let offset : to_z w32 (of_z w32 (to_z w32 (of_z w32 (at c.loop-i.offsets c.loop-i.i)) -ℤ to_z w32 (of_z w32 c.moved-z.result))) ≡ value_at -ℤ to_z w32 (of_z w32 c.moved-z.result) = to_z-of_z ((subst (SFits w32) (sym (ap₂ ◌-ℤ◌ value copy)) (offset-fits _ _ small (clip-within unit _)))) ∙ ap (λ v. v -ℤ to_z w32 (of_z w32 c.moved-z.result)) value in (
       inside c.requires c.loop-i.invariant here c.holds.ensures copy offset,
       subst (λ w. SFits w32 (at c.loop-i.sums (get_or c.args.members.now c.loop-i.i 0) +ℤ w)) (sym (to_z-of_z ((weight-fits c.requires c.loop-i.invariant here c.holds.ensures copy offset))))
           (sum_fits c.requires c.loop-i.invariant here c.holds.ensures copy offset),
@@ -92,7 +91,7 @@ pub loop-i-smaller : goal.loop-i-smaller
 loop-i-smaller c =
     let long : length c.loop-i.offsets ≡ length c.args.offsets.now = (moving-long c.requires c.loop-i.invariant).1 in
     let here : c.loop-i.i < length c.args.offsets.now = omega (arith, long, c.loop-i-test) in
-        omega (arith, here)
+    omega (arith, here)
 
 pub loop-i-preserved : goal.loop-i-preserved
 loop-i-preserved c =
@@ -103,7 +102,7 @@ loop-i-preserved c =
     let copy : to_z w32 (of_z w32 c.moved-z.result) ≡ move unit c.args.b c.holds.result value_at = to_z-of_z (fit w32 c.moved-z.result c.moved-z.type_inv) ∙ c.moved-z.ensures ∙ ap (move unit c.args.b c.holds.result) value in
     let small : Within value_limit value_at = within-at value_limit c.args.offsets.now c.requires.small c.loop-i.i in
     let offset : to_z w32 (of_z w32 (to_z w32 (of_z w32 (at c.loop-i.offsets c.loop-i.i)) -ℤ to_z w32 (of_z w32 c.moved-z.result))) ≡ value_at -ℤ to_z w32 (of_z w32 c.moved-z.result) = to_z-of_z ((subst (SFits w32) (sym (ap₂ ◌-ℤ◌ value copy)) (offset-fits _ _ small (clip-within unit _)))) ∙ ap (λ v. v -ℤ to_z w32 (of_z w32 c.moved-z.result)) value in
-                                moving-next c.requires c.loop-i.invariant here c.holds.ensures copy offset
+    moving-next c.requires c.loop-i.invariant here c.holds.ensures copy offset
     c.store_signed.ensures c.store_signed-in-loop-i.ensures
     (c.add_at.ensures
     ∙ ap (λ w. set c.loop-i.sums (get_or c.args.members.now c.loop-i.i 0) (at c.loop-i.sums (get_or c.args.members.now c.loop-i.i 0) +ℤ w))
@@ -111,7 +110,7 @@ loop-i-preserved c =
 
 pub shape_of-copies : goal.shape_of-copies
 shape_of-copies c =
-        omega (arith, (moving-long c.requires c.loop-i.invariant).0, c.requires.copies_long)
+    omega (arith, (moving-long c.requires c.loop-i.invariant).0, c.requires.copies_long)
 
 pub shape_of-offsets : goal.shape_of-offsets
 shape_of-offsets c =
@@ -120,12 +119,12 @@ shape_of-offsets c =
 
 pub shape_of-sums : goal.shape_of-sums
 shape_of-sums c =
-        (moving-long c.requires c.loop-i.invariant).2
+    (moving-long c.requires c.loop-i.invariant).2
 
 pub returns : goal.returns
 returns c =
     let long : length c.loop-i.offsets ≡ length c.args.offsets.now = (moving-long c.requires c.loop-i.invariant).1 in
-        moving-last c.requires c.loop-i.invariant (omega (arith, long, c.loop-i-test))
+    moving-last c.requires c.loop-i.invariant (omega (arith, long, c.loop-i-test))
 
 pub loop-i-init : goal.loop-i-init
 loop-i-init c = moving-first c.requires

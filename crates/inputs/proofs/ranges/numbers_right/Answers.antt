@@ -1,6 +1,5 @@
 -- `numbers_right` meets its contract: what is left from i on decides. Assumes nothing.
 use mathlib.Core.Path.{refl, sym, ◌∙◌}
-use Prim.Native.Nat.{◌-◌}
 use native.Mathlib.Omega.{arith}
 use mir.Syntax.{w16}
 use Rattle.integers.specs.Machine.{fit}
@@ -10,12 +9,12 @@ use Rattle.inputs.proofs.ranges.numbers_right.Goals as goal
 
 pub returns-then-not-number_right : goal.returns-then-not-number_right
 returns-then-not-number_right c =
-        let loop = c.loop-i in
+    let loop = c.loop-i in
     sym (loop.invariant.1 ∙ within-fails frame_limit _ _ c.loop-i-test.true (fit w16 _ c.number_right-arg-1.given) _ c.number_right.ensures (c.if-not-number_right.true))
 
 pub loop-i-preserved : goal.loop-i-preserved
 loop-i-preserved c =
-        let loop = c.loop-i in
+    let loop = c.loop-i in
     let inside = c.loop-i-test.true in
     (omega arith, loop.invariant.1 ∙ within-holds frame_limit _ _ inside (fit w16 _ c.number_right-arg-1.given) _ c.number_right.ensures (c.if-not-number_right.false))
 

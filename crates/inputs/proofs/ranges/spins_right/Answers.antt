@@ -1,6 +1,5 @@
 -- `spins_right` meets its contract: what is left from i on decides. Assumes nothing.
 use mathlib.Core.Path.{refl, sym, ◌∙◌}
-use Prim.Native.Nat.{◌-◌}
 use native.Mathlib.Omega.{arith}
 use mir.Syntax.{w32}
 use Rattle.integers.specs.Machine.{fit}
@@ -10,12 +9,12 @@ use Rattle.inputs.proofs.ranges.spins_right.Goals as goal
 
 pub returns-then-not-spin_right : goal.returns-then-not-spin_right
 returns-then-not-spin_right c =
-        let loop = c.loop-i in
+    let loop = c.loop-i in
     sym (loop.invariant.1 ∙ within-fails unit _ _ c.loop-i-test.true (fit w32 _ c.spin_right-arg-1.given) _ c.spin_right.ensures (c.if-not-spin_right.true))
 
 pub loop-i-preserved : goal.loop-i-preserved
 loop-i-preserved c =
-        let loop = c.loop-i in
+    let loop = c.loop-i in
     (omega arith, loop.invariant.1 ∙ within-holds unit _ _ c.loop-i-test.true (fit w32 _ c.spin_right-arg-1.given) _ c.spin_right.ensures (c.if-not-spin_right.false))
 
 pub returns : goal.returns

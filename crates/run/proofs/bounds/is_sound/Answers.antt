@@ -39,7 +39,7 @@ returns-then-not-all_within-2 c =
     let copies-within : each_within unit c.args.copies.now ≡ true = sym c.all_within.ensures ∙ c.if-not-all_within.false in
     let limit_is : to_z w32 (offset_per_round * c.args.rounds) ≡ pos (offset_per_round * c.args.rounds) = to_z_pos w32 (omega (arith, c.if-rounds-ge-ROUND_LIMIT.false)) in
     let offsets_are : c.all_within-2.result ≡ each_within (offset_per_round * c.args.rounds) c.args.offsets.now = c.all_within-2.ensures ∙ ap (λ z. each_within (nat_abs z) c.args.offsets.now) limit_is in
-        sound-offsets _ _ _ _ _ _ early copies-within (sym offsets_are ∙ c.if-not-all_within-2.true)
+    sound-offsets _ _ _ _ _ _ early copies-within (sym offsets_are ∙ c.if-not-all_within-2.true)
 
 pub are_true-requires : goal.are_true-requires
 are_true-requires c =
@@ -48,7 +48,7 @@ are_true-requires c =
     let limit_is : to_z w32 (offset_per_round * c.args.rounds) ≡ pos (offset_per_round * c.args.rounds) = to_z_pos w32 (omega (arith, c.if-rounds-ge-ROUND_LIMIT.false)) in
     let offsets_are : c.all_within-2.result ≡ each_within (offset_per_round * c.args.rounds) c.args.offsets.now = c.all_within-2.ensures ∙ ap (λ z. each_within (nat_abs z) c.args.offsets.now) limit_is in
     let offsets-within : each_within (offset_per_round * c.args.rounds) c.args.offsets.now ≡ true = sym offsets_are ∙ c.if-not-all_within-2.false in
-        record {
+    record {
       carried = c.requires;
       all_within = (
         each_all unit c.args.copies.now copies-within,
@@ -64,4 +64,4 @@ returns c =
     let limit_is : to_z w32 (offset_per_round * c.args.rounds) ≡ pos (offset_per_round * c.args.rounds) = to_z_pos w32 (omega (arith, c.if-rounds-ge-ROUND_LIMIT.false)) in
     let offsets_are : c.all_within-2.result ≡ each_within (offset_per_round * c.args.rounds) c.args.offsets.now = c.all_within-2.ensures ∙ ap (λ z. each_within (nat_abs z) c.args.offsets.now) limit_is in
     let offsets-within : each_within (offset_per_round * c.args.rounds) c.args.offsets.now ≡ true = sym offsets_are ∙ c.if-not-all_within-2.false in
-            c.are_true.ensures ∙ sound-sums _ _ _ _ _ _ early copies-within offsets-within
+    c.are_true.ensures ∙ sound-sums _ _ _ _ _ _ early copies-within offsets-within

@@ -1,6 +1,5 @@
 -- `run::clear::clear` meets its contract. The invariant: the first i numbers are zero. Assumes nothing.
 use mathlib.Core.Path.{◌≡◌, refl, ◌∙◌, ap}
-use Prim.Native.Nat.{◌-◌}
 use native.Mathlib.Omega.{arith}
 use lib.ListN.{length, set, length-set, length-replicate}
 use lib.IntN.{pos}

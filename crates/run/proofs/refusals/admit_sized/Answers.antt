@@ -23,36 +23,36 @@ returns-then-wanted-gt-ROUND_LIMIT c = answers-asked _ _ _ _ _ _ _ _ (sym c.fram
 
 pub long_enough-requires : goal.long_enough-requires
 long_enough-requires c =
-        c.requires.0
+    c.requires.0
 
 pub returns-then-not-long_enough : goal.returns-then-not-long_enough
 returns-then-not-long_enough c =
-            answers-short _ _ _ _ _ _ _ _ (sym c.frame-k.ensures ∙ c.if-k-ne0.false) (le-leb _ _ c.if-wanted-gt-ROUND_LIMIT.false)
+    answers-short _ _ _ _ _ _ _ _ (sym c.frame-k.ensures ∙ c.if-k-ne0.false) (le-leb _ _ c.if-wanted-gt-ROUND_LIMIT.false)
     (sym c.long_enough.ensures ∙ c.if-not-long_enough.true)
 
 pub slice_bounds-damaged_refusal-end : goal.slice_bounds-damaged_refusal-end
 slice_bounds-damaged_refusal-end c =
-        simp length-take (omega (arith, c.requires.1))
+    simp length-take (omega (arith, c.requires.1))
 
 pub slice_bounds-damaged_refusal-end-2 : goal.slice_bounds-damaged_refusal-end-2
 slice_bounds-damaged_refusal-end-2 c =
     let room : Part (needs_by c.args.bits c.args.checks c.args.edges) (lent_of c.args.lent c.args.copies.now c.args.offsets.now c.args.sums.now) = fits-part _ _ (sym c.long_enough.ensures ∙ c.if-not-long_enough.false) in
-        simp length-take (omega (arith, room copies))
+    simp length-take (omega (arith, room copies))
 
 pub slice_bounds-damaged_refusal-end-3 : goal.slice_bounds-damaged_refusal-end-3
 slice_bounds-damaged_refusal-end-3 c =
     let room : Part (needs_by c.args.bits c.args.checks c.args.edges) (lent_of c.args.lent c.args.copies.now c.args.offsets.now c.args.sums.now) = fits-part _ _ (sym c.long_enough.ensures ∙ c.if-not-long_enough.false) in
-        simp length-take (omega (arith, room offsets))
+    simp length-take (omega (arith, room offsets))
 
 pub slice_bounds-damaged_refusal-end-4 : goal.slice_bounds-damaged_refusal-end-4
 slice_bounds-damaged_refusal-end-4 c =
     let room : Part (needs_by c.args.bits c.args.checks c.args.edges) (lent_of c.args.lent c.args.copies.now c.args.offsets.now c.args.sums.now) = fits-part _ _ (sym c.long_enough.ensures ∙ c.if-not-long_enough.false) in
-        simp length-take (omega (arith, room sums))
+    simp length-take (omega (arith, room sums))
 
 pub damaged_refusal-damaged-requires : goal.damaged_refusal-damaged-requires
 damaged_refusal-damaged-requires c =
     let room : Part (needs_by c.args.bits c.args.checks c.args.edges) (lent_of c.args.lent c.args.copies.now c.args.offsets.now c.args.sums.now) = fits-part _ _ (sym c.long_enough.ensures ∙ c.if-not-long_enough.false) in
-            first-carried _ _ _ _ _ _ c.requires.1 c.requires.2 (room copies) (room offsets) (room sums)
+    first-carried _ _ _ _ _ _ c.requires.1 c.requires.2 (room copies) (room offsets) (room sums)
 
 pub returns-then-standing-ne0 : goal.returns-then-standing-ne0
 returns-then-standing-ne0 c =
@@ -61,7 +61,7 @@ returns-then-standing-ne0 c =
     ∙ ap (λ n. damaged_refusal n (take c.args.edges c.args.members.now) c.args.run.rounds
     (first_state c.args.edges c.args.copies.now c.args.offsets.now) (take c.args.bits c.args.sums.now))
     (length-take-le c.args.bits c.args.sums.now (room sums))) in
-                    answers-refused _ _ _ _ _ _ _ _ (sym c.frame-k.ensures ∙ c.if-k-ne0.false) (le-leb _ _ c.if-wanted-gt-ROUND_LIMIT.false)
+    answers-refused _ _ _ _ _ _ _ _ (sym c.frame-k.ensures ∙ c.if-k-ne0.false) (le-leb _ _ c.if-wanted-gt-ROUND_LIMIT.false)
     (sym c.long_enough.ensures ∙ c.if-not-long_enough.false) _ first-is c.if-standing-ne0.true
 
 pub returns : goal.returns
@@ -71,5 +71,5 @@ returns c =
     ∙ ap (λ n. damaged_refusal n (take c.args.edges c.args.members.now) c.args.run.rounds
     (first_state c.args.edges c.args.copies.now c.args.offsets.now) (take c.args.bits c.args.sums.now))
     (length-take-le c.args.bits c.args.sums.now (room sums))) in
-                    answers-admitted _ _ _ _ _ _ _ _ (sym c.frame-k.ensures ∙ c.if-k-ne0.false) (le-leb _ _ c.if-wanted-gt-ROUND_LIMIT.false)
+    answers-admitted _ _ _ _ _ _ _ _ (sym c.frame-k.ensures ∙ c.if-k-ne0.false) (le-leb _ _ c.if-wanted-gt-ROUND_LIMIT.false)
     (sym c.long_enough.ensures ∙ c.if-not-long_enough.false) _ first-is c.if-standing-ne0.false

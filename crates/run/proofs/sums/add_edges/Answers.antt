@@ -1,7 +1,7 @@
 -- `add_edges` meets its contract: the first e edges are added, each at its member. Assumes nothing.
 use mathlib.Core.Path.{◌≡◌, sym, ◌∙◌, ap₂}
 use mathlib.Core.List.{List}
-use Prim.Native.Nat.{ℕ, ◌-◌, ◌<◌}
+use Prim.Native.Nat.{ℕ, ◌<◌}
 use native.Mathlib.Omega.{arith}
 use lib.ListN.{length, get_or}
 use lib.IntN.{ℤ, ◌+ℤ◌, ◌-ℤ◌}
@@ -32,7 +32,7 @@ pub overflow_sub-sums : goal.overflow_sub-sums
 overflow_sub-sums c =
     let copy_read : let z = at c.args.copies.now c.loop-e.e in to_z w32 (of_z w32 z) ≡ z = to_z-of_z (fit w32 _ c.sums-1.given) in
     let offset_read : let y = at c.args.offsets.now c.loop-e.e in to_z w32 (of_z w32 y) ≡ y = to_z-of_z (fit w32 _ c.sums-in-loop-e-1.given) in
-        op_fits w32 ◌-ℤ◌ copy_read offset_read
+    op_fits w32 ◌-ℤ◌ copy_read offset_read
     (weight-fits c.requires c.loop-e.e)
 
 pub offset_bounds-sums-x : goal.offset_bounds-sums-x
@@ -57,7 +57,7 @@ overflow_add-sums c =
     ∙ sym (weight-at c.requires c.loop-e.e c.loop-e-test.true) in
     let total-read : let x = at c.loop-e.sums member in to_z w32 (of_z w32 x) ≡ x = to_z-of_z (fit w32 _ c.sums-in-loop-e-2-1.given) in
     let many : c.loop-e.e < length weights = omega (arith, c.loop-e-test.true, weights-long c.requires) in
-            let loop = c.loop-e in
+    let loop = c.loop-e in
     op_fits w32 ◌+ℤ◌ total-read weight-read (added-fits loop.invariant.1 c.loop-e-test.true many inside (weight-within c.requires loop.e))
 
 pub bounds-sums-x : goal.bounds-sums-x
@@ -79,11 +79,11 @@ loop-e-preserved c =
     ∙ sym (weight-at c.requires c.loop-e.e c.loop-e-test.true) in
     let total-read : let x = at c.loop-e.sums member in to_z w32 (of_z w32 x) ≡ x = to_z-of_z (fit w32 _ c.sums-in-loop-e-2-1.given) in
     let many : c.loop-e.e < length weights = omega (arith, c.loop-e-test.true, weights-long c.requires) in
-            let loop = c.loop-e in (
+    let loop = c.loop-e in (
       omega arith,
       added_more loop.invariant.1 c.loop-e-test.true many inside (weight-within c.requires loop.e)
           (to_z-of_z ((let loop = c.loop-e in
-    op_fits w32 ◌+ℤ◌ total-read weight-read (added-fits loop.invariant.1 c.loop-e-test.true many inside (weight-within c.requires loop.e)))) ∙ ap₂ ◌+ℤ◌ total-read weight-read),
+          op_fits w32 ◌+ℤ◌ total-read weight-read (added-fits loop.invariant.1 c.loop-e-test.true many inside (weight-within c.requires loop.e)))) ∙ ap₂ ◌+ℤ◌ total-read weight-read),
     )
 
 pub shape_of-sums : goal.shape_of-sums

@@ -11,19 +11,19 @@ add_edges-requires c = edges_fit c.requires.carried c.requires.all_within.0 c.re
 
 pub slice_bounds-found-end-2 : goal.slice_bounds-found-end-2
 slice_bounds-found-end-2 c =
-        part-there c.requires.carried c.add_edges.ensures _
+    part-there c.requires.carried c.add_edges.ensures _
 
 pub slice_bounds-all_same-end : goal.slice_bounds-all_same-end
 slice_bounds-all_same-end c =
-        part-long c.requires.carried c.add_edges.ensures _
+    part-long c.requires.carried c.add_edges.ensures _
 
 pub all_same-requires : goal.all_same-requires
 all_same-requires c =
-        part-long c.requires.carried c.add_edges.ensures _
+    part-long c.requires.carried c.add_edges.ensures _
 
 pub returns : goal.returns
 returns c =
-            c.all_same.ensures ∙ ap (same c.args.sums.now) (part-true c.requires.carried c.add_edges.ensures _)
+    c.all_same.ensures ∙ ap (same c.args.sums.now) (part-true c.requires.carried c.add_edges.ensures _)
 
 pub slice_bounds-add_edges-end : goal.slice_bounds-add_edges-end
 slice_bounds-add_edges-end c = simp length-take (omega (arith, c.requires.carried.edges.bits))

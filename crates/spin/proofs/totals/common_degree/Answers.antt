@@ -6,15 +6,15 @@ use Rattle.spin.proofs.totals.common_degree.Goals as goal
 
 pub returns-then-degrees-eq0 : goal.returns-then-degrees-eq0
 returns-then-degrees-eq0 c =
-        sym (common-none c.args.degrees.now c.if-degrees-eq0.true)
+    sym (common-none c.args.degrees.now c.if-degrees-eq0.true)
 
 pub bounds-degrees-0 : goal.bounds-degrees-0
 bounds-degrees-0 c = omega (arith, c.if-degrees-eq0.false)
 
 pub returns-then-all_are : goal.returns-then-all_are
 returns-then-all_are c =
-        sym (common-is c.args.degrees.now (sym c.all_are.ensures ∙ c.if-all_are.true))
+    sym (common-is c.args.degrees.now (sym c.all_are.ensures ∙ c.if-all_are.true))
 
 pub returns : goal.returns
 returns c =
-        sym (common-differs c.args.degrees.now (sym c.all_are.ensures ∙ c.if-all_are.false))
+    sym (common-differs c.args.degrees.now (sym c.all_are.ensures ∙ c.if-all_are.false))

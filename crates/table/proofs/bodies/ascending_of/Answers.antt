@@ -1,7 +1,6 @@
 -- `ascending_of` meets its contract: `all` says whether the members before k are right, and the others decide, `least` being the least that the next one may be. Assumes nothing.
 use mathlib.Core.Path.{sym, ◌∙◌, ap}
 use mathlib.Core.Bool.{◌&&◌}
-use Prim.Native.Nat.{◌-◌}
 use native.Mathlib.Omega.{arith}
 use Rattle.rules.specs.CodeFile.{ascends}
 use Rattle.table.proofs.BodiesLaws.{numbers-all, ascends-more, ascends-end}

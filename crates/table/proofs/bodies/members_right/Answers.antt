@@ -1,6 +1,5 @@
 -- `members_right` meets its contract: the bodies from check j on decide, and reach to the end of the file. Assumes nothing.
 use mathlib.Core.Path.{sym, ◌∙◌, ap, ap₂}
-use Prim.Native.Nat.{◌-◌}
 use native.Mathlib.Omega.{arith}
 use Rattle.rules.specs.CodeFile.{total_count, bodies, members_right}
 use Rattle.table.proofs.AnswerLaws.{and-fails, and-holds}

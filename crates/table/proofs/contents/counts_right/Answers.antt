@@ -1,6 +1,5 @@
 -- `counts_right` meets its contract: the counts from j on decide. Assumes nothing.
 use mathlib.Core.Path.{sym, ◌∙◌, ap}
-use Prim.Native.Nat.{◌-◌}
 use native.Mathlib.Omega.{arith}
 use borrow.Author.Tests.{le-leb, lt-leb}
 use Rattle.rules.specs.CodeFile.{counts_right}

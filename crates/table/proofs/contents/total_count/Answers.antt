@@ -1,6 +1,5 @@
 -- `total_count` meets its contract: what is added and the counts from j on make the sum. Assumes nothing.
 use mathlib.Core.Path.{ap}
-use Prim.Native.Nat.{◌-◌}
 use native.Mathlib.Omega.{arith}
 use Rattle.rules.specs.CodeFile.{total_count}
 use Rattle.table.proofs.ContentsLaws.{contents-all, total-more, total-end}

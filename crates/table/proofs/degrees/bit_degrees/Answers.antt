@@ -22,8 +22,8 @@ loop-k-preserved c =
     let here = counted-at loop.degrees args.code.now all args.at args.e loop.k x c.loop-k-test.true c.member_at-x.ensures.0 loop.invariant.1 in (
       omega arith,
       elim c.if-x-lt-MAX_BITS.branch [
-        then-x-lt-MAX_BITS w ↦ counted-more loop.degrees c.if-x-lt-MAX_BITS.degrees rest all x here w.if-x-lt-MAX_BITS.true w.degrees-is
-      | else-x-lt-MAX_BITS w ↦ counted_skip loop.degrees c.if-x-lt-MAX_BITS.degrees rest all x here w.if-x-lt-MAX_BITS.false w.degrees-is
+        | then-x-lt-MAX_BITS w ↦ counted-more loop.degrees c.if-x-lt-MAX_BITS.degrees rest all x here w.if-x-lt-MAX_BITS.true w.degrees-is
+        | else-x-lt-MAX_BITS w ↦ counted_skip loop.degrees c.if-x-lt-MAX_BITS.degrees rest all x here w.if-x-lt-MAX_BITS.false w.degrees-is
       ],
     )
 

@@ -1,7 +1,6 @@
 -- `degrees_right` meets its contract: `all` says whether the degrees before bit i are right, and the others decide. Assumes nothing.
 use mathlib.Core.Path.{sym, ◌∙◌, ap}
 use mathlib.Core.Bool.{◌&&◌}
-use Prim.Native.Nat.{◌-◌}
 use native.Mathlib.Omega.{arith}
 use Rattle.table.proofs.DegreesLaws.{bits-more, bits-end, bits-all}
 use Rattle.table.proofs.degrees.degrees_right.Goals as goal

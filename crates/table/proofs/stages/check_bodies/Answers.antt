@@ -10,13 +10,13 @@ returns-then-not-members_right c = sym (must-fails _ _ _ _ (sym c.members_right.
 
 pub returns-then-not-bits_right : goal.returns-then-not-bits_right
 returns-then-not-bits_right c =
-        let edges = bits-edges _ _ _ _ c.requires.1 _ c.contents_end.ensures in
+    let edges = bits-edges _ _ _ _ c.requires.1 _ c.contents_end.ensures in
     sym (must-holds _ _ _ _ (sym c.members_right.ensures ∙ c.if-not-members_right.false)
     ∙ must-fails _ _ _ _ (edges ∙ sym c.bits_right.ensures ∙ c.if-not-bits_right.true))
 
 pub returns : goal.returns
 returns c =
-        let edges = bits-edges _ _ _ _ c.requires.1 _ c.contents_end.ensures in
+    let edges = bits-edges _ _ _ _ c.requires.1 _ c.contents_end.ensures in
     table-reply _ _ _ _ c.requires.1
     ∙ sym (must-holds _ _ _ _ (sym c.members_right.ensures ∙ c.if-not-members_right.false)
     ∙ must-holds _ _ _ _ (edges ∙ sym c.bits_right.ensures ∙ c.if-not-bits_right.false))

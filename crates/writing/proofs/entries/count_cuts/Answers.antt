@@ -1,8 +1,7 @@
 -- `count_cuts` meets its contract: the cuts counted and those from check j on make the whole. Assumes nothing.
-use Prim.Native.Nat.{◌-◌, ◌<◌}
+use Prim.Native.Nat.{◌<◌}
 use native.Mathlib.Omega.{arith}
 use lib.ListN.{length}
-use Rattle.integers.specs.Machine.{by_arm}
 use Rattle.writing.proofs.CertificateLaws.{cuts-some, cuts-none, cuts-end}
 use Rattle.writing.proofs.entries.count_cuts.Goals as goal
 use Rattle.writing.proofs.entries.count_cuts.Goals.{then-masks-j-ne0, else-masks-j-ne0}
@@ -14,12 +13,12 @@ loop-j-preserved c =
     let h : loop.j < length args.masks.now = omega arith in (
       omega arith,
       elim c.if-masks-j-ne0.branch [
-        then-masks-j-ne0 w ↦ omega (arith, w.q-is, cuts-some args.masks.now loop.j h w.if-masks-j-ne0.true, loop.invariant.1)
-      | else-masks-j-ne0 w ↦ omega (arith, w.q-is, cuts-none args.masks.now loop.j h w.if-masks-j-ne0.false, loop.invariant.1)
+        | then-masks-j-ne0 w ↦ omega (arith, w.q-is, cuts-some args.masks.now loop.j h w.if-masks-j-ne0.true, loop.invariant.1)
+        | else-masks-j-ne0 w ↦ omega (arith, w.q-is, cuts-none args.masks.now loop.j h w.if-masks-j-ne0.false, loop.invariant.1)
       ],
       elim c.if-masks-j-ne0.branch [
-        then-masks-j-ne0 w ↦ omega (arith, w.q-is, loop.invariant.2)
-      | else-masks-j-ne0 w ↦ omega (arith, w.q-is, loop.invariant.2)
+        | then-masks-j-ne0 w ↦ omega (arith, w.q-is, loop.invariant.2)
+        | else-masks-j-ne0 w ↦ omega (arith, w.q-is, loop.invariant.2)
       ],
     )
 

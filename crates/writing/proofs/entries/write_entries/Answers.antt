@@ -13,7 +13,7 @@ write_bodies-requires c =
 
 pub returns : goal.returns
 returns c =
-        let old = c.args.certificate.now in
+    let old = c.args.certificate.now in
     let bodies = c.write_bodies in
     let contents = c.write_contents-at in
     let scale = c.put16-2 in
