@@ -1,10 +1,11 @@
 // Numbers on an input and on the output, for the programs. No contract can say what is read or
 // written: the readers' contracts say how much they answer and what they leave alone. An error is the
-// input's or the output's own, and ends the call.
+// input's or the output's own, and ends the call: nothing is tried again.
 #![tactic(auto)]
 
-ghost use Rattle.std.specs.Prelude.{◌≡◌, ◌+◌, ◌*◌, ◌≤◌, ◌<◌, pos, nat_abs, length, drop, ◌≤ℤ◌, IfOk, OnErr};
+ghost use Rattle.std.specs.Prelude.{◌≡◌, ◌+◌, ◌*◌, ◌≤◌, ◌<◌, pos, nat_abs, length, take, drop, ◌≤ℤ◌, IfOk, OnErr};
 ghost use Rattle.std.specs.Int.{w16, w32};
+ghost use Rattle.std.specs.Io.KnownBytes.{Consumes, IsAtEnd};
 ghost use Rattle.std.proofs.Common.{to_z};
 ghost use Rattle.rules.specs.Bytes.{u16_limit};
 ghost use Rattle.rules.specs.Buffers.{over};
@@ -67,15 +68,18 @@ pub fn print_signed(rt: &impl Print, n: i64) -> io::Result<()> {
     }
 }
 
-// Reads until `bytes` is full or the input ends, and answers how many bytes it put in front.
+// Reads until `bytes` is full or the input ends, and answers how many bytes it put in front: the
+// input's next ones, where it is known what the input has left.
 pub fn read_full<R: Read>(input: &mut R, bytes: &mut [u8]) -> io::Result<usize>
-    ensures { IfOk result (λ got. got ≤ length bytes.new) }
+    ensures within { IfOk result (λ got. got ≤ length bytes.new) }
+    ensures next { IfOk result (λ got. Consumes (R.remaining input.old) (R.remaining input.new) (take got bytes.new)) }
+    ensures end { IfOk result (λ got. got < length bytes.new → IsAtEnd (R.remaining input.new)) }
 {
     let mut done: usize = 0;
     while done < bytes.len() {
         let got = input.read(&mut bytes[done..])?;
         if got == 0 {
-            break;
+            return Ok(done);
         }
         done += got;
     }
