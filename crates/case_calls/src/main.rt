@@ -58,9 +58,10 @@ fn play<R: Read>(
     let mut certificate = [fill.certificate; CERTIFICATE];
     let mut run = fill.run;
     let mut command = first;
-    let mut left = BUDGET;
-    while 0 < left && command.goes_on() {
-        left -= 1;
+    for _ in 0..BUDGET {
+        if !command.goes_on() {
+            break;
+        }
         if command.operation == ROUNDS {
             let parts = command.parts(code.len(), frame.len());
             let called = decoder::rounds(
@@ -102,9 +103,10 @@ fn main(rt: HostRuntime) -> io::Result<()> {
         code: 0,
         frame: 0,
     };
-    let mut left = BUDGET;
-    while 0 < left && command.operation == SET {
-        left -= 1;
+    for _ in 0..BUDGET {
+        if command.operation != SET {
+            break;
+        }
         let fill = command.fill();
         command.operation = FRAME;
         command = play(&rt, &mut input, fill, command, &mut code, &mut frame)?;
