@@ -2,6 +2,7 @@
 use super::command::{Command, PUT, START, least};
 use super::print::print_started;
 use run::Record;
+use std::io;
 
 // Nothing where the buffer has no such index.
 fn put_at(buffer: &mut [i32], index: usize, value: i32) {
@@ -24,19 +25,20 @@ fn put(command: Command, copies: &mut [i32], offsets: &mut [i32], sums: &mut [i3
 
 // The record of the run after a start or a put; any other command does nothing here.
 pub(crate) fn on_state(
+    rt: &impl Print,
     run: Record,
     command: Command,
     code: &[u8],
     copies: &mut [i32],
     offsets: &mut [i32],
     sums: &mut [i32],
-) -> Record {
+) -> io::Result<Record> {
     if command.operation == PUT {
         put(command, copies, offsets, sums);
-        return run;
+        return Ok(run);
     }
     if command.operation != START {
-        return run;
+        return Ok(run);
     }
     let size = least(command.code, code.len());
     let c = command.lent(0, copies.len());
@@ -48,5 +50,5 @@ pub(crate) fn on_state(
         &mut offsets[..o],
         &mut sums[..s],
     );
-    print_started(started, run)
+    print_started(rt, started, run)
 }

@@ -1,48 +1,39 @@
 // The checksum of all buffers: h times 1,099,511,628,211 plus the element, modulo 2^64, over
 // all elements as unsigned numbers.
 use super::{BITS, CERTIFICATE, CHECKS, EDGES};
-use std::num::wrapping_add_u64;
 
 const FIRST: u64 = 14695981039346656037;
 
-const HALF: u64 = 0x1_0000_0000;
+const FACTOR: u64 = 1099511628211;
 
-// The factor is 2^40 + 435.
 fn with(h: u64, element: u64) -> u64 {
-    let small = wrapping_add_u64(h % HALF * 435, (h / HALF * 435) << 32);
-    wrapping_add_u64(wrapping_add_u64(h << 40, small), element)
+    h.wrapping_mul(FACTOR).wrapping_add(element)
 }
 
 fn unsigned(x: i32) -> u64 {
-    (x as i64 + 0x1_0000_0000) as u64 % HALF
+    (x as i64 + 0x1_0000_0000) as u64 % 0x1_0000_0000
 }
 
 fn with_i32(start: u64, buffer: &[i32]) -> u64 {
     let mut h = start;
-    let mut i: usize = 0;
-    while i < buffer.len() {
-        h = with(h, unsigned(buffer[i]));
-        i += 1;
+    for x in buffer {
+        h = with(h, unsigned(*x));
     }
     h
 }
 
 fn with_u32(start: u64, buffer: &[u32]) -> u64 {
     let mut h = start;
-    let mut i: usize = 0;
-    while i < buffer.len() {
-        h = with(h, buffer[i] as u64);
-        i += 1;
+    for x in buffer {
+        h = with(h, *x as u64);
     }
     h
 }
 
 fn with_u8(start: u64, buffer: &[u8]) -> u64 {
     let mut h = start;
-    let mut i: usize = 0;
-    while i < buffer.len() {
-        h = with(h, buffer[i] as u64);
-        i += 1;
+    for x in buffer {
+        h = with(h, *x as u64);
     }
     h
 }

@@ -4,9 +4,9 @@ ghost use Rattle.case_calls.specs.Rooms.{InRooms};
 
 use super::{BITS, CERTIFICATE, CHECKS, EDGES};
 use file_numbers::u32_of;
-use libc::STDIN_FILENO;
 use run::{Record, Status};
-use stream::{i32_of, read_i16_part, read_part, whole};
+use std::io::{self, Read};
+use stream::{i32_of, read_full, read_i16_part, read_part, whole};
 
 pub(crate) const SET: u8 = 0;
 
@@ -167,55 +167,70 @@ fn status_of(number: u8) -> Status {
 }
 
 // Whether so many fields are there.
-fn read_fields(fields: &mut [u8], size: usize) -> bool
+fn read_fields<R: Read>(input: &mut R, fields: &mut [u8], size: usize) -> io::Result<bool>
     requires { size ≤ length fields.old }
 {
-    io::read_full(STDIN_FILENO, &mut fields[..size]) == size
+    Ok(read_full(input, &mut fields[..size])? == size)
 }
 
 // The end, too, where the operation is none of the script's or its fields are cut short.
-fn read_operation(fields: &mut [u8]) -> u8
+fn read_operation<R: Read>(input: &mut R, fields: &mut [u8]) -> io::Result<u8>
     requires { 64 ≤ length fields.old }
 {
-    if !read_fields(fields, 1) {
-        return END;
+    if !read_fields(input, fields, 1)? {
+        return Ok(END);
     }
     let operation = fields[0];
     if PUT < operation {
-        return END;
+        return Ok(END);
     }
-    if !read_fields(fields, fields_size(operation)) {
-        return END;
+    if !read_fields(input, fields, fields_size(operation))? {
+        return Ok(END);
     }
-    operation
+    Ok(operation)
 }
 
-fn code_size(operation: u8, before: usize, code: &mut [u8]) -> usize {
+fn code_size<R: Read>(
+    input: &mut R,
+    operation: u8,
+    before: usize,
+    code: &mut [u8],
+) -> io::Result<usize> {
     if operation == CODE {
-        whole(read_part(code))
+        Ok(whole(read_part(input, code)?))
     } else {
-        before
+        Ok(before)
     }
 }
 
-fn frame_size(operation: u8, before: usize, frame: &mut [i16]) -> usize {
+fn frame_size<R: Read>(
+    input: &mut R,
+    operation: u8,
+    before: usize,
+    frame: &mut [i16],
+) -> io::Result<usize> {
     if operation == FRAME {
-        whole(read_i16_part(frame))
+        Ok(whole(read_i16_part(input, frame)?))
     } else {
-        before
+        Ok(before)
     }
 }
 
 // The next record.
-pub(crate) fn next(before: Command, code: &mut [u8], frame: &mut [i16]) -> Command {
+pub(crate) fn next<R: Read>(
+    input: &mut R,
+    before: Command,
+    code: &mut [u8],
+    frame: &mut [i16],
+) -> io::Result<Command> {
     let mut fields = [0u8; FIELDS_LIMIT];
-    let operation = read_operation(&mut fields);
-    let size = code_size(operation, before.code, code);
-    let count = frame_size(operation, before.frame, frame);
-    Command {
+    let operation = read_operation(input, &mut fields)?;
+    let size = code_size(input, operation, before.code, code)?;
+    let count = frame_size(input, operation, before.frame, frame)?;
+    Ok(Command {
         operation,
         fields,
         code: size,
         frame: count,
-    }
+    })
 }

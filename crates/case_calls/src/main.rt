@@ -23,6 +23,7 @@ use calls::on_state;
 use checksum::{of_signed, with_cuts};
 use command::{CALLED, Command, FIELDS_LIMIT, FRAME, Fill, ROUNDS, SET, next};
 use print::{print_called, print_state};
+use std::io::{self, Read};
 use stream::CODE_LIMIT;
 
 const BITS: usize = 2100;
@@ -38,7 +39,14 @@ const BUDGET: u64 = 0x1_0000_0000_0000;
 
 // Plays the script from a set to the next one or to the end, a call for rounds in a turn of its own.
 // What a start or a call leaves is printed before the next record is read.
-fn play(fill: Fill, first: Command, code: &mut [u8], frame: &mut [i16]) -> Command {
+fn play<R: Read>(
+    rt: &impl Print,
+    input: &mut R,
+    fill: Fill,
+    first: Command,
+    code: &mut [u8],
+    frame: &mut [i16],
+) -> io::Result<Command> {
     let mut spins = [fill.spin; BITS];
     let mut copies = [fill.copy; EDGES];
     let mut offsets = [fill.offset; EDGES];
@@ -50,12 +58,13 @@ fn play(fill: Fill, first: Command, code: &mut [u8], frame: &mut [i16]) -> Comma
     let mut certificate = [fill.certificate; CERTIFICATE];
     let mut run = fill.run;
     let mut command = first;
-    let mut left = BUDGET;
-    while 0 < left && command.goes_on() {
-        left -= 1;
+    for _ in 0..BUDGET {
+        if !command.goes_on() {
+            break;
+        }
         if command.operation == ROUNDS {
             let parts = command.parts(code.len(), frame.len());
-            run = print_called(decoder::rounds(
+            let called = decoder::rounds(
                 &code[..parts.code],
                 &frame[..parts.frame],
                 run,
@@ -69,20 +78,22 @@ fn play(fill: Fill, first: Command, code: &mut [u8], frame: &mut [i16]) -> Comma
                 &mut depths[..parts.depths],
                 &mut word[..parts.word],
                 &mut certificate[..parts.certificate],
-            ));
+            );
+            run = print_called(rt, called)?;
             command.operation = CALLED;
         } else {
             let signed = of_signed(&spins, &copies, &offsets, &sums);
             let all = with_cuts(signed, &multipliers, &masks, &depths, &word, &certificate);
-            print_state(command.operation, run, all);
-            command = next(command, code, frame);
-            run = on_state(run, command, code, &mut copies, &mut offsets, &mut sums);
+            print_state(rt, command.operation, run, all)?;
+            command = next(input, command, code, frame)?;
+            run = on_state(rt, run, command, code, &mut copies, &mut offsets, &mut sums)?;
         }
     }
-    command
+    Ok(command)
 }
 
-fn main() {
+fn main(rt: HostRuntime) -> io::Result<()> {
+    let mut input = rt.reader();
     let mut code = [0u8; CODE_LIMIT];
     let mut frame = [0i16; BITS];
     let fields = [0u8; FIELDS_LIMIT];
@@ -92,11 +103,13 @@ fn main() {
         code: 0,
         frame: 0,
     };
-    let mut left = BUDGET;
-    while 0 < left && command.operation == SET {
-        left -= 1;
+    for _ in 0..BUDGET {
+        if command.operation != SET {
+            break;
+        }
         let fill = command.fill();
         command.operation = FRAME;
-        command = play(fill, command, &mut code, &mut frame);
+        command = play(&rt, &mut input, fill, command, &mut code, &mut frame)?;
     }
+    Ok(())
 }

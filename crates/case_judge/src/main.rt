@@ -8,6 +8,7 @@
 
 use judge::{Agreed, Parity, Verdict};
 use limits::MAX_BITS;
+use std::io::{self, Read};
 use stream::{
     CODE_LIMIT, NUMBERS_AT_ONCE, Part, print, print_number, print_signed, read_i16_part, read_part,
 };
@@ -16,92 +17,107 @@ const WORD_LIMIT: usize = 2 * MAX_BITS;
 
 const CERTIFICATE_LIMIT: usize = 50000;
 
-fn print_verdict(answer: Verdict) {
+fn print_verdict(rt: &impl Print, answer: Verdict) -> io::Result<()> {
     match answer {
-        Verdict::Refused(k) => print_number(b"refused ", k as u64),
-        Verdict::Broken(j) => print_number(b"broken ", j as u64),
+        Verdict::Refused(k) => print_number(rt, b"refused ", k as u64),
+        Verdict::Broken(j) => print_number(rt, b"broken ", j as u64),
         Verdict::Certified { sole } => {
-            print(b"certified");
-            if sole {
-                print(b" sole");
-            }
+            print(rt, b"certified")?;
+            if sole { print(rt, b" sole") } else { Ok(()) }
         }
         Verdict::Gap(g) => {
-            print(b"gap ");
-            print_signed(g);
+            print(rt, b"gap ")?;
+            print_signed(rt, g)
         }
     }
 }
 
-fn print_parity(answer: Parity) {
+fn print_parity(rt: &impl Print, answer: Parity) -> io::Result<()> {
     match answer {
-        Parity::Refused(k) => print_number(b"refused ", k as u64),
-        Parity::Met => print(b"met"),
-        Parity::Broken(j) => print_number(b"broken ", j as u64),
+        Parity::Refused(k) => print_number(rt, b"refused ", k as u64),
+        Parity::Met => print(rt, b"met"),
+        Parity::Broken(j) => print_number(rt, b"broken ", j as u64),
     }
 }
 
-fn print_agreed(answer: Agreed) {
+fn print_agreed(rt: &impl Print, answer: Agreed) -> io::Result<()> {
     match answer {
-        Agreed::Refused(k) => print_number(b"refused ", k as u64),
-        Agreed::Is(a) => print_signed(a),
+        Agreed::Refused(k) => print_number(rt, b"refused ", k as u64),
+        Agreed::Is(a) => print_signed(rt, a),
     }
 }
 
-fn print_answers(code: &[u8], frame: &[i16], word: &[u8], certificate: &[u8]) {
-    print_verdict(judge::judge(code, frame, word, certificate));
-    print(b" ; ");
-    print_parity(judge::syndrome(code, word));
-    print(b" ; ");
-    print_agreed(judge::agreement(code, frame, word));
-    print(b"\n");
+fn print_answers(
+    rt: &impl Print,
+    code: &[u8],
+    frame: &[i16],
+    word: &[u8],
+    certificate: &[u8],
+) -> io::Result<()> {
+    print_verdict(rt, judge::judge(code, frame, word, certificate))?;
+    print(rt, b" ; ")?;
+    print_parity(rt, judge::syndrome(code, word))?;
+    print(rt, b" ; ")?;
+    print_agreed(rt, judge::agreement(code, frame, word))?;
+    print(rt, b"\n")
 }
 
 // The rest of a record, part by part: false where it is not whole.
-fn with_word(code: &[u8], frame: &[i16], word: &[u8]) -> bool {
+fn with_word<R: Read>(
+    rt: &impl Print,
+    input: &mut R,
+    code: &[u8],
+    frame: &[i16],
+    word: &[u8],
+) -> io::Result<bool> {
     let mut certificate = [0u8; CERTIFICATE_LIMIT];
-    let part = read_part(&mut certificate);
+    let part = read_part(input, &mut certificate)?;
     let Part::Whole(size) = part else {
-        return false;
+        return Ok(false);
     };
-    print_answers(code, frame, word, &certificate[..size]);
-    true
+    print_answers(rt, code, frame, word, &certificate[..size])?;
+    Ok(true)
 }
 
-fn with_frame(code: &[u8], frame: &[i16]) -> bool {
+fn with_frame<R: Read>(
+    rt: &impl Print,
+    input: &mut R,
+    code: &[u8],
+    frame: &[i16],
+) -> io::Result<bool> {
     let mut word = [0u8; WORD_LIMIT];
-    let part = read_part(&mut word);
+    let part = read_part(input, &mut word)?;
     let Part::Whole(size) = part else {
-        return false;
+        return Ok(false);
     };
-    with_word(code, frame, &word[..size])
+    with_word(rt, input, code, frame, &word[..size])
 }
 
-fn with_code(code: &[u8]) -> bool {
+fn with_code<R: Read>(rt: &impl Print, input: &mut R, code: &[u8]) -> io::Result<bool> {
     let mut frame = [0i16; NUMBERS_AT_ONCE];
-    let part = read_i16_part(&mut frame);
+    let part = read_i16_part(input, &mut frame)?;
     let Part::Whole(count) = part else {
-        return false;
+        return Ok(false);
     };
-    with_frame(code, &frame[..count])
+    with_frame(rt, input, code, &frame[..count])
 }
 
-fn one_record() -> bool {
+fn one_record<R: Read>(rt: &impl Print, input: &mut R) -> io::Result<bool> {
     let mut code = [0u8; CODE_LIMIT];
-    let part = read_part(&mut code);
+    let part = read_part(input, &mut code)?;
     let Part::Whole(size) = part else {
-        return false;
+        return Ok(false);
     };
-    with_code(&code[..size])
+    with_code(rt, input, &code[..size])
 }
 
 // The budget is a number that no input uses up.
-fn main() {
-    let mut left: u64 = 0x1_0000_0000_0000;
-    while 0 < left {
-        if !one_record() {
-            return;
+fn main(rt: HostRuntime) -> io::Result<()> {
+    let mut input = rt.reader();
+    for _ in 0..0x1_0000_0000_0000u64 {
+        if !one_record(&rt, &mut input)? {
+            return Ok(());
         }
-        left -= 1;
     }
+    Ok(())
 }

@@ -1,6 +1,8 @@
 // The frame report of standard input.
 #![tactic(auto)]
 
-fn main() {
-    reporting::report_input();
+use std::io;
+
+fn main(rt: HostRuntime) -> io::Result<()> {
+    reporting::report_input(&rt)
 }

@@ -16,7 +16,7 @@ use Rattle.rules.specs.Sound.{Sound}
 use Rattle.rules.specs.Parity.{agreement}
 use Rattle.rules.specs.Input.{bits_of}
 use Rattle.rules.specs.Judge.{passes}
-use Rattle.rules.specs.Buffers.{by_name, word, certificate, Buffers, the, each, zeroed, lengths_of, needs, Part, blank, write, start_lent, fits_start, zeroing}
+use Rattle.rules.specs.Buffers.{by_name, Buffers, the, each, zeroed, lengths_of, needs, Part, blank, write, start_lent, fits_start, zeroing}
 use Rattle.rules.specs.Run.{Status, running, certified, spent, Progress, fresh, Called, call_by, call, start_by, start}
 use Rattle.rules.specs.Calls.{started_run}
 use Rattle.rules.specs.Report.{certified_line, line_at, frame_line}

@@ -1,33 +1,34 @@
-// The code file on standard input: "as long as its contents say".
-ghost use Rattle.std.specs.Prelude.{◌≤◌, length};
+// The code file on the input: "as long as its contents say".
+ghost use Rattle.std.specs.Prelude.{◌≤◌, length, IfOk};
 ghost use Rattle.reporting.specs.ReadOn.{file_limit, ReadOn};
 
-use libc::STDIN_FILENO;
 use limits::{MAX_CHECKS, MAX_EDGES};
+use std::io::{self, Read};
+use stream::read_full;
 use table::announced;
 
 // The longest code file.
 pub(crate) const FILE_LIMIT: usize = 4 + 4 * MAX_CHECKS + 2 * MAX_EDGES;
 
 // Reads on from the first `size` bytes to what they announce, and answers where the input ended.
-fn read_on(file: &mut [u8], size: usize) -> usize
+fn read_on<R: Read>(input: &mut R, file: &mut [u8], size: usize) -> io::Result<usize>
     requires { (size ≤ file_limit) × (file_limit ≤ length file.old) }
-    ensures { ReadOn size result file.new file.old }
+    ensures { IfOk result (λ end. ReadOn size end file.new file.old) }
 {
     let end = announced(&file[..size]);
     if end <= size {
-        return size;
+        return Ok(size);
     }
-    size + io::read_full(STDIN_FILENO, &mut file[size..end])
+    Ok(size + read_full(input, &mut file[size..end])?)
 }
 
 // How much of the code file is read: all, or less where the input ends or the file can't be one. No
 // bytes announce the first four, these the contents, and the contents the bodies.
-pub(crate) fn read_code(file: &mut [u8]) -> usize
+pub(crate) fn read_code<R: Read>(input: &mut R, file: &mut [u8]) -> io::Result<usize>
     requires { file_limit ≤ length file.old }
-    ensures { result ≤ file_limit }
+    ensures { IfOk result (λ size. size ≤ file_limit) }
 {
-    let head = read_on(file, 0);
-    let contents = read_on(file, head);
-    read_on(file, contents)
+    let head = read_on(input, file, 0)?;
+    let contents = read_on(input, file, head)?;
+    read_on(input, file, contents)
 }

@@ -1,4 +1,4 @@
-// The frame report (document 01, "The frame report"): how long the code file on standard input is and
+// The frame report (document 01, "The frame report"): how long the code file on the input is and
 // the line of a frame, as functions; and the program, which reads and prints and no more.
 #![tactic(auto)]
 
@@ -19,6 +19,7 @@ use file_numbers::u16_of;
 use limits::{MAX_BITS, MAX_CHECKS, MAX_EDGES};
 use print::{print_code, print_frame, print_refused};
 use run::{Record, Started};
+use std::io::{self, Read};
 use table::Checked;
 
 // "certificate 4 + 10m"
@@ -106,42 +107,54 @@ pub fn frame_line(code: &[u8], frame: &[i16]) -> Line
 }
 
 // A short last frame goes on as it is: the decoder refuses it. No input uses the count up.
-fn report_frames(code: &[u8], frame: &mut [i16]) {
-    let mut k: u64 = 0;
-    while k < 0x1_0000_0000_0000 {
-        let got = stream::read_i16(frame);
+fn report_frames<R: Read>(
+    rt: &impl Print,
+    input: &mut R,
+    code: &[u8],
+    frame: &mut [i16],
+) -> io::Result<()> {
+    for k in 0..0x1_0000_0000_0000u64 {
+        let got = stream::read_i16(input, frame)?;
         if got == 0 {
-            return;
+            break;
         }
         let count = got / 2;
-        print_frame(k, frame_line(code, &frame[..count]));
-        k += 1;
+        print_frame(rt, k, frame_line(code, &frame[..count]))?;
     }
+    Ok(())
 }
 
-fn report_code(code: &[u8], bits: usize, checks: usize, edges: usize)
+fn report_code<R: Read>(
+    rt: &impl Print,
+    input: &mut R,
+    code: &[u8],
+    bits: usize,
+    checks: usize,
+    edges: usize,
+) -> io::Result<()>
     requires { bits ≤ max_bits }
 {
     let mut frame = [0i16; MAX_BITS];
-    print_code(bits, checks, edges);
-    report_frames(code, &mut frame[..bits]);
+    print_code(rt, bits, checks, edges)?;
+    report_frames(rt, input, code, &mut frame[..bits])
 }
 
-fn report(code: &[u8]) {
+fn report<R: Read>(rt: &impl Print, input: &mut R, code: &[u8]) -> io::Result<()> {
     let answer = table::check(code);
     match answer {
-        Checked::Refused(k) => print_refused(k),
+        Checked::Refused(k) => print_refused(rt, k),
         Checked::Accepted {
             bits,
             checks,
             edges,
-        } => report_code(code, bits, checks, edges),
+        } => report_code(rt, input, code, bits, checks, edges),
     }
 }
 
-// The whole report, from standard input to standard output: no contract can speak of either.
-pub fn report_input() {
+// The whole report, from the input to the output: no contract can speak of either.
+pub fn report_input(rt: &(impl Input + Print)) -> io::Result<()> {
+    let mut input = rt.reader();
     let mut file = [0u8; FILE_LIMIT];
-    let size = read_code(&mut file);
-    report(&file[..size]);
+    let size = read_code(&mut input, &mut file)?;
+    report(rt, &mut input, &file[..size])
 }

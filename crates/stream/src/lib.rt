@@ -1,9 +1,11 @@
-// Numbers on standard input and output, for the programs. No contract can say what is read or
-// written: the readers' contracts say how much they answer and what they leave alone.
+// Numbers on an input and on the output, for the programs. No contract can say what is read or
+// written: the readers' contracts say how much they answer and what they leave alone. An error is the
+// input's or the output's own, and ends the call: nothing is tried again.
 #![tactic(auto)]
 
-ghost use Rattle.std.specs.Prelude.{◌≡◌, ◌+◌, ◌*◌, ◌≤◌, ◌<◌, pos, nat_abs, length, ◌≤ℤ◌};
+ghost use Rattle.std.specs.Prelude.{◌≡◌, ◌+◌, ◌*◌, ◌≤◌, ◌<◌, pos, nat_abs, length, take, drop, ◌≤ℤ◌, IfOk, OnErr};
 ghost use Rattle.std.specs.Int.{w16, w32};
+ghost use Rattle.std.specs.Io.KnownBytes.{Consumes, IsAtEnd};
 ghost use Rattle.std.proofs.Common.{to_z};
 ghost use Rattle.rules.specs.Bytes.{u16_limit};
 ghost use Rattle.rules.specs.Buffers.{over};
@@ -11,8 +13,8 @@ ghost use Rattle.stream.specs.Numbers.{numbers_of, numbers_at_once, bytes_for, R
 ghost use Rattle.stream.specs.Parts.{stored, whole_size, PartRead};
 
 use file_numbers::{u16_of, u32_of};
-use libc::{STDIN_FILENO, STDOUT_FILENO};
 use limits::MAX_BITS;
+use std::io::{self, Read};
 
 // How many numbers are read at once: more than a frame or a point has.
 pub const NUMBERS_AT_ONCE: usize = 2 * MAX_BITS;
@@ -40,14 +42,14 @@ pub enum Part {
 }
 
 // Writes the text. It prints only, so there is nothing that a contract could say.
-pub fn print(text: &[u8]) {
-    io::write_all(STDOUT_FILENO, text);
+pub fn print(rt: &impl Print, text: &[u8]) -> io::Result<()> {
+    rt.write_all(text)
 }
 
 // Writes the label, then n; it prints only, too.
-pub fn print_number(label: &[u8], n: u64) {
-    print(label);
-    io::print_decimal(STDOUT_FILENO, n);
+pub fn print_number(rt: &impl Print, label: &[u8], n: u64) -> io::Result<()> {
+    print(rt, label)?;
+    rt.print(n)
 }
 
 fn bare(n: i64) -> u64
@@ -58,38 +60,60 @@ fn bare(n: i64) -> u64
 }
 
 // Writes n. The least number has no opposite of its own type.
-pub fn print_signed(n: i64) {
+pub fn print_signed(rt: &impl Print, n: i64) -> io::Result<()> {
     if n < 0 {
-        print_number(b"-", bare(-(n + 1)) + 1);
+        print_number(rt, b"-", bare(-(n + 1)) + 1)
     } else {
-        print_number(b"", bare(n));
+        print_number(rt, b"", bare(n))
     }
+}
+
+// Reads until `bytes` is full or the input ends, and answers how many bytes it put in front: the
+// input's next ones, where it is known what the input has left.
+pub fn read_full<R: Read>(input: &mut R, bytes: &mut [u8]) -> io::Result<usize>
+    ensures within { IfOk result (λ got. got ≤ length bytes.new) }
+    ensures next { IfOk result (λ got. Consumes (R.remaining input.old) (R.remaining input.new) (take got bytes.new)) }
+    ensures end { IfOk result (λ got. got < length bytes.new → IsAtEnd (R.remaining input.new)) }
+{
+    let mut done: usize = 0;
+    while done < bytes.len() {
+        let got = input.read(&mut bytes[done..])?;
+        if got == 0 {
+            return Ok(done);
+        }
+        done += got;
+    }
+    Ok(done)
 }
 
 // Reads little-endian numbers until `numbers` has no room, the input ends or 4,096 are read, and
 // answers how many bytes that took. The half of a number at the end is not stored.
-pub fn read_i16(numbers: &mut [i16]) -> usize
-    ensures { ReadFront result numbers.new numbers.old }
+pub fn read_i16<R: Read>(input: &mut R, numbers: &mut [i16]) -> io::Result<usize>
+    ensures read { IfOk result (λ got. ReadFront got numbers.new numbers.old) }
+    ensures err { OnErr result (numbers.new ≡ numbers.old) }
 {
     let mut bytes = [0u8; BYTES_AT_ONCE];
-    read_by(&mut bytes, numbers)
+    read_by(input, &mut bytes, numbers)
 }
 
-fn read_by(bytes: &mut [u8], numbers: &mut [i16]) -> usize
+fn read_by<R: Read>(input: &mut R, bytes: &mut [u8], numbers: &mut [i16]) -> io::Result<usize>
     requires { 2 * numbers_at_once ≤ length bytes.old }
-    ensures { ReadNumbers result bytes.new numbers.new numbers.old }
+    ensures read { IfOk result (λ got. ReadNumbers got bytes.new numbers.new numbers.old) }
+    ensures err { OnErr result (numbers.new ≡ numbers.old) }
 {
     let size = bytes_for(numbers.len());
-    let got = read_first(bytes, size);
+    let got = read_first(input, bytes, size)?;
     decode(bytes, numbers, got / 2);
-    got
+    Ok(got)
 }
 
-fn read_first(bytes: &mut [u8], size: usize) -> usize
+// An error, too, leaves what is past the size.
+fn read_first<R: Read>(input: &mut R, bytes: &mut [u8], size: usize) -> io::Result<usize>
     requires { size ≤ length bytes.old }
-    ensures { Read result size bytes.new bytes.old }
+    ensures read { IfOk result (λ got. Read got size bytes.new bytes.old) }
+    ensures err { OnErr result (drop size bytes.new ≡ drop size bytes.old) }
 {
-    io::read_full(STDIN_FILENO, &mut bytes[..size])
+    read_full(input, &mut bytes[..size])
 }
 
 fn bytes_for(count: usize) -> usize
@@ -125,12 +149,12 @@ fn signed(n: usize) -> i16
 }
 
 // Reads a little-endian number. Any may come, so there is nothing that a contract could say.
-pub fn read_u32() -> Number {
+pub fn read_u32<R: Read>(input: &mut R) -> io::Result<Number> {
     let mut bytes = [0u8; 4];
-    if io::read_full(STDIN_FILENO, &mut bytes) < 4 {
-        return Number::Missing;
+    if read_full(input, &mut bytes)? < 4 {
+        return Ok(Number::Missing);
     }
-    Number::Is(u32_of(bytes[0], bytes[1], bytes[2], bytes[3]))
+    Ok(Number::Is(u32_of(bytes[0], bytes[1], bytes[2], bytes[3])))
 }
 
 // The number as a signed one: its upper half is negative.
@@ -144,18 +168,18 @@ pub fn i32_of(n: u32) -> i32
 }
 
 // Reads the size of a part, which is whole as far as it is read where there is room for so many.
-fn read_size(room: usize) -> Part
-    ensures { stored result ≤ room }
+fn read_size<R: Read>(input: &mut R, room: usize) -> io::Result<Part>
+    ensures { IfOk result (λ part. stored part ≤ room) }
 {
-    let number = read_u32();
+    let number = read_u32(input)?;
     let Number::Is(n) = number else {
-        return Part::Missing;
+        return Ok(Part::Missing);
     };
     let size = n as usize;
     if room < size {
-        return Part::TooLong;
+        return Ok(Part::TooLong);
     }
-    Part::Whole(size)
+    Ok(Part::Whole(size))
 }
 
 // The part of that size of which so many elements came.
@@ -181,51 +205,56 @@ pub fn whole(part: Part) -> usize
 }
 
 // Reads a part of bytes.
-pub fn read_part(part: &mut [u8]) -> Part
-    ensures { PartRead result part.new part.old }
+pub fn read_part<R: Read>(input: &mut R, part: &mut [u8]) -> io::Result<Part>
+    ensures read { IfOk result (λ answer. PartRead answer part.new part.old) }
+    ensures err { OnErr result (length part.new ≡ length part.old) }
 {
-    let stated = read_size(part.len());
+    let stated = read_size(input, part.len())?;
     let Part::Whole(size) = stated else {
-        return stated;
+        return Ok(stated);
     };
-    part_of(read_first(part, size), size)
+    Ok(part_of(read_first(input, part, size)?, size))
 }
 
 // Reads a part of 16-bit numbers, of which at most 4,096 come.
-pub fn read_i16_part(numbers: &mut [i16]) -> Part
-    ensures { PartRead result numbers.new numbers.old }
+pub fn read_i16_part<R: Read>(input: &mut R, numbers: &mut [i16]) -> io::Result<Part>
+    ensures read { IfOk result (λ answer. PartRead answer numbers.new numbers.old) }
+    ensures err { OnErr result (numbers.new ≡ numbers.old) }
 {
-    let stated = read_size(numbers.len());
+    let stated = read_size(input, numbers.len())?;
     let Part::Whole(size) = stated else {
-        return stated;
+        return Ok(stated);
     };
-    part_of(read_i16(&mut numbers[..size]) / 2, size)
+    Ok(part_of(read_i16(input, &mut numbers[..size])? / 2, size))
 }
 
 // Reads a part of 32-bit numbers.
-pub fn read_i32_part(numbers: &mut [i32]) -> Part
-    ensures { PartRead result numbers.new numbers.old }
+pub fn read_i32_part<R: Read>(input: &mut R, numbers: &mut [i32]) -> io::Result<Part>
+    ensures read { IfOk result (λ answer. PartRead answer numbers.new numbers.old) }
+    ensures err { OnErr result (length numbers.new ≡ length numbers.old) }
 {
-    let stated = read_size(numbers.len());
+    let stated = read_size(input, numbers.len())?;
     let Part::Whole(size) = stated else {
-        return stated;
+        return Ok(stated);
     };
-    part_of(read_each(numbers, size), size)
+    Ok(part_of(read_each(input, numbers, size)?, size))
 }
 
-// Reads one number after the other, and answers how many came.
-fn read_each(numbers: &mut [i32], size: usize) -> usize
+// Reads one number after the other, and answers how many came. An error, too, leaves what is past the
+// size.
+fn read_each<R: Read>(input: &mut R, numbers: &mut [i32], size: usize) -> io::Result<usize>
     requires { size ≤ length numbers.old }
-    ensures { Read result size numbers.new numbers.old }
+    ensures read { IfOk result (λ came. Read came size numbers.new numbers.old) }
+    ensures err { OnErr result (drop size numbers.new ≡ drop size numbers.old) }
 {
     let mut i: usize = 0;
     while i < size {
-        let number = read_u32();
+        let number = read_u32(input)?;
         let Number::Is(n) = number else {
-            return i;
+            return Ok(i);
         };
         numbers[i] = i32_of(n);
         i += 1;
     }
-    size
+    Ok(size)
 }
