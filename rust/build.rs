@@ -11,7 +11,7 @@ fn main() {
     println!("cargo:rerun-if-changed={}", archive.display());
     if !archive.is_file() {
         eprintln!(
-            "{} is missing: `rt staticlib jugnayap` makes it, JUGNAYAP_LIB names its folder",
+            "{} is missing: `tools/build` makes it, JUGNAYAP_LIB names its folder",
             archive.display()
         );
         exit(1);

@@ -205,7 +205,7 @@ class RunSamples(unittest.TestCase):
                                   check=False)
             self.assertEqual((done.returncode, done.stdout), (1, ""))
             self.assertEqual(done.stderr, f"run_samples: {path} is no program; "
-                                          "build it with 'rt check report'\n")
+                                          "build it with 'tools/build'\n")
 
 
 if __name__ == "__main__":
