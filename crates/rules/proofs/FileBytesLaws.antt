@@ -22,10 +22,6 @@ use Rattle.rules.proofs.ByteLaws.{back16, reads16}
 use Rattle.rules.proofs.FileLaws.{count_at_lem, next-entry, past-none, past_one}
 use Rattle.rules.proofs.Duality.{below_more}
 
--- document 01's code of three bits and one check
-file-example : file_bytes (record { bits = 3; checks = (0 ∷ 1 ∷ 2 ∷ []) ∷ [] }) ≡ 3 ∷ 0 ∷ 1 ∷ 0 ∷ 0 ∷ 0 ∷ 3 ∷ 0 ∷ 0 ∷ 0 ∷ 1 ∷ 0 ∷ 2 ∷ 0 ∷ []
-file-example = refl
-
 -- ---- how long it is
 pub twice : (n : ℕ) → suc (suc (2 * n)) ≡ 2 * suc n
 twice n = omega arith

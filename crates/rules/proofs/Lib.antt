@@ -47,5 +47,3 @@ pub mod BoundLaws
 pub mod ParityLaws
 pub mod AnnouncedLaws
 pub mod ReportLaws
-pub mod Frames
-pub mod Examples

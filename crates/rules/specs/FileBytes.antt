@@ -1,5 +1,5 @@
 -- A table as a code file: n and m, the contents, then the bodies, "16 bits each" (document 01, "Code file"). Definitions only. Assumes nothing.
-use Rattle.std.specs.Prelude.{List, [], ◌∷◌, ◌++◌, ℕ, ◌+◌, length}
+use Rattle.std.specs.Prelude.{◌≡◌, refl, List, [], ◌∷◌, ◌++◌, ℕ, ◌+◌, length}
 use Rattle.rules.specs.Bytes.{le16}
 use Rattle.rules.specs.Table.{Table, edges}
 
@@ -23,3 +23,7 @@ counts (ms ∷ cs) = length ms ∷ counts cs
 
 abbrev pub file_bytes : Table → List ℕ
 file_bytes t = file_from t.bits (counts t.checks) (edges t.checks)
+
+-- document 01's code of three bits and one check
+file-example : file_bytes (record { bits = 3; checks = (0 ∷ 1 ∷ 2 ∷ []) ∷ [] }) ≡ 3 ∷ 0 ∷ 1 ∷ 0 ∷ 0 ∷ 0 ∷ 3 ∷ 0 ∷ 0 ∷ 0 ∷ 1 ∷ 0 ∷ 2 ∷ 0 ∷ []
+file-example = refl

@@ -1,8 +1,23 @@
--- The reference frames that document 01 marks P: one table of questions with their answers; proofs/Frames has the theorem over it. Definitions only.
--- Assumes nothing.
-use Rattle.std.specs.Prelude.{List, [], ◌∷◌, ℕ, ℤ, pos, negsuc}
-use Rattle.rules.specs.Refusal.{Reply}
-use Rattle.rules.specs.Question.{shows, bound_is, judged, reply, leaving, number, Case}
+-- The reference frames that document 01 marks P: one table of questions with their answers, and one theorem over it, by computation. Assumes nothing.
+use Rattle.std.specs.Prelude.{◌≡◌, refl, List, [], ◌∷◌, ℕ, ℤ, pos, negsuc}
+use lib.Count.{ones}
+use Rattle.integers.specs.Clip.{clip_z}
+use Rattle.rules.specs.Refusal.{Reply, must, then, reply_of}
+use Rattle.rules.specs.Bytes.{u16_at, u32_at}
+use Rattle.rules.specs.Parity.{agreement}
+use Rattle.rules.specs.Mask.{mask_right}
+use Rattle.rules.specs.CodeFile.{in_range, contents, counts_right, starts_right, total_count, numbers_at, bodies, ascends, members_right, bits_right, file_of, code_file, code_file_reply}
+use Rattle.rules.specs.Input.{on_frame, on_word}
+use Rattle.rules.specs.Cut.{cut}
+use Rattle.rules.specs.Step.{last_where, multiplier, step}
+use Rattle.rules.specs.Bound.{reduced, bound, gap}
+use Rattle.rules.specs.Round.{total, divided, spin, sums_of, round}
+use Rattle.rules.specs.Certificate.{certificate_of, items_at, follows, on_item, on_items, on_certificate}
+use Rattle.rules.specs.Sole.{sole}
+use Rattle.rules.specs.Judge.{verdict, judge, judge_reply}
+use Rattle.rules.specs.Buffers.{fits, fits_start}
+use Rattle.rules.specs.Run.{next, iterate, limited, sound, admits, call_on, call, start}
+use Rattle.rules.specs.Question.{shows, bound_is, judged, reply, leaving, number, Case, asked, said, answer_to}
 
 -- "One check on bits 0, 1, 2", as the code file of document 01's frame report; and "one check on one bit"
 unfoldable pub three_bits : List ℕ
@@ -14,10 +29,10 @@ one_bit = 0x01 ∷ 0x00 ∷ 0x01 ∷ 0x00 ∷ 0x00 ∷ 0x00 ∷ 0x01 ∷ 0x00 �
 unfoldable pub frame_a : List ℤ
 frame_a = pos 4000 ∷ pos 4000 ∷ negsuc 1999 ∷ []
 
-unfoldable pub frame_b : List ℤ
+frame_b : List ℤ
 frame_b = negsuc 3999 ∷ negsuc 3999 ∷ negsuc 1999 ∷ []
 
-unfoldable pub frame_c : List ℤ
+frame_c : List ℤ
 frame_c = negsuc 4 ∷ []
 
 abbrev blank14 : List ℕ
@@ -44,7 +59,7 @@ with_multiplier lo hi = 0x01 ∷ 0x00 ∷ 0x01 ∷ 0x00 ∷ 0x00 ∷ 0x00 ∷ lo
 abbrev pub word000 : List ℕ
 word000 = 0 ∷ 0 ∷ 0 ∷ []
 
-unfoldable pub cases : List Case
+pub cases : List Case
 cases =
     record {
       ask = shows three_bits frame_a 1;
@@ -82,3 +97,9 @@ cases =
     }
     ∷ record { ask = bound_is one_bit frame_c 1024; say = number (negsuc 4) }
     ∷ []
+
+pub frames : asked cases ≡ said cases
+unfolding cases three_bits one_bit frame_a frame_b frame_c answer_to must then reply_of u16_at u32_at agreement mask_right ones lib.Count.ones_in in_range contents counts_right starts_right
+    total_count numbers_at bodies ascends members_right bits_right file_of code_file code_file_reply on_frame on_word cut last_where multiplier step reduced bound gap total divided spin round
+    certificate_of items_at follows on_item on_items on_certificate verdict sole judge judge_reply fits fits_start next iterate sums_of limited sound admits call_on call start clip_z
+frames = refl

@@ -24,4 +24,5 @@ pub mod Calls
 pub mod Report
 pub mod Question
 pub mod Frames
+pub mod Examples
 pub mod Demand3
