@@ -1,5 +1,5 @@
 // The code file on the input: "as long as its contents say".
-ghost use Rattle.std.specs.Prelude.{◌≤◌, length, IfOk};
+ghost use Rattle.std.specs.Prelude.{◌≡◌, ◌≤◌, length, take, IfOk, OnErr};
 ghost use Rattle.reporting.specs.ReadOn.{file_limit, ReadOn};
 
 use limits::{MAX_CHECKS, MAX_EDGES};
@@ -10,10 +10,12 @@ use table::announced;
 // The longest code file.
 pub(crate) const FILE_LIMIT: usize = 4 + 4 * MAX_CHECKS + 2 * MAX_EDGES;
 
-// Reads on from the first `size` bytes to what they announce, and answers where the input ended.
+// Reads on from the first `size` bytes to what they announce, and answers where the input ended. An
+// error, too, leaves the first bytes.
 fn read_on<R: Read>(input: &mut R, file: &mut [u8], size: usize) -> io::Result<usize>
     requires { (size ≤ file_limit) × (file_limit ≤ length file.old) }
-    ensures { IfOk result (λ end. ReadOn size end file.new file.old) }
+    ensures read { IfOk result (λ end. ReadOn size end file.new file.old) }
+    ensures err { OnErr result (take size file.new ≡ take size file.old) }
 {
     let end = announced(&file[..size]);
     if end <= size {

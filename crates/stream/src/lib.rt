@@ -74,6 +74,7 @@ pub fn read_full<R: Read>(input: &mut R, bytes: &mut [u8]) -> io::Result<usize>
     ensures within { IfOk result (λ got. got ≤ length bytes.new) }
     ensures next { IfOk result (λ got. Consumes (R.remaining input.old) (R.remaining input.new) (take got bytes.new)) }
     ensures end { IfOk result (λ got. got < length bytes.new → IsAtEnd (R.remaining input.new)) }
+    ensures err { OnErr result (length bytes.new ≡ length bytes.old) }
 {
     let mut done: usize = 0;
     while done < bytes.len() {
