@@ -1,9 +1,10 @@
-// Numbers on an input and on the output, for the programs. No contract can say what is read or
-// written: the readers' contracts say how much they answer and what they leave alone. An error is the
-// input's or the output's own, and ends the call: nothing is tried again.
+// Numbers on an input and on the output, for the programs. No contract can say what comes on standard
+// input or what is written: the readers' contracts say how much they answer and what they leave alone,
+// and read_full's which bytes of an input that is known. An error is the input's or the output's own,
+// and ends the call: nothing is tried again.
 #![tactic(auto)]
 
-ghost use Rattle.std.specs.Prelude.{◌≡◌, ◌+◌, ◌*◌, ◌≤◌, ◌<◌, pos, nat_abs, length, take, drop, ◌≤ℤ◌, IfOk, OnErr};
+ghost use Rattle.std.specs.Prelude.{ℕ, ◌≡◌, ◌+◌, ◌*◌, ◌≤◌, ◌<◌, pos, nat_abs, length, take, drop, ◌≤ℤ◌, IfOk, OnErr};
 ghost use Rattle.std.specs.Int.{w16, w32};
 ghost use Rattle.std.specs.Io.KnownBytes.{Consumes, IsAtEnd};
 ghost use Rattle.std.proofs.Common.{to_z};
@@ -74,7 +75,7 @@ pub fn read_full<R: Read>(input: &mut R, bytes: &mut [u8]) -> io::Result<usize>
     ensures within { IfOk result (λ got. got ≤ length bytes.new) }
     ensures next { IfOk result (λ got. Consumes (R.remaining input.old) (R.remaining input.new) (take got bytes.new)) }
     ensures end { IfOk result (λ got. got < length bytes.new → IsAtEnd (R.remaining input.new)) }
-    ensures err { OnErr result (length bytes.new ≡ length bytes.old) }
+    ensures err { OnErr result ((k : ℕ) × (k ≤ length bytes.new) × Consumes (R.remaining input.old) (R.remaining input.new) (take k bytes.new)) }
 {
     let mut done: usize = 0;
     while done < bytes.len() {
@@ -205,7 +206,8 @@ pub fn whole(part: Part) -> usize
     }
 }
 
-// Reads a part of bytes.
+// Reads a part of bytes. How much of the buffer an error leaves is not known outside: the size that the
+// part states came from the input.
 pub fn read_part<R: Read>(input: &mut R, part: &mut [u8]) -> io::Result<Part>
     ensures read { IfOk result (λ answer. PartRead answer part.new part.old) }
     ensures err { OnErr result (length part.new ≡ length part.old) }
@@ -229,7 +231,7 @@ pub fn read_i16_part<R: Read>(input: &mut R, numbers: &mut [i16]) -> io::Result<
     Ok(part_of(read_i16(input, &mut numbers[..size])? / 2, size))
 }
 
-// Reads a part of 32-bit numbers.
+// Reads a part of 32-bit numbers. Of an error as read_part.
 pub fn read_i32_part<R: Read>(input: &mut R, numbers: &mut [i32]) -> io::Result<Part>
     ensures read { IfOk result (λ answer. PartRead answer numbers.new numbers.old) }
     ensures err { OnErr result (length numbers.new ≡ length numbers.old) }
