@@ -30,14 +30,14 @@ overflow_cast-rounds c = search rules
 
 pub all_within-requires-2 : goal.all_within-requires-2
 all_within-requires-2 c =
-    let limit_is : to_z w32 (offset_per_round * c.args.rounds) ≡ pos (offset_per_round * c.args.rounds) = to_z_pos w32 (omega (arith, c.if-rounds-ge-ROUND_LIMIT.false)) in
+    let limit_is : to_z w32 (offset_per_round * c.args.rounds) ≡ pos (offset_per_round * c.args.rounds) = to_z_pos w32 (omega arith) in
     rw limit_is (simp lin (omega arith_z))
 
 pub returns-then-not-all_within-2 : goal.returns-then-not-all_within-2
 returns-then-not-all_within-2 c =
     let early : c.args.rounds < round_limit = omega arith in
     let copies-within : each_within unit c.args.copies.now ≡ true = sym c.all_within.ensures ∙ c.if-not-all_within.false in
-    let limit_is : to_z w32 (offset_per_round * c.args.rounds) ≡ pos (offset_per_round * c.args.rounds) = to_z_pos w32 (omega (arith, c.if-rounds-ge-ROUND_LIMIT.false)) in
+    let limit_is : to_z w32 (offset_per_round * c.args.rounds) ≡ pos (offset_per_round * c.args.rounds) = to_z_pos w32 (omega arith) in
     let offsets_are : c.all_within-2.result ≡ each_within (offset_per_round * c.args.rounds) c.args.offsets.now = c.all_within-2.ensures ∙ ap (λ z. each_within (nat_abs z) c.args.offsets.now) limit_is in
     sound-offsets _ _ _ _ _ _ early copies-within (sym offsets_are ∙ c.if-not-all_within-2.true)
 
@@ -45,7 +45,7 @@ pub are_true-requires : goal.are_true-requires
 are_true-requires c =
     let early : c.args.rounds < round_limit = omega arith in
     let copies-within : each_within unit c.args.copies.now ≡ true = sym c.all_within.ensures ∙ c.if-not-all_within.false in
-    let limit_is : to_z w32 (offset_per_round * c.args.rounds) ≡ pos (offset_per_round * c.args.rounds) = to_z_pos w32 (omega (arith, c.if-rounds-ge-ROUND_LIMIT.false)) in
+    let limit_is : to_z w32 (offset_per_round * c.args.rounds) ≡ pos (offset_per_round * c.args.rounds) = to_z_pos w32 (omega arith) in
     let offsets_are : c.all_within-2.result ≡ each_within (offset_per_round * c.args.rounds) c.args.offsets.now = c.all_within-2.ensures ∙ ap (λ z. each_within (nat_abs z) c.args.offsets.now) limit_is in
     let offsets-within : each_within (offset_per_round * c.args.rounds) c.args.offsets.now ≡ true = sym offsets_are ∙ c.if-not-all_within-2.false in
     record {
@@ -61,7 +61,7 @@ pub returns : goal.returns
 returns c =
     let early : c.args.rounds < round_limit = omega arith in
     let copies-within : each_within unit c.args.copies.now ≡ true = sym c.all_within.ensures ∙ c.if-not-all_within.false in
-    let limit_is : to_z w32 (offset_per_round * c.args.rounds) ≡ pos (offset_per_round * c.args.rounds) = to_z_pos w32 (omega (arith, c.if-rounds-ge-ROUND_LIMIT.false)) in
+    let limit_is : to_z w32 (offset_per_round * c.args.rounds) ≡ pos (offset_per_round * c.args.rounds) = to_z_pos w32 (omega arith) in
     let offsets_are : c.all_within-2.result ≡ each_within (offset_per_round * c.args.rounds) c.args.offsets.now = c.all_within-2.ensures ∙ ap (λ z. each_within (nat_abs z) c.args.offsets.now) limit_is in
     let offsets-within : each_within (offset_per_round * c.args.rounds) c.args.offsets.now ≡ true = sym offsets_are ∙ c.if-not-all_within-2.false in
     c.are_true.ensures ∙ sound-sums _ _ _ _ _ _ early copies-within offsets-within
