@@ -11,36 +11,36 @@ use Rattle.integers.specs.Linear.{up, dn, lin, arith_z, ◌⩽◌, le_out, sfits
 use Rattle.integers.specs.Product.{nat_abs-≤, nat_abs-*-≤, abs-pos}
 use Rattle.integers.specs.Division.{signed, div_z, quot_is}
 
--- all that fitting tells, to be listed: `omega (arith_z, known c.fits.x)`
+-- all that fitting tells, to be listed: `omega (arith_z, known c.ranges.x)`
 pub known : {w : Width} {z : ℤ} → SFits w z → (up z < 2 ^ hbits w) × (dn z ≤ 2 ^ hbits w) × (up (to_z w (of_z w z)) + dn z ≡ up z + dn (to_z w (of_z w z)))
 known h = (sfits_up h, sfits-dn h, back h)
 
--- an element that was read out of a slice: `fit w32 (get_or (c .. .s .now) (c .. .i) (pos 0)) c.x.given`
+-- an element that was read out of a slice: `fit w32 (get_or c.args.s.now c.loop-i.i (pos 0)) (omega arith)`
 pub fit : (w : Width) (z : ℤ) → mag z < 2 ^ hbits w → SFits w z
 fit w z h = record { sfits = h }
 
--- all that it tells, of an element, a struct's field or a call's result: `omega (arith_z, told w32 c.f.result c.f.ok)`
+-- all that it tells, of an element, a struct's field or a call's result: `omega (arith_z, told w32 c.f.result c.f.type_inv)`
 pub told : (w : Width) (z : ℤ) → mag z < 2 ^ hbits w → (up z < 2 ^ hbits w) × (dn z ≤ 2 ^ hbits w) × (up (to_z w (of_z w z)) + dn z ≡ up z + dn (to_z w (of_z w z)))
 told w z h = known (fit w z h)
 
--- what `z as u32` asks of a z that is not negative: `to-unsigned tt c.fits.z (simp lin (omega arith_z))`
+-- what `z as u32` asks of a z that is not negative: `to-unsigned tt c.ranges.z (simp lin (omega arith_z))`
 pub to-unsigned : {w w' : Width} {z : ℤ} → T (ltb (hbits w) (bits w')) → SFits w z → pos 0 ≤ℤ z → T (non_neg (to_z w (of_z w z))) × Fits w' (nat_abs (to_z w (of_z w z)))
 to-unsigned t f h = rw (to_z-of_z f) (yes_non_neg h, Fits-nat_abs t f)
 
--- `==` and `!=` compare bits: `eq-lit c.fits.x c.if1.taken` at a literal, `eq-bits c.fits.x c.fits.y c.if1.taken` at two locals
+-- `==` and `!=` compare bits: `eq-lit c.ranges.x c.if-x-eq0.true` at a literal, `eq-bits c.ranges.x c.ranges.y c.if-x-y.true` at two locals
 pub eq-lit : {w : Width} {z : ℤ} {n : ℕ} → SFits w z → of_z w z ≡ n → z ≡ to_z w n
 eq-lit {w} f e = sym (to_z-of_z f) ∙ ap (to_z w) e
 
 pub eq-bits : {w : Width} {y z : ℤ} → SFits w y → SFits w z → of_z w y ≡ of_z w z → y ≡ z
 eq-bits {w} f g e = eq-lit f e ∙ to_z-of_z g
 
--- where the arms of a branch meet: `by_arm c.if1.came (λ w. ..) (λ w. ..)`. The sum comes first, so that `simp` and `omega` know w's type
+-- where the arms of a branch meet: today's goals are split by an `elim` of the branch itself. The sum comes first, so that `simp` and `omega` know w's type
 pub by_arm {ℓ} : {A B : Type 0} {C : Type ℓ} → A ⊎ B → (A → C) → (B → C) → C
 by_arm (inl a) f g = f a
 by_arm (inr b) f g = g b
 
 -- ---- a long expression. Its value nests bits in bits, which `simp` opens to a threefold at each level: past three levels go by these, a step each.
--- `raw f` is the value of which the need f says that it fits, so that `r : (c : tie.Start) → raw (add-result c) ≡ c.args.x +ℤ c.args.y` needs no path
+-- `raw f` is the value of which f says that it fits
 -- `reads f e`: what is read back from the bits of a raw value that fits, where e says which number the raw value is
 abbrev pub raw : {w : Width} {z : ℤ} → SFits w z → ℤ
 raw {z = z} f = z

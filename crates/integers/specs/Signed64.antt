@@ -81,6 +81,10 @@ module _ (b k t : ℕ) (x s : ℤ) (f : SFits w64 x) (room : b * (k + 1) < 2 ^ 6
   pub summed-more : (s' : ℤ) → s' ≡ s +ℤ x → Summed b (k + 1) (added t x) s'
   summed-more s' e = (reads ∙ ap (λ z. z +ℤ x) h.0 ∙ sym e, subst (Within (b * (k + 1))) (sym reads) (add-within b k (to_z w64 t) x h.1 w))
 
+-- what is read back from the bits of t with x added
+pub added-reads : (t : ℤ) {x : ℤ} → SFits w64 x → SFits w64 (t +ℤ to_z w64 (of_z w64 x)) → to_z w64 (of_z w64 (t +ℤ to_z w64 (of_z w64 x))) ≡ t +ℤ x
+added-reads t f g = to_z-of_z g ∙ ap (λ z. t +ℤ z) (to_z-of_z f)
+
 pub summed-none : (b : ℕ) → Summed b 0 0 (pos 0)
 summed-none b = (refl, within-zero (b * 0))
 

@@ -40,7 +40,7 @@ pub(crate) fn is_sound(
     sums: &[i32],
 ) -> bool
     requires { Carried members.now copies.now offsets.now sums.now }
-    ensures { result ≡ sound (length sums.now) members.now rounds (record { copies = copies.entry.now; offsets = offsets.now }) sums.now }
+    ensures { result ≡ sound (length sums.now) members.now rounds (record { copies = copies.now; offsets = offsets.now }) sums.now }
 {
     if Record::ROUND_LIMIT <= rounds {
         return false;

@@ -30,7 +30,7 @@ pub(crate) fn damaged_refusal(
     sums: &[i32],
 ) -> u8
     requires { Carried members.now copies.now offsets.now sums.now }
-    ensures { result ≡ damaged_refusal (length sums.now) members.now rounds (record { copies = copies.entry.now; offsets = offsets.now }) sums.now }
+    ensures { result ≡ damaged_refusal (length sums.now) members.now rounds (record { copies = copies.now; offsets = offsets.now }) sums.now }
 {
     if is_sound(rounds, members, copies, offsets, sums) {
         return 0;

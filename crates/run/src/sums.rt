@@ -51,7 +51,7 @@ pub(crate) fn all_same(xs: &[i32], ys: &[i32]) -> bool
 pub(crate) fn are_true(members: &[u16], copies: &[i32], offsets: &[i32], sums: &[i32]) -> bool
     requires carried { Carried members.now copies.now offsets.now sums.now }
     requires all_within { AllWithin unit copies.now × AllWithin offset_limit offsets.now }
-    ensures { result ≡ same sums.now (sums_of (length sums.now) members.now (record { copies = copies.entry.now; offsets = offsets.now })) }
+    ensures { result ≡ same sums.now (sums_of (length sums.now) members.now (record { copies = copies.now; offsets = offsets.now })) }
 {
     let n = sums.len();
     let mut found = [0i32; MAX_BITS];
