@@ -161,7 +161,8 @@ file-checks : (f : List ℕ) (n m : ℕ) → 4 ≤ length f → max_checks < m �
 unfolding file_of in_range
 file-checks f n m h k =
     must-true (leb 4 (length f)) header_short _ (le-leb 4 (length f) h)
-    ∙ must-false (in_range 1 max_bits n && in_range 1 max_checks m) size_range _ (and_no (in_range 1 max_bits n) (in_range 1 max_checks m) (and_no (leb 1 m) (leb m max_checks) (lt-leb m max_checks k)))
+    ∙ must-false (in_range 1 max_bits n && in_range 1 max_checks m) size_range _
+    (and_no (in_range 1 max_bits n) (in_range 1 max_checks m) (and_no (leb 1 m) (leb m max_checks) (lt-leb m max_checks k)))
 
 file-edges : (f : List ℕ) (n m : ℕ) → contents_end m ≤ length f → max_edges < total_count (contents f 0 m) → file_of f n m ≡ early n m (contents f 0 m)
 unfolding file_of

@@ -32,7 +32,8 @@ module _ (d : ℕ) (h : 1 ≤ d) where
   -- total and degree times quotient are at most half the degree apart
   pub divided-near : (t : ℤ) → 2 * nat_abs (t -ℤ pos d *ℤ divided t d) ≤ d
   unfolding divided
-  divided-near t = subst (λ x. 2 * nat_abs (t -ℤ x) ≤ d) (sym (signed-times d (nearest (nat_abs t) d) t)) (apart t (d * nearest (nat_abs t) d) (nearest-low (nat_abs t) d h) (nearest-high (nat_abs t) d h))
+  divided-near t = subst (λ x. 2 * nat_abs (t -ℤ x) ≤ d) (sym (signed-times d (nearest (nat_abs t) d) t))
+      (apart t (d * nearest (nat_abs t) d) (nearest-low (nat_abs t) d h) (nearest-high (nat_abs t) d h))
     where
       half : (x : ℤ) → x +ℤ x ⩽ pos d → neg_ℤ (x +ℤ x) ⩽ pos d → 2 * nat_abs x ≤ d
       half (pos n) a b = omega (arith, le_out a)

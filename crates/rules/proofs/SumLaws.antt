@@ -90,7 +90,8 @@ room-rest (x ∷ xs) ys (u ∷ us) ls e b w r =
 pub zeros-room : (n : ℕ) (ms : List ℕ) → ((i : ℕ) → i < n → degree_of i ms ≤ max_bit_degree) → Room ms (zeros n)
 zeros-room n ms h = record {
   few = λ i k. h i (below i k);
-  sizes = λ i k. subst (Within (weight_limit * (max_bit_degree - degree_of i ms))) (sym (get_or-replicate n i (pos 0) (pos 0) (below i k))) (within-zero (weight_limit * (max_bit_degree - degree_of i ms)));
+  sizes = λ i k. subst (Within (weight_limit * (max_bit_degree - degree_of i ms)))
+      (sym (get_or-replicate n i (pos 0) (pos 0) (below i k))) (within-zero (weight_limit * (max_bit_degree - degree_of i ms)));
 }
   where
     below : (i : ℕ) → i < length (zeros n) → i < n
