@@ -14,12 +14,6 @@ use Rattle.decoder.proofs.candidate.all_even.Goals as goal
 pub loop-j-init : goal.loop-j-init
 loop-j-init c = (omega (arith, starts-long _ _ _ c.requires), refl, sym (start_is_lem _ _ _ c.requires 0 (omega arith)))
 
-pub overflow_cast-e : goal.overflow_cast-e
-overflow_cast-e c = omega (arith, c.shared_slice_known-in-loop-j-1.given (c.loop-j.j + 1))
-
-pub offset_bounds-members-a : goal.offset_bounds-members-a
-offset_bounds-members-a c = omega (arith, c.shared_slice_known-in-loop-j-1.given c.loop-j.j, c.loop-j.invariant.2)
-
 pub slice_bounds-is_odd-count : goal.slice_bounds-is_odd-count
 slice_bounds-is_odd-count c =
     let check : c.loop-j.j < length (checks_from c.args.starts.now c.args.members.now) = omega (arith, c.loop-j-test.true, starts-long _ _ _ c.requires) in

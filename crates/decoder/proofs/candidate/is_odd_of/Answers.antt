@@ -1,5 +1,5 @@
 -- `is_odd_of` meets its contract: the parity found and that of the members from k on make the whole. Assumes nothing.
-use mathlib.Core.Path.{refl, sym, ◌∙◌, ap}
+use mathlib.Core.Path.{sym, ◌∙◌, ap}
 use native.Mathlib.Omega.{arith}
 use lib.ListN.{length, get_or}
 use mir.Syntax.{w32}
@@ -9,15 +9,9 @@ use Rattle.rules.specs.Table.{at}
 use Rattle.rules.specs.Parity.{◌⊕◌}
 use Rattle.rules.specs.Cut.{is_neg, negatives}
 use Rattle.rules.proofs.Duality.{below_at}
-use Rattle.rules.proofs.ParityLaws.{odd-more, odd-end}
+use Rattle.rules.proofs.ParityLaws.{odd-more}
 use Rattle.decoder.proofs.CandidateLaws.{negatives-at}
 use Rattle.decoder.proofs.candidate.is_odd_of.Goals as goal
-
-pub overflow_cast-i : goal.overflow_cast-i
-overflow_cast-i c = omega (arith, c.shared_slice_known-in-loop-k-1.given c.loop-k.k)
-
-pub offset_bounds-spins-i : goal.offset_bounds-spins-i
-offset_bounds-spins-i c = omega (arith, c.shared_slice_known-in-loop-k-1.given c.loop-k.k)
 
 pub bounds-spins-i : goal.bounds-spins-i
 bounds-spins-i c =
@@ -33,12 +27,3 @@ loop-k-preserved c =
     let read = to_z-of_z (fit w32 (at s i) c.flipped-arg-1.given) in
     let bit = c.flipped-odd.ensures ∙ ap (λ z. loop.odd ⊕ is_neg z) read ∙ ap (λ b. loop.odd ⊕ b) (sym (negatives-at s i)) in
     (omega arith, odd-more (negatives s) ms loop.k loop.odd (omega arith) bit ∙ loop.invariant.1)
-
-pub returns : goal.returns
-returns c =
-    let args = c.args in
-    let loop = c.loop-k in
-    odd-end (negatives args.spins.now) args.members.now loop.k loop.odd c.loop-k-test.false ∙ loop.invariant.1
-
-pub loop-k-init : goal.loop-k-init
-loop-k-init c = (omega arith, refl)

@@ -1,7 +1,7 @@
 -- `divide_block` meets its contract: the first sixteen of sixteen are all. Assumes nothing.
 use mathlib.Core.Path.{sym, ◌∙◌, ap, ap₂}
 use native.Mathlib.Omega.{arith}
-use lib.ListN.{length, length-take}
+use lib.ListN.{length}
 use Rattle.rules.proofs.BufferLaws.{take_exact}
 use Rattle.decoder.specs.Spins.{quotients_over}
 use Rattle.decoder.proofs.PartLaws.{none_after}
@@ -19,9 +19,3 @@ returns-then-totals-eq-BLOCK c =
     let ts = c.args.totals.now in
     none_after 16 _ ts (omega arith) ∙ c.divide_part.ensures
     ∙ ap₂ quotients_over (take_exact 16 ds (omega (arith, c.requires))) (take_exact 16 ts (omega arith))
-
-pub slice_bounds-divide_part-end : goal.slice_bounds-divide_part-end
-slice_bounds-divide_part-end c = simp length-take (omega arith)
-
-pub slice_bounds-divide_part-end-then-totals-eq-BLOCK-2 : goal.slice_bounds-divide_part-end-then-totals-eq-BLOCK-2
-slice_bounds-divide_part-end-then-totals-eq-BLOCK-2 c = simp length-take (omega arith)

@@ -12,11 +12,6 @@ use Rattle.rules.proofs.FillLaws.{fill_none, fill-length, fill-all}
 use Rattle.spin.proofs.TotalsLaws.{quotients-length, quotients-more}
 use Rattle.decoder.proofs.divide.divide_each.Goals as goal
 
-pub bounds-degrees-i : goal.bounds-degrees-i
-bounds-degrees-i c =
-    let long : length c.loop-i.totals ≡ length c.args.totals.now = ap length c.loop-i.invariant.1 ∙ fill-length c.loop-i.i _ _ in
-    omega (arith, long, c.requires)
-
 pub loop-i-preserved : goal.loop-i-preserved
 loop-i-preserved c =
     let long : length c.loop-i.totals ≡ length c.args.totals.now = ap length c.loop-i.invariant.1 ∙ fill-length c.loop-i.i _ _ in
@@ -35,13 +30,3 @@ returns c =
 
 pub loop-i-init : goal.loop-i-init
 loop-i-init c = (omega arith, sym (fill_none _ _))
-
-pub loop-i-smaller : goal.loop-i-smaller
-loop-i-smaller c =
-    let long : length c.loop-i.totals ≡ length c.args.totals.now = ap length c.loop-i.invariant.1 ∙ fill-length c.loop-i.i _ _ in
-    omega (arith, long)
-
-pub shape_of-totals : goal.shape_of-totals
-shape_of-totals c =
-    let long : length c.loop-i.totals ≡ length c.args.totals.now = ap length c.loop-i.invariant.1 ∙ fill-length c.loop-i.i _ _ in
-    long

@@ -7,22 +7,9 @@ use Rattle.rules.proofs.FillLaws.{fill_none, fill-length, fill-all}
 use Rattle.spin.proofs.TotalsLaws.{quotients-length}
 use Rattle.decoder.specs.Spins.{quotients_over}
 use Rattle.decoder.specs.Parts.{part, splice}
-use Rattle.decoder.proofs.PartLaws.{part_length, fill-coming, fill-part}
+use Rattle.decoder.proofs.PartLaws.{fill-coming, fill-part}
 use Rattle.decoder.proofs.DivideLaws.{over-part}
 use Rattle.decoder.proofs.divide.divide_totals.Goals as goal
-
-pub divide_block-requires : goal.divide_block-requires
-unfolding part
-divide_block-requires c =
-    let long : length c.loop-a.totals ≡ length c.args.totals.now = ap length c.loop-a.invariant.1 ∙ fill-length c.loop-a.a _ _ in
-    let a = c.loop-a.a in
-    let e = c.block_end-e.result in
-    part_length a e c.loop-a.totals (omega (arith, long, c.block_end-e.ensures))
-    ∙ sym (part_length a e c.args.degrees.now (omega (arith, c.block_end-e.ensures, c.requires)))
-
-pub loop-a-smaller : goal.loop-a-smaller
-loop-a-smaller c =
-    omega (arith, c.block_end-e.ensures)
 
 pub loop-a-preserved : goal.loop-a-preserved
 unfolding part splice
@@ -42,8 +29,3 @@ returns c =
 
 pub loop-a-init : goal.loop-a-init
 loop-a-init c = (omega arith, sym (fill_none _ _))
-
-pub shape_of-totals : goal.shape_of-totals
-shape_of-totals c =
-    let long : length c.loop-a.totals ≡ length c.args.totals.now = ap length c.loop-a.invariant.1 ∙ fill-length c.loop-a.a _ _ in
-    long

@@ -14,7 +14,7 @@ use Rattle.integers.specs.Machine.{fit, to-unsigned}
 use Rattle.integers.specs.Linear.{lin, arith_z, Within}
 use Rattle.multiplier_search.specs.Lifted.{lack, first_step, reach}
 use Rattle.multiplier_search.specs.Sums.{narrow_limit, AllNarrow, partials}
-use Rattle.multiplier_search.proofs.StartLaws.{lack-above, start-above}
+use Rattle.multiplier_search.proofs.StartLaws.{lack-above}
 use Rattle.multiplier_search.proofs.SumsLaws.{narrow-fits, front, rest}
 use Rattle.decoder.proofs.multiplier.first_step.Goals as goal
 
@@ -31,18 +31,6 @@ overflow_cast-together c =
     let above : pos 0 ≤ℤ lack c.args.heights.now = lack-above c.args.heights.now c.requires.0.short in
     to-unsigned tt ((subst (SFits w32) (sym lack-is) (narrow-fits _ narrow.0))) (subst (λ z. pos 0 ≤ℤ z) (sym lack-is) above)
 
-pub overflow_sub-alone : goal.overflow_sub-alone
-overflow_sub-alone c =
-    let narrow : let a = c.args in let d = pos (length a.heights.now) -ℤ pos 1 in AllNarrow (lack a.heights.now ∷ (pos reach -ℤ a.top) ∷ d ∷ (lack a.heights.now +ℤ d) ∷ []) = rest (partials (pos 0) c.args.heights.now) _ c.requires.1 in
-    let top-lacks : pos reach -ℤ to_z w32 (of_z w32 c.args.top) ≡ pos reach -ℤ c.args.top = ap (λ z. pos reach -ℤ z) (to_z-of_z c.ranges.top) in
-    subst (SFits w32) (sym top-lacks) (narrow-fits _ narrow.1.0)
-
-pub overflow_cast-alone : goal.overflow_cast-alone
-overflow_cast-alone c =
-    let top-lacks : pos reach -ℤ to_z w32 (of_z w32 c.args.top) ≡ pos reach -ℤ c.args.top = ap (λ z. pos reach -ℤ z) (to_z-of_z c.ranges.top) in
-    let narrow : let a = c.args in let d = pos (length a.heights.now) -ℤ pos 1 in AllNarrow (lack a.heights.now ∷ (pos reach -ℤ a.top) ∷ d ∷ (lack a.heights.now +ℤ d) ∷ []) = rest (partials (pos 0) c.args.heights.now) _ c.requires.1 in
-    to-unsigned tt ((subst (SFits w32) (sym top-lacks) (narrow-fits _ narrow.1.0))) (subst (λ z. pos 0 ≤ℤ z) (sym top-lacks) (start-above c.args.top c.requires.0.high))
-
 -- rounded up
 level-narrow : (z : ℤ) (d : ℕ) → pos 0 ≤ℤ z → 0 < d → Within narrow_limit (z +ℤ (pos d -ℤ pos 1)) → nat_abs z + (d - 1) < 2 ^ 31
 level-narrow (pos n) d k p w = omega (arith, plain n d p w)
@@ -50,16 +38,6 @@ level-narrow (pos n) d k p w = omega (arith, plain n d p w)
     plain : (n d : ℕ) → 0 < d → Within narrow_limit (pos n +ℤ (pos d -ℤ pos 1)) → n + d ≤ 2 ^ 31
     plain n d = simp lin (omega arith_z)
 level-narrow (negsuc n) d k p w = absurd (omega arith_z)
-
-pub overflow_add-level : goal.overflow_add-level
-overflow_add-level c =
-    let narrow : let a = c.args in let d = pos (length a.heights.now) -ℤ pos 1 in AllNarrow (lack a.heights.now ∷ (pos reach -ℤ a.top) ∷ d ∷ (lack a.heights.now +ℤ d) ∷ []) = rest (partials (pos 0) c.args.heights.now) _ c.requires.1 in
-    let lack-is : pos reach -ℤ to_z w32 (of_z w32 c.sum_of.result) ≡ lack c.args.heights.now = ap (λ z. pos reach -ℤ z) (to_z-of_z (fit w32 c.sum_of.result c.sum_of.type_inv) ∙ c.sum_of.ensures) in
-    let together-is : to_z w32 (of_z w32 (pos reach -ℤ to_z w32 (of_z w32 c.sum_of.result))) ≡ lack c.args.heights.now = to_z-of_z ((subst (SFits w32) (sym lack-is) (narrow-fits _ narrow.0))) ∙ lack-is in
-    let above : pos 0 ≤ℤ lack c.args.heights.now = lack-above c.args.heights.now c.requires.0.short in
-    let hs = c.args.heights.now in
-    let small = level-narrow (lack hs) (length hs) above c.requires.0.some narrow.1.1.1.0 in
-    record { fits = omega (arith, small, ap nat_abs together-is) }
 
 pub returns-then-level-alone : goal.returns-then-level-alone
 unfolding first_step

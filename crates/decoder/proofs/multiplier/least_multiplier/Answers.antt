@@ -47,12 +47,6 @@ overflow_sub-b c =
     next-step c.args.heights.now l.b c.fall-d.result l.invariant.1 c.requires.short c.fall-d.ensures in
     omega (arith, turn.0)
 
-pub loop-top-smaller : goal.loop-top-smaller
-loop-top-smaller c =
-    let turn : let d = c.fall-d.result in (d < c.loop-top.b) × (reach ≤ sum_at c.args.heights.now (c.loop-top.b - d)) = let l = c.loop-top in
-    next-step c.args.heights.now l.b c.fall-d.result l.invariant.1 c.requires.short c.fall-d.ensures in
-    omega (arith, turn.0)
-
 pub loop-top-preserved : goal.loop-top-preserved
 loop-top-preserved c =
     let turn : let d = c.fall-d.result in (d < c.loop-top.b) × (reach ≤ sum_at c.args.heights.now (c.loop-top.b - d)) = let l = c.loop-top in

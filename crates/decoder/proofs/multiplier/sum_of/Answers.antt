@@ -1,20 +1,15 @@
 -- `sum_of` meets its contract: the sum of the first i heights. Assumes nothing.
-use mathlib.Core.Path.{◌≡◌, refl, sym, ◌∙◌, ap, subst}
+use mathlib.Core.Path.{◌≡◌, sym, ◌∙◌, ap, subst}
 use native.Mathlib.Omega.{arith}
 use lib.IntN.{ℤ, ◌+ℤ◌}
-use lib.Seq.{take_all}
 use mir.Syntax.{w32}
 use mir.Val.{SFits, to_z, of_z}
 use mir.Facts.{to_z-of_z}
 use Rattle.integers.specs.Machine.{fit}
 use Rattle.rules.specs.Table.{at}
-use Rattle.multiplier_search.specs.Lifted.{sum_z}
 use Rattle.multiplier_search.proofs.PackedLaws.{sum-take}
 use Rattle.multiplier_search.proofs.SumsLaws.{sum-narrow}
 use Rattle.decoder.proofs.multiplier.sum_of.Goals as goal
-
-pub loop-i-init : goal.loop-i-init
-loop-i-init c = (omega arith, refl)
 
 pub overflow_add-sum : goal.overflow_add-sum
 overflow_add-sum c =
@@ -37,9 +32,3 @@ loop-i-preserved c =
       omega arith,
       e ∙ ap (λ z. z +ℤ height) l.invariant.1 ∙ sym (sum-take a.heights.now l.i (omega arith)),
     )
-
-pub returns : goal.returns
-returns c =
-    let a = c.args in
-    let l = c.loop-i in
-    l.invariant.1 ∙ ap sum_z (take_all l.i a.heights.now (omega arith))

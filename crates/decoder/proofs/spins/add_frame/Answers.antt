@@ -1,5 +1,5 @@
 -- `add_frame` meets its contract: the first i places hold the totals, and the others what came. Assumes nothing.
-use mathlib.Core.Path.{◌≡◌, sym, ◌∙◌, ap, ap₂, subst}
+use mathlib.Core.Path.{◌≡◌, sym, ◌∙◌, ap₂, subst}
 use Prim.Native.Nat.{◌<◌}
 use native.Mathlib.Omega.{arith}
 use lib.ListN.{length}
@@ -13,7 +13,7 @@ use Rattle.rules.specs.Limits.{frame_limit, sum_limit}
 use Rattle.rules.specs.Table.{at}
 use Rattle.rules.proofs.Optimal.{within-at}
 use Rattle.rules.proofs.RoundSizes.{first-length, first-at}
-use Rattle.rules.proofs.FillLaws.{fill_none, fill-length, fill_more, fill-all}
+use Rattle.rules.proofs.FillLaws.{fill_none, fill_more, fill-all}
 use Rattle.decoder.specs.Spins.{totals_of}
 use Rattle.decoder.proofs.spins.add_frame.Goals as goal
 
@@ -24,11 +24,6 @@ total-requires c =
       subst (Within frame_limit) (sym number) (within-at frame_limit c.args.frame.now c.requires.2 c.loop-i.i),
       subst (Within sum_limit) (sym sum) (within-at sum_limit c.args.sums.now c.requires.3 c.loop-i.i),
     )
-
-pub loop-i-smaller : goal.loop-i-smaller
-loop-i-smaller c =
-    let inside : c.loop-i.i < length c.args.spins.now = omega (arith, c.loop-i-test.true, c.requires.0) in
-    omega (arith, inside)
 
 pub loop-i-preserved : goal.loop-i-preserved
 loop-i-preserved c =
@@ -45,11 +40,6 @@ loop-i-preserved c =
           c.loop-i.invariant.1,
     )
 
-pub shape_of-spins : goal.shape_of-spins
-shape_of-spins c =
-    let long : length c.loop-i.spins ≡ length c.args.spins.now = ap length c.loop-i.invariant.1 ∙ fill-length c.loop-i.i _ _ in
-    long
-
 pub returns : goal.returns
 returns c =
     let l = c.args.frame.now in
@@ -59,19 +49,3 @@ returns c =
 
 pub loop-i-init : goal.loop-i-init
 loop-i-init c = (omega arith, sym (fill_none _ _))
-
-pub bounds-frame-i : goal.bounds-frame-i
-bounds-frame-i c =
-    let inside : c.loop-i.i < length c.args.spins.now = omega (arith, c.loop-i-test.true, c.requires.0) in
-    omega (arith, inside, c.requires.0)
-
-pub bounds-sums-i : goal.bounds-sums-i
-bounds-sums-i c =
-    let inside : c.loop-i.i < length c.args.spins.now = omega (arith, c.loop-i-test.true, c.requires.0) in
-    omega (arith, inside, c.requires.1)
-
-pub bounds-spins-i : goal.bounds-spins-i
-bounds-spins-i c =
-    let long : length c.loop-i.spins ≡ length c.args.spins.now = ap length c.loop-i.invariant.1 ∙ fill-length c.loop-i.i _ _ in
-    let inside : c.loop-i.i < length c.args.spins.now = omega (arith, c.loop-i-test.true, c.requires.0) in
-    omega (arith, inside, long)

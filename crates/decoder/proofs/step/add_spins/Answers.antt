@@ -14,25 +14,14 @@ use Rattle.rules.specs.Table.{at}
 use Rattle.rules.specs.Round.{values}
 use Rattle.rules.proofs.Optimal.{within-at}
 use Rattle.rules.proofs.Duality.{below_at}
-use Rattle.rules.proofs.FillLaws.{fill_none, fill-length, fill-at, fill_more, fill-all}
+use Rattle.rules.proofs.FillLaws.{fill_none, fill-at, fill_more, fill-all}
 use Rattle.decoder.proofs.StepListLaws.{values_length, values-at}
 use Rattle.decoder.proofs.step.add_spins.Goals as goal
-
-pub overflow_cast-m : goal.overflow_cast-m
-overflow_cast-m c = omega (arith, c.shared_slice_known-in-loop-i-1.given c.loop-i.i)
-
-pub offset_bounds-spins-m : goal.offset_bounds-spins-m
-offset_bounds-spins-m c = omega (arith, c.shared_slice_known-in-loop-i-1.given c.loop-i.i)
 
 pub bounds-spins-m : goal.bounds-spins-m
 bounds-spins-m c =
     let a = c.args in
     below_at (length a.spins.now) a.members.now c.loop-i.i (omega arith) c.requires.1
-
-pub slice_copy_out-value : goal.slice_copy_out-value
-slice_copy_out-value c =
-    let long : length c.loop-i.offsets ≡ length c.args.offsets.now = ap length c.loop-i.invariant.1 ∙ fill-length c.loop-i.i _ _ in
-    omega (arith, long, c.requires.0)
 
 pub value-requires : goal.value-requires
 value-requires c =
@@ -45,11 +34,6 @@ value-requires c =
       subst (Within unit) (sym spin-is) (within-at unit c.args.spins.now c.requires.2 (get_or c.args.members.now l.i 0)),
       subst (Within offset_limit) (sym offset-is) (within-at offset_limit c.args.offsets.now c.requires.3 l.i),
     )
-
-pub bounds-offsets-i : goal.bounds-offsets-i
-bounds-offsets-i c =
-    let long : length c.loop-i.offsets ≡ length c.args.offsets.now = ap length c.loop-i.invariant.1 ∙ fill-length c.loop-i.i _ _ in
-    omega (arith, long, c.requires.0)
 
 pub loop-i-preserved : goal.loop-i-preserved
 loop-i-preserved c =
@@ -67,11 +51,6 @@ loop-i-preserved c =
       fill_more l.i _ _ _ _ (pos 0) (omega (arith, same, c.requires.0))
           (is ∙ sym (values-at (at a.spins.now) a.members.now a.offsets.now l.i inside)) l.invariant.1,
     )
-
-pub shape_of-offsets : goal.shape_of-offsets
-shape_of-offsets c =
-    let long : length c.loop-i.offsets ≡ length c.args.offsets.now = ap length c.loop-i.invariant.1 ∙ fill-length c.loop-i.i _ _ in
-    long
 
 pub returns : goal.returns
 returns c =

@@ -17,18 +17,6 @@ use Rattle.rules.proofs.Optimal.{within-at}
 use Rattle.decoder.proofs.MoveAllLaws.{offset-fits, moving-first, moving-long, moving-at, weight-fits, inside, sum_fits, moving-next, moving-last}
 use Rattle.decoder.proofs.step.move_all.Goals as goal
 
-pub offset_bounds-offsets-i : goal.offset_bounds-offsets-i
-offset_bounds-offsets-i c =
-    let long : length c.loop-i.offsets ≡ length c.args.offsets.now = (moving-long c.requires c.loop-i.invariant).1 in
-    let here : c.loop-i.i < length c.args.offsets.now = omega (arith, long, c.loop-i-test) in
-    omega (arith, here)
-
-pub holds-requires : goal.holds-requires
-holds-requires c =
-    let long : length c.loop-i.offsets ≡ length c.args.offsets.now = (moving-long c.requires c.loop-i.invariant).1 in
-    let here : c.loop-i.i < length c.args.offsets.now = omega (arith, long, c.loop-i-test) in
-    omega (arith, here, c.requires.few)
-
 pub moved-z-requires : goal.moved-z-requires
 moved-z-requires c =
     let value_at : ℤ = at c.args.offsets.now c.loop-i.i in
@@ -43,24 +31,6 @@ overflow_sub-y c =
     let small : Within value_limit value_at = within-at value_limit c.args.offsets.now c.requires.small c.loop-i.i in
     let copy : to_z w32 (of_z w32 c.moved-z.result) ≡ move unit c.args.b c.holds.result value_at = to_z-of_z (fit w32 c.moved-z.result c.moved-z.type_inv) ∙ c.moved-z.ensures ∙ ap (move unit c.args.b c.holds.result) value in
     subst (SFits w32) (sym (ap₂ ◌-ℤ◌ value copy)) (offset-fits _ _ small (clip-within unit _))
-
-pub store_signed-requires : goal.store_signed-requires
-store_signed-requires c =
-    let long : length c.loop-i.offsets ≡ length c.args.offsets.now = (moving-long c.requires c.loop-i.invariant).1 in
-    let here : c.loop-i.i < length c.args.offsets.now = omega (arith, long, c.loop-i-test) in
-    omega (arith, (moving-long c.requires c.loop-i.invariant).0, here)
-
-pub store_signed-requires-in-loop-i : goal.store_signed-requires-in-loop-i
-store_signed-requires-in-loop-i c =
-    let long : length c.loop-i.offsets ≡ length c.args.offsets.now = (moving-long c.requires c.loop-i.invariant).1 in
-    let here : c.loop-i.i < length c.args.offsets.now = omega (arith, long, c.loop-i-test) in
-    omega (arith, long, here)
-
-pub bounds-members-i : goal.bounds-members-i
-bounds-members-i c =
-    let long : length c.loop-i.offsets ≡ length c.args.offsets.now = (moving-long c.requires c.loop-i.invariant).1 in
-    let here : c.loop-i.i < length c.args.offsets.now = omega (arith, long, c.loop-i-test) in
-    omega (arith, here, c.requires.members_long)
 
 pub overflow_sub-z : goal.overflow_sub-z
 overflow_sub-z c =
@@ -87,12 +57,6 @@ add_at-requires c =
           (sum_fits c.requires c.loop-i.invariant here c.holds.ensures copy offset),
     )
 
-pub loop-i-smaller : goal.loop-i-smaller
-loop-i-smaller c =
-    let long : length c.loop-i.offsets ≡ length c.args.offsets.now = (moving-long c.requires c.loop-i.invariant).1 in
-    let here : c.loop-i.i < length c.args.offsets.now = omega (arith, long, c.loop-i-test) in
-    omega (arith, here)
-
 pub loop-i-preserved : goal.loop-i-preserved
 loop-i-preserved c =
     let long : length c.loop-i.offsets ≡ length c.args.offsets.now = (moving-long c.requires c.loop-i.invariant).1 in
@@ -107,19 +71,6 @@ loop-i-preserved c =
     (c.add_at.ensures
     ∙ ap (λ w. set c.loop-i.sums (get_or c.args.members.now c.loop-i.i 0) (at c.loop-i.sums (get_or c.args.members.now c.loop-i.i 0) +ℤ w))
     (to_z-of_z ((weight-fits c.requires c.loop-i.invariant here c.holds.ensures copy offset))))
-
-pub shape_of-copies : goal.shape_of-copies
-shape_of-copies c =
-    omega (arith, (moving-long c.requires c.loop-i.invariant).0, c.requires.copies_long)
-
-pub shape_of-offsets : goal.shape_of-offsets
-shape_of-offsets c =
-    let long : length c.loop-i.offsets ≡ length c.args.offsets.now = (moving-long c.requires c.loop-i.invariant).1 in
-    long
-
-pub shape_of-sums : goal.shape_of-sums
-shape_of-sums c =
-    (moving-long c.requires c.loop-i.invariant).2
 
 pub returns : goal.returns
 returns c =
