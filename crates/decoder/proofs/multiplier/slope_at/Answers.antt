@@ -1,7 +1,10 @@
 -- `slope_at` meets its contract: the first i members in one number. Assumes nothing.
 use mathlib.Core.Path.{◌≡◌, sym, ◌∙◌, ap, ap₂, subst}
-use Prim.Native.Nat.{◌+◌, ◌/◌, ◌%◌}
+use mathlib.Core.List.{List}
+use Prim.Native.Nat.{ℕ, ◌+◌, ◌/◌, ◌%◌, ◌<◌}
 use native.Mathlib.Omega.{arith}
+use lib.ListN.{length}
+use lib.IntN.{ℤ}
 use mir.Syntax.{w32}
 use mir.Val.{SFits}
 use mir.Facts.{to_z-of_z}
@@ -11,37 +14,36 @@ use Rattle.multiplier_search.specs.Lifted.{one, packed}
 use Rattle.multiplier_search.specs.Sums.{AllNarrow, share_sums, shares_sums}
 use Rattle.multiplier_search.proofs.PackedLaws.{packed_first, first-none, first_next, unpacked}
 use Rattle.multiplier_search.proofs.SumsLaws.{front, rest, share-at, packed-narrow}
+use Rattle.spin.proofs.DividedParts.{wrap}
 use Rattle.decoder.proofs.multiplier.slope_at.Goals as goal
+
+-- with the next one's share
+both_is : (hs : List ℤ) (b i both share : ℕ) → i < length hs → SFits w32 (at hs i) → both ≡ packed_first hs b i → share ≡ packed b (wrap (at hs i))
+    → both + share ≡ packed_first hs b (i + 1)
+both_is hs b i both share h f p q = ap₂ ◌+◌ p (q ∙ ap (packed b) (to_z-of_z f)) ∙ first_next hs b i h
 
 pub loop-i-init : goal.loop-i-init
 loop-i-init c = (omega arith, first-none _ _)
 
 pub share-both-requires : goal.share-both-requires
 share-both-requires c =
-    let element : SFits w32 (at c.args.heights.now c.loop-i.i) = fit w32 (at c.args.heights.now c.loop-i.i) c.share-arg-1.given in
     let hs = c.args.heights.now in
-    subst (λ h. AllNarrow (share_sums c.args.b h)) (sym (to_z-of_z element))
+    subst (λ h. AllNarrow (share_sums c.args.b h)) (sym (to_z-of_z (fit w32 (at hs c.loop-i.i) c.share-arg-1.given)))
     (share-at c.args.b hs c.loop-i.i (omega arith) (front (shares_sums c.args.b hs) _ c.requires.2))
 
 pub overflow_add-both : goal.overflow_add-both
 overflow_add-both c =
-    let element : SFits w32 (at c.args.heights.now c.loop-i.i) = fit w32 (at c.args.heights.now c.loop-i.i) c.share-arg-1.given in
-    let share-is : c.share-both.result ≡ packed c.args.b (at c.args.heights.now c.loop-i.i) = c.share-both.ensures ∙ ap (packed c.args.b) (to_z-of_z element) in
-    let both_is : c.loop-i.both + c.share-both.result ≡ packed_first c.args.heights.now c.args.b (c.loop-i.i + 1) = let a = c.args in
-    let l = c.loop-i in
-    ap₂ ◌+◌ l.invariant.1 share-is ∙ first_next a.heights.now a.b l.i (omega arith) in
     let hs = c.args.heights.now in
-    let small = packed-narrow hs c.args.b c.loop-i.i (omega arith) (rest (shares_sums c.args.b hs) _ c.requires.2) in
-    omega (arith, small, both_is)
+    let l = c.loop-i in
+    let height = fit w32 (at hs l.i) c.share-arg-1.given in
+    let both = both_is hs c.args.b l.i l.both c.share-both.result (omega arith) height l.invariant.1 c.share-both.ensures in
+    let small = packed-narrow hs c.args.b l.i (omega arith) (rest (shares_sums c.args.b hs) _ c.requires.2) in
+    omega (arith, small, both)
 
 pub loop-i-preserved : goal.loop-i-preserved
 loop-i-preserved c =
-    let element : SFits w32 (at c.args.heights.now c.loop-i.i) = fit w32 (at c.args.heights.now c.loop-i.i) c.share-arg-1.given in
-    let share-is : c.share-both.result ≡ packed c.args.b (at c.args.heights.now c.loop-i.i) = c.share-both.ensures ∙ ap (packed c.args.b) (to_z-of_z element) in
-    let both_is : c.loop-i.both + c.share-both.result ≡ packed_first c.args.heights.now c.args.b (c.loop-i.i + 1) = let a = c.args in
-    let l = c.loop-i in
-    ap₂ ◌+◌ l.invariant.1 share-is ∙ first_next a.heights.now a.b l.i (omega arith) in
-    (omega arith, both_is)
+    let height = fit w32 (at c.args.heights.now c.loop-i.i) c.share-arg-1.given in
+    (omega arith, both_is _ _ _ _ _ (omega arith) height c.loop-i.invariant.1 c.share-both.ensures)
 
 pub returns : goal.returns
 returns c =
