@@ -1,34 +1,41 @@
 -- `sum_of` meets its contract: the sum of the first i heights. Assumes nothing.
-use mathlib.Core.Path.{◌≡◌, sym, ◌∙◌, ap, subst}
+use mathlib.Core.Path.{◌≡◌, sym, ◌∙◌, ap₂, subst}
+use mathlib.Core.List.{List}
+use Prim.Native.Nat.{ℕ, ◌+◌, ◌<◌}
 use native.Mathlib.Omega.{arith}
-use lib.IntN.{ℤ, ◌+ℤ◌}
+use lib.ListN.{length, take}
+use lib.IntN.{ℤ, pos, ◌+ℤ◌}
 use mir.Syntax.{w32}
-use mir.Val.{SFits, to_z, of_z}
+use mir.Val.{SFits}
 use mir.Facts.{to_z-of_z}
-use Rattle.integers.specs.Machine.{fit}
+use Rattle.integers.specs.Machine.{fit, reads}
 use Rattle.rules.specs.Table.{at}
+use Rattle.multiplier_search.specs.Lifted.{sum_z}
+use Rattle.multiplier_search.specs.Sums.{AllNarrow, partials}
 use Rattle.multiplier_search.proofs.PackedLaws.{sum-take}
 use Rattle.multiplier_search.proofs.SumsLaws.{sum-narrow}
+use Rattle.spin.proofs.DividedParts.{wrap}
 use Rattle.decoder.proofs.multiplier.sum_of.Goals as goal
+
+-- with the next height
+module _ (hs : List ℤ) (i : ℕ) (sum : ℤ) (n : AllNarrow (partials (pos 0) hs)) (h : i < length hs) (f : SFits w32 (at hs i)) (e : sum ≡ sum_z (take i hs)) where
+  next-is : sum +ℤ wrap (at hs i) ≡ sum_z (take i hs) +ℤ at hs i
+  next-is = ap₂ ◌+ℤ◌ e (to_z-of_z f)
+
+  next-fits : SFits w32 (sum +ℤ wrap (at hs i))
+  next-fits = subst (SFits w32) (sym next-is) (sum-narrow hs i h n)
+
+  next_sum : wrap (sum +ℤ wrap (at hs i)) ≡ sum_z (take (i + 1) hs)
+  next_sum = reads next-fits next-is ∙ sym (sum-take hs i h)
 
 pub overflow_add-sum : goal.overflow_add-sum
 overflow_add-sum c =
-    let height : ℤ = at c.args.heights.now c.loop-i.i in
-    let sum_before : ℤ = to_z w32 c.loop-i.sum-bits in
-    let next-is : sum_before +ℤ to_z w32 (of_z w32 height) ≡ sum_before +ℤ height = ap (λ z. sum_before +ℤ z) (to_z-of_z (fit w32 height c.sum-1.given)) in
+    let hs = c.args.heights.now in
     let l = c.loop-i in
-    subst (SFits w32) (sym (next-is ∙ ap (λ z. z +ℤ height) l.invariant.1)) (sum-narrow c.args.heights.now l.i (omega arith) c.requires)
+    next-fits hs l.i _ c.requires (omega arith) (fit w32 (at hs l.i) c.sum-1.given) l.invariant.1
 
 pub loop-i-preserved : goal.loop-i-preserved
 loop-i-preserved c =
-    let height : ℤ = at c.args.heights.now c.loop-i.i in
-    let sum_before : ℤ = to_z w32 c.loop-i.sum-bits in
-    let next-is : sum_before +ℤ to_z w32 (of_z w32 height) ≡ sum_before +ℤ height = ap (λ z. sum_before +ℤ z) (to_z-of_z (fit w32 height c.sum-1.given)) in
-    let a = c.args in
+    let hs = c.args.heights.now in
     let l = c.loop-i in
-    let sum_fits : SFits w32 (sum_before +ℤ to_z w32 (of_z w32 height)) =
-    subst (SFits w32) (sym (next-is ∙ ap (λ z. z +ℤ height) l.invariant.1)) (sum-narrow c.args.heights.now l.i (omega arith) c.requires) in
-    let e = to_z-of_z sum_fits ∙ next-is in (
-      omega arith,
-      e ∙ ap (λ z. z +ℤ height) l.invariant.1 ∙ sym (sum-take a.heights.now l.i (omega arith)),
-    )
+    (omega arith, next_sum hs l.i _ c.requires (omega arith) (fit w32 (at hs l.i) c.sum-1.given) l.invariant.1)
