@@ -1,8 +1,11 @@
 -- `least_multiplier` meets its contract: b meets V's inequality all the time, and falls. Assumes nothing.
-use mathlib.Core.Path.{sym, ◌∙◌, ap, subst}
-use Prim.Native.Nat.{◌-◌, ◌≤◌, ◌<◌}
+use mathlib.Core.Path.{◌≡◌, sym, ◌∙◌, ap, subst}
+use mathlib.Core.List.{List}
+use Prim.Native.Nat.{ℕ, ◌≤◌}
 use native.Mathlib.Omega.{arith}
-use lib.IntN.{pos, nat_abs, ◌-ℤ◌}
+use lib.IntN.{ℤ, pos, nat_abs, ◌-ℤ◌}
+use mir.Syntax.{w32}
+use mir.Val.{SFits}
 use mir.Facts.{to_z-of_z}
 use Rattle.rules.specs.Limits.{step_limit}
 use Rattle.multiplier_search.specs.Lifted.{sum_at, first_step, Rising, reach}
@@ -10,7 +13,16 @@ use Rattle.multiplier_search.specs.Sums.{AllNarrow, first_sums}
 use Rattle.multiplier_search.proofs.LiftedLaws.{next-step, least-found}
 use Rattle.multiplier_search.proofs.StartLaws.{first-met, first-most, start-most, start_under}
 use Rattle.multiplier_search.proofs.ClimbLaws.{first-narrow, fall-narrow}
+use Rattle.spin.proofs.DividedParts.{wrap}
 use Rattle.decoder.proofs.multiplier.least_multiplier.Goals as goal
+
+-- where the search starts
+first-is : (hs : List ℤ) (top : ℤ) (b : ℕ) → SFits w32 top → b ≡ first_step hs (wrap top) → b ≡ first_step hs top
+first-is hs top b f e = e ∙ ap (first_step hs) (to_z-of_z f)
+
+-- b is no more than lifts the greatest alone
+from_first : (hs : List ℤ) (top : ℤ) (first b : ℕ) → SFits w32 top → first ≡ first_step hs (wrap top) → b ≤ first → b ≤ nat_abs (pos reach -ℤ top)
+from_first hs top first b f e h = omega (arith, h, first-is hs top first f e, first-most hs top)
 
 pub first_step-b-requires : goal.first_step-b-requires
 first_step-b-requires c =
@@ -19,36 +31,33 @@ first_step-b-requires c =
 
 pub loop-top-init : goal.loop-top-init
 loop-top-init c =
-    let e = c.first_step-b.ensures ∙ ap (first_step c.args.heights.now) (to_z-of_z c.ranges.top) in
-    (omega arith, subst (λ b. reach ≤ sum_at c.args.heights.now b) (sym e) (first-met c.args.heights.now c.args.top c.requires))
+    let hs = c.args.heights.now in
+    (omega arith, subst (λ b. reach ≤ sum_at hs b) (sym (first-is hs c.args.top _ c.ranges.top c.first_step-b.ensures)) (first-met hs c.args.top c.requires))
 
 pub fall-d-requires : goal.fall-d-requires
 fall-d-requires c =
-    let from_first : c.loop-top.b ≤ nat_abs (pos reach -ℤ c.args.top) = let e = c.first_step-b.ensures ∙ ap (first_step c.args.heights.now) (to_z-of_z c.ranges.top) in
-    omega (arith, c.loop-top.invariant.0, e, first-most c.args.heights.now c.args.top) in
-    let hs = c.args.heights.now in (
+    let hs = c.args.heights.now in
+    let l = c.loop-top in
+    let most = from_first hs c.args.top _ l.b c.ranges.top c.first_step-b.ensures l.invariant.0 in (
       c.requires.few,
-      start_under hs c.args.top c.loop-top.b c.requires.most c.requires.high from_first,
-      c.loop-top.invariant.1,
-      fall-narrow hs c.args.top c.requires c.loop-top.b from_first,
+      start_under hs c.args.top l.b c.requires.most c.requires.high most,
+      l.invariant.1,
+      fall-narrow hs c.args.top c.requires l.b most,
     )
 
 pub returns-then-d-eq0 : goal.returns-then-d-eq0
 returns-then-d-eq0 c =
-    let from_first : c.loop-top.b ≤ nat_abs (pos reach -ℤ c.args.top) = let e = c.first_step-b.ensures ∙ ap (first_step c.args.heights.now) (to_z-of_z c.ranges.top) in
-    omega (arith, c.loop-top.invariant.0, e, first-most c.args.heights.now c.args.top) in
-    let bounded : c.loop-top.b ≤ step_limit = omega (arith, from_first, start-most c.args.top c.requires.low c.requires.high) in
+    let a = c.args in
     let l = c.loop-top in
-    least-found c.args.heights.now l.b c.fall-d.result l.invariant.1 bounded c.fall-d.ensures (omega arith)
+    let most : l.b ≤ nat_abs (pos reach -ℤ a.top) = from_first a.heights.now _ _ _ c.ranges.top c.first_step-b.ensures l.invariant.0 in
+    let bounded : l.b ≤ step_limit = omega (arith, most, start-most a.top c.requires.low c.requires.high) in
+    least-found a.heights.now l.b c.fall-d.result l.invariant.1 bounded c.fall-d.ensures (omega arith)
 
 pub overflow_sub-b : goal.overflow_sub-b
 overflow_sub-b c =
-    let turn : let d = c.fall-d.result in (d < c.loop-top.b) × (reach ≤ sum_at c.args.heights.now (c.loop-top.b - d)) = let l = c.loop-top in
-    next-step c.args.heights.now l.b c.fall-d.result l.invariant.1 c.requires.short c.fall-d.ensures in
-    omega (arith, turn.0)
+    let l = c.loop-top in
+    omega (arith, (next-step c.args.heights.now l.b c.fall-d.result l.invariant.1 c.requires.short c.fall-d.ensures).0)
 
 pub loop-top-preserved : goal.loop-top-preserved
 loop-top-preserved c =
-    let turn : let d = c.fall-d.result in (d < c.loop-top.b) × (reach ≤ sum_at c.args.heights.now (c.loop-top.b - d)) = let l = c.loop-top in
-    next-step c.args.heights.now l.b c.fall-d.result l.invariant.1 c.requires.short c.fall-d.ensures in
-    (omega arith, turn.1)
+    (omega arith, (next-step _ _ _ c.loop-top.invariant.1 c.requires.short c.fall-d.ensures).1)
