@@ -1,6 +1,6 @@
 -- `count_degrees` meets its contract: what is counted and the members from e on make each degree. Assumes nothing.
 use mathlib.Core.Path.{refl}
-use Prim.Native.Nat.{ℕ, ◌<◌}
+use Prim.Native.Nat.{ℕ}
 use native.Mathlib.Omega.{arith}
 use lib.ListN.{get_or, get_or-replicate}
 use Rattle.rules.specs.Limits.{max_bits}
@@ -13,17 +13,14 @@ loop-e-init c = (omega arith, (refl, λ i h. omega (arith, get_or-replicate {A =
 
 pub bounds-degrees-x : goal.bounds-degrees-x
 bounds-degrees-x c =
-    let inside : get_or c.args.members.now c.loop-e.e 0 < max_bits = below_at max_bits c.args.members.now c.loop-e.e (omega arith) c.requires.1 in
-    omega (arith, inside, c.loop-e.invariant.1.0)
+    omega (arith, below_at max_bits c.args.members.now c.loop-e.e (omega arith) c.requires.1, c.loop-e.invariant.1.0)
 
 pub overflow_add-degrees : goal.overflow_add-degrees
 overflow_add-degrees c =
-    let inside : get_or c.args.members.now c.loop-e.e 0 < max_bits = below_at max_bits c.args.members.now c.loop-e.e (omega arith) c.requires.1 in
     let members = c.args.members.now in
     let x = get_or members c.loop-e.e 0 in
-    omega (arith, c.loop-e.invariant.1.1 x inside, degree-length x members)
+    omega (arith, c.loop-e.invariant.1.1 x (below_at max_bits members c.loop-e.e (omega arith) c.requires.1), degree-length x members)
 
 pub bounds-degrees-x-in-loop-e : goal.bounds-degrees-x-in-loop-e
 bounds-degrees-x-in-loop-e c =
-    let inside : get_or c.args.members.now c.loop-e.e 0 < max_bits = below_at max_bits c.args.members.now c.loop-e.e (omega arith) c.requires.1 in
-    omega (arith, inside, c.loop-e.invariant.1.0)
+    omega (arith, below_at max_bits c.args.members.now c.loop-e.e (omega arith) c.requires.1, c.loop-e.invariant.1.0)
