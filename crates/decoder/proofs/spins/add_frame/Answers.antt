@@ -1,14 +1,13 @@
 -- `add_frame` meets its contract: the first i places hold the totals, and the others what came. Assumes nothing.
-use mathlib.Core.Path.{◌≡◌, sym, ◌∙◌, ap₂, subst}
+use mathlib.Core.Path.{sym, ◌∙◌, ap₂, subst}
 use Prim.Native.Nat.{◌<◌}
 use native.Mathlib.Omega.{arith}
 use lib.ListN.{length}
 use lib.IntN.{pos, ◌+ℤ◌}
 use mir.Syntax.{w16, w32}
-use mir.Val.{to_z, of_z}
 use mir.Facts.{to_z-of_z}
 use Rattle.integers.specs.Linear.{Within}
-use Rattle.integers.specs.Machine.{fit}
+use Rattle.integers.specs.Machine.{fit, reads}
 use Rattle.rules.specs.Limits.{frame_limit, sum_limit}
 use Rattle.rules.specs.Table.{at}
 use Rattle.rules.proofs.Optimal.{within-at}
@@ -19,25 +18,28 @@ use Rattle.decoder.proofs.spins.add_frame.Goals as goal
 
 pub total-requires : goal.total-requires
 total-requires c =
-    let number : let l = c.args.frame.now in let i = c.loop-i.i in to_z w16 (of_z w16 (at l i)) ≡ at l i = to_z-of_z (fit w16 (at c.args.frame.now c.loop-i.i) c.total-arg-1.given) in
-    let sum : let x = c.args.sums.now in let i = c.loop-i.i in to_z w32 (of_z w32 (at x i)) ≡ at x i = to_z-of_z (fit w32 (at c.args.sums.now c.loop-i.i) c.total-arg-in-loop-i-1.given) in (
-      subst (Within frame_limit) (sym number) (within-at frame_limit c.args.frame.now c.requires.2 c.loop-i.i),
-      subst (Within sum_limit) (sym sum) (within-at sum_limit c.args.sums.now c.requires.3 c.loop-i.i),
+    let l = c.args.frame.now in
+    let x = c.args.sums.now in
+    let i = c.loop-i.i in
+    let number = to_z-of_z (fit w16 (at l i) c.total-arg-1.given) in
+    let sum = to_z-of_z (fit w32 (at x i) c.total-arg-in-loop-i-1.given) in (
+      subst (Within frame_limit) (sym number) (within-at frame_limit l c.requires.2 i),
+      subst (Within sum_limit) (sym sum) (within-at sum_limit x c.requires.3 i),
     )
 
 pub loop-i-preserved : goal.loop-i-preserved
 loop-i-preserved c =
-    let inside : c.loop-i.i < length c.args.spins.now = omega (arith, c.loop-i-test.true, c.requires.0) in
-    let number : let l = c.args.frame.now in let i = c.loop-i.i in to_z w16 (of_z w16 (at l i)) ≡ at l i = to_z-of_z (fit w16 (at c.args.frame.now c.loop-i.i) c.total-arg-1.given) in
-    let sum : let x = c.args.sums.now in let i = c.loop-i.i in to_z w32 (of_z w32 (at x i)) ≡ at x i = to_z-of_z (fit w32 (at c.args.sums.now c.loop-i.i) c.total-arg-in-loop-i-1.given) in
     let l = c.args.frame.now in
     let x = c.args.sums.now in
     let i = c.loop-i.i in
+    let number = to_z-of_z (fit w16 (at l i) c.total-arg-1.given) in
+    let sum = to_z-of_z (fit w32 (at x i) c.total-arg-in-loop-i-1.given) in
+    let total = reads (fit w32 c.total.result c.total.type_inv) (c.total.ensures ∙ ap₂ ◌+ℤ◌ number sum) in
+    let inside : i < length c.args.spins.now = omega (arith, c.loop-i-test.true, c.requires.0) in
     let here : i < length x = omega (arith, inside, c.requires.1) in (
       omega (arith, inside),
       fill_more i (totals_of l x) c.args.spins.now c.loop-i.spins _ (pos 0) (omega (arith, here, first-length (length x) (λ i. at l i +ℤ at x i)))
-          (to_z-of_z (fit w32 c.total.result c.total.type_inv) ∙ c.total.ensures ∙ ap₂ ◌+ℤ◌ number sum ∙ sym (first-at (length x) (λ i. at l i +ℤ at x i) i here))
-          c.loop-i.invariant.1,
+          (total ∙ sym (first-at (length x) (λ i. at l i +ℤ at x i) i here)) c.loop-i.invariant.1,
     )
 
 pub returns : goal.returns
