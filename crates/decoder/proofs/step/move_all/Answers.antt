@@ -56,20 +56,20 @@ module _ {b m : ℕ} {ms : List ℕ} {z₀ v x₀ : List ℤ} (r : MoveFits b ms
       here : i < length v
       here = omega (arith, h, (moving-long r g).1)
 
-      added-fits : SFits w32 (weight (at y i) c)
-      added-fits = weight-fits r g here d copy offset
+      formed-fits : SFits w32 (weight (at y i) c)
+      formed-fits = weight-fits r g here d copy offset
 
       room : (get_or ms i 0 < length x) × SFits w32 (at x (get_or ms i 0) +ℤ wrap (weight (at y i) c))
       room = (
         inside r g here d copy offset,
-        subst (λ w. SFits w32 (at x (get_or ms i 0) +ℤ w)) (sym (to_z-of_z added-fits)) (sum_fits r g here d copy offset),
+        subst (λ w. SFits w32 (at x (get_or ms i 0) +ℤ w)) (sym (to_z-of_z formed-fits)) (sum_fits r g here d copy offset),
       )
 
       next : {z' y' x' : List ℤ} → z' ≡ set z i (wrap c) → y' ≡ set y i (wrap (left (at y i) c)) → x' ≡ set x (get_or ms i 0) (at x (get_or ms i 0) +ℤ wrap (weight (at y i) c))
           → Moving b m ms z₀ v x₀ (i + 1) z' y' x'
       next zs ys xs =
           let a = at x (get_or ms i 0) in
-          moving-next r g here d copy offset zs ys (xs ∙ ap (λ w. set x (get_or ms i 0) (a +ℤ w)) (to_z-of_z added-fits))
+          moving-next r g here d copy offset zs ys (xs ∙ ap (λ w. set x (get_or ms i 0) (a +ℤ w)) (to_z-of_z formed-fits))
 
 pub moved-z-requires : goal.moved-z-requires
 moved-z-requires c =
@@ -86,7 +86,7 @@ pub overflow_sub-z : goal.overflow_sub-z
 overflow_sub-z c =
     let value = fit w32 (at c.loop-i.offsets c.loop-i.i) c.v-1.given in
     let moved = fit w32 c.moved-z.result c.moved-z.type_inv in
-    added-fits c.requires c.loop-i.invariant value c.holds.ensures moved c.moved-z.ensures (omega arith)
+    formed-fits c.requires c.loop-i.invariant value c.holds.ensures moved c.moved-z.ensures (omega arith)
 
 pub add_at-requires : goal.add_at-requires
 add_at-requires c =

@@ -17,14 +17,8 @@ multiplier_for-b-requires c = λ f.
 
 pub move_all-requires : goal.move_all-requires
 move_all-requires c =
-    let a = c.args in
-    move_asks a.spins.now a.members.now a.copies.now a.offsets.now a.sums.now _ c.requires c.add_spins.ensures _ _
-    c.see-found.result.mask c.see-found.result.depth c.see-found.result.top c.see-found.ensures
-    c.multiplier_for-b.result c.multiplier_for-b.ensures
+    move_asks _ _ _ _ _ _ c.requires c.add_spins.ensures _ _ _ _ _ c.see-found.ensures _ c.multiplier_for-b.ensures
 
 pub returns : goal.returns
 returns c =
-    let a = c.args in
-    step_left a.spins.now a.members.now a.copies.now a.offsets.now a.sums.now _ c.requires c.add_spins.ensures _ _
-    c.see-found.result.mask c.see-found.result.depth c.see-found.result.top c.see-found.ensures
-    c.multiplier_for-b.result c.multiplier_for-b.ensures _ _ _ c.move_all.ensures
+    step_left _ _ _ _ _ _ c.requires c.add_spins.ensures _ _ _ _ _ c.see-found.ensures _ c.multiplier_for-b.ensures _ _ _ c.move_all.ensures
