@@ -19,8 +19,10 @@ loop-a-preserved c =
     let a = c.loop-a.a in
     let e = c.block_end-e.result in
     let in-totals : e ≤ length ts = omega (arith, c.block_end-e.ensures) in
-    let done = c.divide_block.ensures ∙ ap (quotients_over (part a e ds)) (ap (part a e) c.loop-a.invariant.1 ∙ fill-coming a e (quotients_over ds ts) ts) ∙ over-part ds ts a e in-totals in
-    (in-totals, fill-part a e (quotients_over ds ts) ts c.loop-a.totals _ (quotients-length _ ts) (omega (arith, c.block_end-e.ensures)) in-totals done c.loop-a.invariant.1)
+    let coming = ap (part a e) c.loop-a.invariant.1 ∙ fill-coming a e (quotients_over ds ts) ts in
+    let done = c.divide_block.ensures ∙ ap (quotients_over (part a e ds)) coming ∙ over-part ds ts a e in-totals in
+    let further : a ≤ e = omega (arith, c.block_end-e.ensures) in
+    (in-totals, fill-part a e (quotients_over ds ts) ts _ _ (quotients-length _ ts) further in-totals done c.loop-a.invariant.1)
 
 pub returns : goal.returns
 returns c =

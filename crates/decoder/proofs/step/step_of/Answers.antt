@@ -9,11 +9,9 @@ use Rattle.decoder.proofs.step.step_of.Goals as goal
 
 pub multiplier_for-b-requires : goal.multiplier_for-b-requires
 multiplier_for-b-requires c = λ f.
-    let a = c.args in
     let told = c.struct_told-1.given in
     subst (Rising _) (sym (to_z-of_z (fit w32 c.see-found.result.top search)))
-    (multiplier-asks a.spins.now a.members.now a.copies.now a.offsets.now a.sums.now _ c.requires c.add_spins.ensures _ _
-    c.see-found.result.mask c.see-found.result.depth c.see-found.result.top c.see-found.ensures f)
+    (multiplier-asks _ _ _ _ _ _ c.requires c.add_spins.ensures _ _ _ _ _ c.see-found.ensures f)
 
 pub move_all-requires : goal.move_all-requires
 move_all-requires c =
