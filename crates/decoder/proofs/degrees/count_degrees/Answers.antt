@@ -13,7 +13,7 @@ loop-e-init c = (omega arith, (refl, λ i h. omega (arith, get_or-replicate {A =
 
 pub bounds-degrees-x : goal.bounds-degrees-x
 bounds-degrees-x c =
-    omega (arith, below_at max_bits c.args.members.now c.loop-e.e (omega arith) c.requires.1, c.loop-e.invariant.1.0)
+    below_at max_bits c.args.members.now c.loop-e.e (omega arith) c.requires.1
 
 pub overflow_add-degrees : goal.overflow_add-degrees
 overflow_add-degrees c =
@@ -23,4 +23,4 @@ overflow_add-degrees c =
 
 pub bounds-degrees-x-in-loop-e : goal.bounds-degrees-x-in-loop-e
 bounds-degrees-x-in-loop-e c =
-    omega (arith, below_at max_bits c.args.members.now c.loop-e.e (omega arith) c.requires.1, c.loop-e.invariant.1.0)
+    below_at max_bits c.args.members.now c.loop-e.e (omega arith) c.requires.1

@@ -20,7 +20,7 @@ use Rattle.decoder.proofs.multiplier.least_multiplier.Goals as goal
 first-is : (hs : List ℤ) (top : ℤ) (b : ℕ) → SFits w32 top → b ≡ first_step hs (wrap top) → b ≡ first_step hs top
 first-is hs top b f e = e ∙ ap (first_step hs) (to_z-of_z f)
 
--- b is no more than lifts the greatest alone
+-- b is at most the step that lifts the greatest alone
 from_first : (hs : List ℤ) (top : ℤ) (first b : ℕ) → SFits w32 top → first ≡ first_step hs (wrap top) → b ≤ first → b ≤ nat_abs (pos reach -ℤ top)
 from_first hs top first b f e h = omega (arith, h, first-is hs top first f e, first-most hs top)
 
