@@ -1,93 +1,75 @@
 -- `add_edges` meets its contract: the first e edges are added, each at its member. Assumes nothing.
-use mathlib.Core.Path.{◌≡◌, sym, ◌∙◌, ap₂}
+use mathlib.Core.Path.{sym, ◌∙◌, ap₂}
+use mathlib.Core.Path.{◌≡◌}
 use mathlib.Core.List.{List}
-use Prim.Native.Nat.{ℕ, ◌<◌}
+use Prim.Native.Nat.{ℕ, ◌+◌, ◌<◌}
 use native.Mathlib.Omega.{arith}
-use lib.ListN.{length, get_or}
+use lib.ListN.{length, get_or, set}
 use lib.IntN.{ℤ, ◌+ℤ◌, ◌-ℤ◌}
 use mir.Syntax.{w32}
-use mir.Val.{to_z, of_z}
+use mir.Val.{SFits, to_z, of_z}
 use mir.Facts.{to_z-of_z}
-use Rattle.integers.specs.Machine.{fit, op_fits, raw}
+use Rattle.integers.specs.Machine.{fit, op_fits, reads}
 use Rattle.rules.specs.Table.{at}
 use Rattle.rules.specs.Step.{minus}
 use Rattle.rules.proofs.Duality.{below_at}
-use Rattle.rules.proofs.SumLaws.{added_none, added-fits, added_more, added-all}
+use Rattle.rules.specs.Scatter.{Added}
+use Rattle.rules.proofs.SumLaws.{added-fits, added_more, added-all}
+use Rattle.run.specs.Sums.{EdgesFit}
 use Rattle.run.proofs.SumsLaws.{weights-long, weight-at, weight-fits, weight-within}
 use Rattle.run.proofs.sums.add_edges.Goals as goal
 
-pub loop-e-init : goal.loop-e-init
-loop-e-init c = (omega arith, added_none c.requires.room)
+-- a number in 32 bits, read back
+abbrev wrap : ℤ → ℤ
+wrap z = to_z w32 (of_z w32 z)
 
-pub overflow_cast-x : goal.overflow_cast-x
-overflow_cast-x c = omega (arith, c.shared_slice_known-1.given c.loop-e.e)
+-- the weight of edge e, as the code forms it of a copy and an offset
+module _ {ms : List ℕ} {z y x₀ : List ℤ} (edges : EdgesFit ms z y x₀) (e : ℕ) where
+  abbrev weight : ℤ
+  weight = wrap (at z e) -ℤ wrap (at y e)
 
-pub bounds-copies-e : goal.bounds-copies-e
-bounds-copies-e c = omega (arith, c.requires.copies_long)
+  module _ (copy : SFits w32 (at z e)) (offset : SFits w32 (at y e)) where
+    less-fits : SFits w32 weight
+    less-fits = op_fits w32 ◌-ℤ◌ (to_z-of_z copy) (to_z-of_z offset) (weight-fits edges e)
 
-pub bounds-offsets-e : goal.bounds-offsets-e
-bounds-offsets-e c = omega (arith, c.requires.offsets_long)
+    weight_read : e < length ms → wrap weight ≡ at (minus z y) e
+    weight_read h = reads less-fits (ap₂ ◌-ℤ◌ (to_z-of_z copy) (to_z-of_z offset) ∙ sym (weight-at edges e h))
+
+-- edge e is added at its member
+module _ {ms : List ℕ} {z y x₀ x : List ℤ} {e : ℕ} (edges : EdgesFit ms z y x₀) (p : Added ms (minus z y) x₀ e x) (h : e < length ms) where
+  inside : get_or ms e 0 < length x
+  inside = omega (arith, p.long, below_at (length x₀) ms e h edges.below)
+
+  many : e < length (minus z y)
+  many = omega (arith, h, weights-long edges)
+
+  module _ (copy : SFits w32 (at z e)) (offset : SFits w32 (at y e)) (sum : SFits w32 (at x (get_or ms e 0))) where
+    sum-fits : SFits w32 (wrap (at x (get_or ms e 0)) +ℤ wrap (weight edges e))
+    sum-fits = op_fits w32 ◌+ℤ◌ (to_z-of_z sum) (weight_read edges e copy offset h) (added-fits p h many inside (weight-within edges e))
+
+    next : Added ms (minus z y) x₀ (e + 1) (set x (get_or ms e 0) (wrap (wrap (at x (get_or ms e 0)) +ℤ wrap (weight edges e))))
+    next = added_more p h many inside (weight-within edges e) (reads sum-fits (ap₂ ◌+ℤ◌ (to_z-of_z sum) (weight_read edges e copy offset h)))
 
 pub overflow_sub-sums : goal.overflow_sub-sums
-overflow_sub-sums c =
-    let copy_read : let z = at c.args.copies.now c.loop-e.e in to_z w32 (of_z w32 z) ≡ z = to_z-of_z (fit w32 _ c.sums-1.given) in
-    let offset_read : let y = at c.args.offsets.now c.loop-e.e in to_z w32 (of_z w32 y) ≡ y = to_z-of_z (fit w32 _ c.sums-in-loop-e-1.given) in
-    op_fits w32 ◌-ℤ◌ copy_read offset_read
-    (weight-fits c.requires c.loop-e.e)
-
-pub offset_bounds-sums-x : goal.offset_bounds-sums-x
-offset_bounds-sums-x c = omega (arith, c.shared_slice_known-1.given c.loop-e.e)
+overflow_sub-sums c = less-fits c.requires _ (fit w32 _ c.sums-1.given) (fit w32 _ c.sums-in-loop-e-1.given)
 
 pub slice_copy_out-sums : goal.slice_copy_out-sums
-slice_copy_out-sums c =
-    let member : ℕ = get_or c.args.members.now c.loop-e.e 0 in
-    let inside : member < length c.loop-e.sums = omega (arith, c.loop-e.invariant.1.long, below_at (length c.args.sums.now) c.args.members.now c.loop-e.e c.loop-e-test.true c.requires.below) in
-    inside
+slice_copy_out-sums c = inside c.requires c.loop-e.invariant.1 c.loop-e-test.true
 
 pub overflow_add-sums : goal.overflow_add-sums
 overflow_add-sums c =
-    let member : ℕ = get_or c.args.members.now c.loop-e.e 0 in
-    let inside : member < length c.loop-e.sums = omega (arith, c.loop-e.invariant.1.long, below_at (length c.args.sums.now) c.args.members.now c.loop-e.e c.loop-e-test.true c.requires.below) in
-    let weights : List ℤ = minus c.args.copies.now c.args.offsets.now in
-    let copy_read : let z = at c.args.copies.now c.loop-e.e in to_z w32 (of_z w32 z) ≡ z = to_z-of_z (fit w32 _ c.sums-1.given) in
-    let offset_read : let y = at c.args.offsets.now c.loop-e.e in to_z w32 (of_z w32 y) ≡ y = to_z-of_z (fit w32 _ c.sums-in-loop-e-1.given) in
-    let weight-read : to_z w32 (of_z w32 (raw ((op_fits w32 ◌-ℤ◌ copy_read offset_read
-    (weight-fits c.requires c.loop-e.e))))) ≡ at weights c.loop-e.e = to_z-of_z ((op_fits w32 ◌-ℤ◌ copy_read offset_read
-    (weight-fits c.requires c.loop-e.e))) ∙ ap₂ ◌-ℤ◌ copy_read offset_read
-    ∙ sym (weight-at c.requires c.loop-e.e c.loop-e-test.true) in
-    let total-read : let x = at c.loop-e.sums member in to_z w32 (of_z w32 x) ≡ x = to_z-of_z (fit w32 _ c.sums-in-loop-e-2-1.given) in
-    let many : c.loop-e.e < length weights = omega (arith, c.loop-e-test.true, weights-long c.requires) in
-    let loop = c.loop-e in
-    op_fits w32 ◌+ℤ◌ total-read weight-read (added-fits loop.invariant.1 c.loop-e-test.true many inside (weight-within c.requires loop.e))
+    sum-fits c.requires c.loop-e.invariant.1 c.loop-e-test.true
+    (fit w32 _ c.sums-1.given) (fit w32 _ c.sums-in-loop-e-1.given) (fit w32 _ c.sums-in-loop-e-2-1.given)
 
 pub bounds-sums-x : goal.bounds-sums-x
-bounds-sums-x c =
-    let member : ℕ = get_or c.args.members.now c.loop-e.e 0 in
-    let inside : member < length c.loop-e.sums = omega (arith, c.loop-e.invariant.1.long, below_at (length c.args.sums.now) c.args.members.now c.loop-e.e c.loop-e-test.true c.requires.below) in
-    inside
+bounds-sums-x c = inside c.requires c.loop-e.invariant.1 c.loop-e-test.true
 
 pub loop-e-preserved : goal.loop-e-preserved
-loop-e-preserved c =
-    let member : ℕ = get_or c.args.members.now c.loop-e.e 0 in
-    let inside : member < length c.loop-e.sums = omega (arith, c.loop-e.invariant.1.long, below_at (length c.args.sums.now) c.args.members.now c.loop-e.e c.loop-e-test.true c.requires.below) in
-    let weights : List ℤ = minus c.args.copies.now c.args.offsets.now in
-    let copy_read : let z = at c.args.copies.now c.loop-e.e in to_z w32 (of_z w32 z) ≡ z = to_z-of_z (fit w32 _ c.sums-1.given) in
-    let offset_read : let y = at c.args.offsets.now c.loop-e.e in to_z w32 (of_z w32 y) ≡ y = to_z-of_z (fit w32 _ c.sums-in-loop-e-1.given) in
-    let weight-read : to_z w32 (of_z w32 (raw ((op_fits w32 ◌-ℤ◌ copy_read offset_read
-    (weight-fits c.requires c.loop-e.e))))) ≡ at weights c.loop-e.e = to_z-of_z ((op_fits w32 ◌-ℤ◌ copy_read offset_read
-    (weight-fits c.requires c.loop-e.e))) ∙ ap₂ ◌-ℤ◌ copy_read offset_read
-    ∙ sym (weight-at c.requires c.loop-e.e c.loop-e-test.true) in
-    let total-read : let x = at c.loop-e.sums member in to_z w32 (of_z w32 x) ≡ x = to_z-of_z (fit w32 _ c.sums-in-loop-e-2-1.given) in
-    let many : c.loop-e.e < length weights = omega (arith, c.loop-e-test.true, weights-long c.requires) in
-    let loop = c.loop-e in (
-      omega arith,
-      added_more loop.invariant.1 c.loop-e-test.true many inside (weight-within c.requires loop.e)
-          (to_z-of_z ((let loop = c.loop-e in
-          op_fits w32 ◌+ℤ◌ total-read weight-read (added-fits loop.invariant.1 c.loop-e-test.true many inside (weight-within c.requires loop.e)))) ∙ ap₂ ◌+ℤ◌ total-read weight-read),
-    )
-
-pub shape_of-sums : goal.shape_of-sums
-shape_of-sums c = c.loop-e.invariant.1.long
+loop-e-preserved c = (
+  omega arith,
+  next c.requires c.loop-e.invariant.1 c.loop-e-test.true
+      (fit w32 _ c.sums-1.given) (fit w32 _ c.sums-in-loop-e-1.given) (fit w32 _ c.sums-in-loop-e-2-1.given),
+)
 
 pub returns : goal.returns
 returns c = added-all c.loop-e.invariant.1 c.loop-e-test.false
