@@ -13,6 +13,9 @@ use Rattle.rules.specs.Table.{Table, edges_of, checks_of}
 use Rattle.rules.specs.CodeFile.{contents, total_count, table_at, code_file, table_values, code_file_reply}
 use Rattle.rules.proofs.FileLaws.{bodies-length, edges-length}
 use Rattle.rules.proofs.Tables.{passed}
+use Rattle.table.specs.declared.Checked.{Checked}
+use Rattle.table.specs.declared.Checked.TheVariants.{Accepted}
+use Rattle.table.specs.Reply.{numbered}
 use Rattle.table.proofs.StageLaws.{sizes-most, starts-few}
 
 -- ---- from the code's n, m and E back to the file
@@ -57,6 +60,10 @@ no-values k (gives t) h v = absurd (let z : ◌≡◌ {A = ℕ} 0 1 = cc in omeg
 pub readable : (file : List ℕ) (n m e : ℕ) → record { number = 0; values = pos n ∷ pos m ∷ pos e ∷ [] } ≡ code_file_reply file → Readable file n m e
 unfolding code_file_reply
 readable file n m e h = values-table file n m e (code_file file) refl (ap (λ r. r.values) h)
+
+-- the same of an answer that is known to accept
+pub accepted : (file : List ℕ) {r : Checked} {n m e : ℕ} → r ≡ Accepted n m e → numbered r ≡ code_file_reply file → Readable file n m e
+accepted file h k = readable file _ _ _ (ap numbered (sym h) ∙ k)
 
 pub refused-is : (file : List ℕ) (k : ℕ) → record { number = k; values = [] } ≡ code_file_reply file → code_file file ≡ refused k
 unfolding code_file_reply

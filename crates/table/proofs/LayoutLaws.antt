@@ -5,7 +5,7 @@ use Prim.Native.Nat.{ℕ, zero, suc, ◌+◌, ◌-◌, ◌≤◌, ◌<◌}
 use native.Mathlib.Nat.{add_assoc, add_comm, add-sub_cancel_left}
 use native.Mathlib.Omega.{arith}
 use native.Mathlib.Numerals.{add-one}
-use lib.ListN.{length, get_or, take, drop, length-append, length-drop}
+use lib.ListN.{length, get_or, take, drop, replicate, length-append, length-drop, length-replicate}
 use lib.Seq.{take_at, drop_at, length-take-le}
 use Rattle.rules.specs.Limits.{max_bits, max_checks, max_degree, max_edges}
 use Rattle.rules.specs.Refusal.{refused, gives}
@@ -194,3 +194,9 @@ module _ (file s₀ ms₀ : List ℕ) (r : Checked) {s ms : List ℕ} (e : loade
       subst (λ x. Opened file n m k x.starts x.members) (sym slices)
       (subst (λ i. Opened file n m i left.starts left.members) (edges_are file n m k read)
       (subst (λ i. Opened file n i (edges_of t) left.starts left.members) (checks-are file n m k read) (laid-opened file t read.table s₀ ms₀ hs hm)))
+
+-- the same, of arrays as long as the limits ask
+pub opened-whole : (file : List ℕ) {r : Checked} {s ms : List ℕ} {n m e : ℕ}
+    → loaded_as (numbered r) s ms ≡ loaded file (replicate (max_checks + 1) 0) (replicate max_edges 0) → r ≡ Accepted n m e → Opened file n m e s ms
+opened-whole file {r} e h =
+    load-opened file _ _ r e (omega (arith, length-replicate {A = ℕ} (max_checks + 1) 0)) (omega (arith, length-replicate {A = ℕ} max_edges 0)) h
