@@ -133,6 +133,9 @@ with-more vs s v f p =
     }
 
 -- ---- the loop
+take_next : (v : List ℤ) (i : ℕ) → i < length v → take (i + 1) v ≡ take i v ++ (at v i ∷ [])
+take_next v i h = ap (λ n. take n v) (add-one i) ∙ take-suc v i (pos 0) h
+
 pub scanned-none : (s : Scan) → s.mask ≡ 0 → s.room ≡ 0 → s.top ≡ floor → s.place ≡ 0 → Scanned [] s
 scanned-none s m r t k = record { negative = m; total = r; high = t; peak = k }
 
@@ -140,7 +143,7 @@ pub scanned-more : (v : List ℤ) (i : ℕ) (s r : Scan) → i < length v → SF
     → Scanned (take (i + 1) v) r
 scanned-more v i s r h f p e =
     let x = at v i in
-    let next : take (i + 1) v ≡ take i v ++ (x ∷ []) = ap (λ n. take n v) (add-one i) ∙ take-suc v i (pos 0) h in
+    let next = take_next v i h in
     let place : length (take i v) ≡ i = length-take-le i v (omega arith) in
     subst (λ l. Scanned l r) (sym next)
     (subst (Scanned (take i v ++ (x ∷ []))) (ap (scanned s x (own_height x)) place ∙ sym e)
@@ -160,7 +163,7 @@ heights_to i v old = over (sights (take i v)) old
 pub heights-more : (v old now : List ℤ) (i : ℕ) (z : ℤ) → i < length v → i < length old → z ≡ own_height (at v i) → now ≡ heights_to i v old → set now i z ≡ heights_to (i + 1) v old
 heights-more v old now i z h k e q =
     let x = at v i in
-    let next : take (i + 1) v ≡ take i v ++ (x ∷ []) = ap (λ n. take n v) (add-one i) ∙ take-suc v i (pos 0) h in
+    let next = take_next v i h in
     let size : length (sights (take i v)) ≡ i = sights-length (take i v) ∙ length-take-le i v (omega arith) in
     ap₂ (λ l y. set l i y) q e
     ∙ over-more (sights (take i v)) old (own_height x) i size k

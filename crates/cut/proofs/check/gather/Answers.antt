@@ -1,6 +1,5 @@
 -- `gather` meets its contract: the first k values are the members' spins. Assumes nothing.
 use mathlib.Core.Path.{◌≡◌, ◌∙◌, ap}
-use Prim.Native.Nat.{◌<◌}
 use native.Mathlib.Omega.{arith}
 use lib.ListN.{length}
 use mir.Syntax.{w32}
@@ -12,16 +11,9 @@ use Rattle.rules.proofs.Duality.{below_at}
 use Rattle.cut.proofs.GatherLaws.{gather-more, gather-all}
 use Rattle.cut.proofs.check.gather.Goals as goal
 
-pub offset_bounds-spins-i : goal.offset_bounds-spins-i
-offset_bounds-spins-i c =
-    let reads-inside : c.wide-i.result < length c.args.spins.now = omega (arith, c.wide-i.ensures, below_at (length c.args.spins.now) c.args.members.now c.loop-k.k c.loop-k-test.true c.requires.1) in
-    let inside : c.wide-i.result < length c.args.spins.now = reads-inside in
-    search rules
-
 pub bounds-spins-i : goal.bounds-spins-i
 bounds-spins-i c =
-    let reads-inside : c.wide-i.result < length c.args.spins.now = omega (arith, c.wide-i.ensures, below_at (length c.args.spins.now) c.args.members.now c.loop-k.k c.loop-k-test.true c.requires.1) in
-    reads-inside
+    omega (arith, c.wide-i.ensures, below_at (length c.args.spins.now) c.args.members.now c.loop-k.k c.loop-k-test.true c.requires.1)
 
 pub loop-k-preserved : goal.loop-k-preserved
 loop-k-preserved c =

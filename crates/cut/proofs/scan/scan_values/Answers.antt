@@ -6,7 +6,7 @@ use lib.ListN.{length, take, length-set}
 use lib.Seq.{take_all}
 use lib.IntN.{ℤ, pos}
 use mir.Syntax.{w32}
-use mir.Val.{to_z, of_z}
+use mir.Val.{SFits, to_z, of_z}
 use mir.Facts.{to_z-of_z}
 use Rattle.integers.specs.Linear.{◌⩽◌}
 use Rattle.integers.specs.Machine.{fit}
@@ -18,6 +18,10 @@ use Rattle.cut.proofs.HeightLaws.{height-top}
 use Rattle.cut.proofs.ScanLaws.{scanned-none, scanned-more, heights-more, mask_fits, room_fits}
 use Rattle.cut.proofs.scan.scan_values.Goals as goal
 
+-- a value's height, both read back
+sight-is : {x h : ℤ} (y : ℤ) → SFits w32 h → h ≡ own_height y → y ≡ x → to_z w32 (of_z w32 h) ≡ own_height x
+sight-is y f e p = to_z-of_z f ∙ e ∙ ap own_height p
+
 pub loop-i-init : goal.loop-i-init
 loop-i-init c =
     let e = c.new-s.ensures in
@@ -25,9 +29,8 @@ loop-i-init c =
 
 pub with-s-requires : goal.with-s-requires
 with-s-requires c =
-    let value_at : ℤ = at c.args.v.now c.loop-i.i in
-    let value : to_z w32 (of_z w32 value_at) ≡ value_at = to_z-of_z (fit w32 value_at c.x-1.given) in
-    let sight : to_z w32 (of_z w32 c.height_of-h.result) ≡ own_height value_at = to_z-of_z (fit w32 c.height_of-h.result c.height_of-h.type_inv) ∙ c.height_of-h.ensures ∙ ap own_height value in
+    let value = to_z-of_z (fit w32 (at c.args.v.now c.loop-i.i) c.x-1.given) in
+    let sight = sight-is _ (fit w32 _ c.height_of-h.type_inv) c.height_of-h.ensures value in
     let args = c.args in
     let loop = c.loop-i in
     let inside : loop.i ≤ length args.v.now = omega arith in (
@@ -39,9 +42,8 @@ with-s-requires c =
 
 pub loop-i-preserved : goal.loop-i-preserved
 loop-i-preserved c =
-    let value_at : ℤ = at c.args.v.now c.loop-i.i in
-    let value : to_z w32 (of_z w32 value_at) ≡ value_at = to_z-of_z (fit w32 value_at c.x-1.given) in
-    let sight : to_z w32 (of_z w32 c.height_of-h.result) ≡ own_height value_at = to_z-of_z (fit w32 c.height_of-h.result c.height_of-h.type_inv) ∙ c.height_of-h.ensures ∙ ap own_height value in
+    let value = to_z-of_z (fit w32 (at c.args.v.now c.loop-i.i) c.x-1.given) in
+    let sight = sight-is _ (fit w32 _ c.height_of-h.type_inv) c.height_of-h.ensures value in
     let args = c.args in
     let loop = c.loop-i in
     let read = fit w32 (at args.v.now loop.i) c.x-1.given in (
