@@ -2,19 +2,19 @@
 use mathlib.Core.Path.{sym, ◌∙◌, ap}
 use Rattle.rules.proofs.Tables.{file-sound}
 use Rattle.table.specs.Reply.{numbered}
-use Rattle.table.proofs.AcceptedLaws.{readable, refused-is}
+use Rattle.table.proofs.AcceptedLaws.{accepted, refused-is}
 use Rattle.judge.proofs.StageLaws.{agreement-none, agreement-table}
 use Rattle.judge.proofs.agreement.Goals as goal
 
 pub agreement_table-requires : goal.agreement_table-requires
 agreement_table-requires c =
-    let accepted = readable _ _ _ _ (ap numbered (sym c.in-Accepted.is) ∙ c.check-answer.ensures) in
-    (file-sound _ _ accepted.table).bits.1
+    let known = accepted _ c.in-Accepted.is c.check-answer.ensures in
+    (file-sound _ _ known.table).bits.1
 
 pub returns-in-Refused : goal.returns-in-Refused
 returns-in-Refused c = agreement-none _ _ (refused-is _ _ (ap numbered (sym c.in-Refused.is) ∙ c.check-answer.ensures)) _ _
 
 pub returns-in-Accepted : goal.returns-in-Accepted
 returns-in-Accepted c =
-    let accepted = readable _ _ _ _ (ap numbered (sym c.in-Accepted.is) ∙ c.check-answer.ensures) in
-    c.agreement_table.ensures ∙ agreement-table _ _ accepted.table _ _
+    let known = accepted _ c.in-Accepted.is c.check-answer.ensures in
+    c.agreement_table.ensures ∙ agreement-table _ _ known.table _ _

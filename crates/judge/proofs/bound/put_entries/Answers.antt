@@ -35,14 +35,6 @@ put_entry-total-requires c =
       rows-room loop.invariant.1 (omega (arith, all.long.few)),
     )
 
-pub overflow_add-total : goal.overflow_add-total
-overflow_add-total c =
-    let loop = c.loop-k in
-    let put = c.put_entry-total in
-    let adds = entry-adds (c.requires.0.each loop.k c.loop-k-test.true) in
-    summed-fits row_limit loop.k _ put.result _ (fit w64 put.result put.type_inv)
-    (omega (arith, c.requires.0.long.few)) (refl, loop.invariant.1.sum) (sized put.ensures.prices adds.sum).1
-
 added-reads : (t : ℤ) {x : ℤ} → SFits w64 x → SFits w64 (t +ℤ to_z w64 (of_z w64 x)) → to_z w64 (of_z w64 (t +ℤ to_z w64 (of_z w64 x))) ≡ t +ℤ x
 added-reads t f g = reads g (ap (λ z. t +ℤ z) (to_z-of_z f))
 
