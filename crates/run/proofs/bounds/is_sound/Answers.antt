@@ -27,15 +27,16 @@ returns-then-not-all_within c = sound-copies _ _ _ _ _ _ (omega arith) (sym c.al
 
 pub returns-then-not-all_within-2 : goal.returns-then-not-all_within-2
 returns-then-not-all_within-2 c =
-    let offsets = offsets_are c.args.rounds c.args.offsets.now (omega arith) c.all_within-2.ensures ∙ c.if-not-all_within-2.true in
-    sound-offsets _ _ _ _ _ _ (omega arith) (sym c.all_within.ensures ∙ c.if-not-all_within.false) offsets
+    sound-offsets _ _ _ _ _ _ (omega arith) (sym c.all_within.ensures ∙ c.if-not-all_within.false)
+    (offsets_are c.args.rounds c.args.offsets.now (omega arith) c.all_within-2.ensures ∙ c.if-not-all_within-2.true)
 
 pub are_true-requires-clause-all_within : goal.are_true-requires-clause-all_within
-are_true-requires-clause-all_within c =
-    let offsets = offsets_are c.args.rounds c.args.offsets.now (omega arith) c.all_within-2.ensures ∙ c.if-not-all_within-2.false in
-    (each_all _ _ (sym c.all_within.ensures ∙ c.if-not-all_within.false), offsets-small _ _ (omega arith) offsets)
+are_true-requires-clause-all_within c = (
+  each_all _ _ (sym c.all_within.ensures ∙ c.if-not-all_within.false),
+  offsets-small _ _ (omega arith) (offsets_are c.args.rounds c.args.offsets.now (omega arith) c.all_within-2.ensures ∙ c.if-not-all_within-2.false),
+)
 
 pub returns : goal.returns
 returns c =
-    let offsets = offsets_are c.args.rounds c.args.offsets.now (omega arith) c.all_within-2.ensures ∙ c.if-not-all_within-2.false in
-    c.are_true.ensures ∙ sound-sums _ _ _ _ _ _ (omega arith) (sym c.all_within.ensures ∙ c.if-not-all_within.false) offsets
+    c.are_true.ensures ∙ sound-sums _ _ _ _ _ _ (omega arith) (sym c.all_within.ensures ∙ c.if-not-all_within.false)
+    (offsets_are c.args.rounds c.args.offsets.now (omega arith) c.all_within-2.ensures ∙ c.if-not-all_within-2.false)
