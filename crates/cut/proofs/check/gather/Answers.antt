@@ -1,5 +1,5 @@
 -- `gather` meets its contract: the first k values are the members' spins. Assumes nothing.
-use mathlib.Core.Path.{◌≡◌, ◌∙◌, ap}
+use mathlib.Core.Path.{◌∙◌, ap}
 use native.Mathlib.Omega.{arith}
 use lib.ListN.{length}
 use mir.Syntax.{w32}
@@ -8,7 +8,7 @@ use borrow.Author.Rules.{rules}
 use Rattle.integers.specs.Machine.{fit}
 use Rattle.rules.specs.Table.{at}
 use Rattle.rules.proofs.Duality.{below_at}
-use Rattle.cut.proofs.GatherLaws.{gather-more, gather-all}
+use Rattle.cut.proofs.GatherLaws.{gather-more}
 use Rattle.cut.proofs.check.gather.Goals as goal
 
 pub bounds-spins-i : goal.bounds-spins-i
@@ -25,9 +25,3 @@ loop-k-preserved c =
       gather-more (at args.spins.now) args.members.now args.values.now loop.values loop.k _ c.loop-k-test.true c.requires.0 loop.invariant.2
           (read ∙ ap (at args.spins.now) c.wide-i.ensures),
     )
-
-pub returns : goal.returns
-returns c =
-    let args = c.args in
-    let done : c.loop-k.k ≡ length args.members.now = omega arith in
-    c.loop-k.invariant.2 ∙ gather-all (at args.spins.now) args.members.now args.values.now c.loop-k.k done
