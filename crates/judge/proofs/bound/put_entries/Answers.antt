@@ -1,39 +1,18 @@
 -- `put_entries` meets its contract: what is put on and the entries from k on make the numbers and the sum of prices. Assumes nothing.
-use mathlib.Core.Path.{◌≡◌, refl, sym, ap, subst}
+use mathlib.Core.Path.{◌≡◌, refl, ap}
 use Prim.Native.Nat.{◌+◌}
 use native.Mathlib.Omega.{arith}
-use lib.IntN.{ℤ, ◌+ℤ◌, pos}
+use lib.IntN.{ℤ, ◌+ℤ◌}
 use mir.Syntax.{w64}
 use mir.Val.{SFits, to_z, of_z}
 use mir.Facts.{to_z-of_z}
 use Rattle.integers.specs.Machine.{fit, reads}
 use Rattle.integers.specs.Signed64.{sized, summed-fits}
 use Rattle.rules.specs.Limits.{row_limit}
-use Rattle.rules.specs.Certificate.{item_at, items_at}
-use Rattle.rules.specs.Scatter.{RowsPut}
-use Rattle.rules.proofs.BoundLaws.{rows_none, rows-room, rows_more, rows_end}
-use Rattle.judge.specs.Rows.{rows_in, rows_left, Placed}
-use Rattle.judge.proofs.RowLaws.{rows_next, rows-past, rows_all, entry-adds}
+use Rattle.rules.proofs.BoundLaws.{rows_more, rows_end}
+use Rattle.judge.specs.Rows.{rows_left}
+use Rattle.judge.proofs.RowLaws.{rows_next, rows-past, entry-adds}
 use Rattle.judge.proofs.bound.put_entries.Goals as goal
-
-pub loop-k-init : goal.loop-k-init
-loop-k-init c =
-    let args = c.args in
-    let all = rows_all args.starts.now args.members.now args.bytes.now args.q in
-    let rows = rows_in args.starts.now args.members.now (items_at args.bytes.now args.q 0 args.q) in
-    (omega arith, subst (λ left. RowsPut rows args.reduced.now 0 left args.reduced.now (pos 0)) all (rows_none c.requires.1))
-
-pub put_entry-total-requires : goal.put_entry-total-requires
-put_entry-total-requires c =
-    let args = c.args in
-    let loop = c.loop-k in
-    let test = c.loop-k-test.true in
-    let all = c.requires.0 in
-    let item = item_at args.bytes.now args.q loop.k in (
-      record { long = all.long; inside = test },
-      subst (λ n. Placed n args.starts.now args.members.now item) (sym loop.invariant.1.long) (all.each loop.k test),
-      rows-room loop.invariant.1 (omega (arith, all.long.few)),
-    )
 
 added-reads : (t : ℤ) {x : ℤ} → SFits w64 x → SFits w64 (t +ℤ to_z w64 (of_z w64 x)) → to_z w64 (of_z w64 (t +ℤ to_z w64 (of_z w64 x))) ≡ t +ℤ x
 added-reads t f g = reads g (ap (λ z. t +ℤ z) (to_z-of_z f))
