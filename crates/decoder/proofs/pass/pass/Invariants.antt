@@ -9,7 +9,10 @@ use Rattle.decoder.proofs.pass.pass.Given as goal
 
 abbrev pub invariant-loop-j : goal.invariant-loop-j
 invariant-loop-j l =
-    Passing (at l.spins) l.starts l.members (passed_to l.initial.copies l.initial.offsets l.initial.sums l.initial.multipliers l.initial.masks l.initial.depths) (passed_to l.copies l.offsets l.sums l.multipliers l.masks l.depths) l.j × (l.a ≡ get_or l.starts l.j 0)
+    let i = l.initial in
+    let before = passed_to i.copies i.offsets i.sums i.multipliers i.masks i.depths in
+    let now = passed_to l.copies l.offsets l.sums l.multipliers l.masks l.depths in
+    Passing (at l.spins) l.starts l.members before now l.j × (l.a ≡ get_or l.starts l.j 0)
 
 abbrev pub decreases-loop-j : goal.decreases-loop-j
 decreases-loop-j l = length l.starts - l.j

@@ -11,18 +11,6 @@ unfolding part
 step-entry-requires c =
     c.requires.step
 
-pub store-requires : goal.store-requires
-store-requires c =
-    c.requires.multiplier_there
-
-pub store-requires-2 : goal.store-requires-2
-store-requires-2 c =
-    c.requires.mask_there
-
-pub store-requires-3 : goal.store-requires-3
-store-requires-3 c =
-    c.requires.depth_there
-
 pub returns : goal.returns
 unfolding one_passed part splice
 returns c =
