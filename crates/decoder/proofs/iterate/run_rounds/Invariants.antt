@@ -7,7 +7,10 @@ use Rattle.decoder.proofs.iterate.run_rounds.Given as goal
 
 abbrev pub invariant-loop-k : goal.invariant-loop-k
 invariant-loop-k l =
-    Going (table_of (length l.frame) l.starts l.members) l.frame l.wanted (loop_in l.initial.at l.initial.spins l.initial.copies l.initial.offsets l.initial.sums l.initial.multipliers l.initial.masks l.initial.depths) l.k (loop_in l.at l.spins l.copies l.offsets l.sums l.multipliers l.masks l.depths)
+    let i = l.initial in
+    let before = loop_in i.at i.spins i.copies i.offsets i.sums i.multipliers i.masks i.depths in
+    let now = loop_in l.at l.spins l.copies l.offsets l.sums l.multipliers l.masks l.depths in
+    Going (table_of (length l.frame) l.starts l.members) l.frame l.wanted before l.k now
 
 abbrev pub decreases-loop-k : goal.decreases-loop-k
 decreases-loop-k l = l.k
