@@ -13,11 +13,6 @@ returns-then-mask-eq0 c =
     let a = c.args in
     put-none (row_of a.members.now a.b a.mask) a.mask c.if-mask-eq0.true
 
-pub price_of-requires : goal.price_of-requires
-price_of-requires c =
-    let fits = c.requires in
-    (fits.small, fits.few)
-
 pub returns : goal.returns
 returns c =
     let a = c.args in
