@@ -1,5 +1,5 @@
 -- `load` meets its contract: what is written and the frame from i on make the slice. Assumes nothing.
-use mathlib.Core.Path.{refl, sym, ◌∙◌}
+use mathlib.Core.Path.{sym, ◌∙◌}
 use native.Mathlib.Omega.{arith}
 use lib.ListN.{length-set}
 use lib.IntN.{pos}
@@ -28,6 +28,3 @@ returns c =
     let args = c.args in
     let loop = c.loop-i in
     sym (sets_end loop.numbers args.frame.now loop.i c.loop-i-test.false) ∙ loop.invariant.2 ∙ sets-all args.numbers.now args.frame.now c.requires
-
-pub loop-i-init : goal.loop-i-init
-loop-i-init c = (omega arith, refl, refl)
