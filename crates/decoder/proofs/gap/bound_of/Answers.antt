@@ -1,5 +1,5 @@
 -- `bound_of` meets its contract: the scattered numbers are the reduced numbers. Assumes nothing.
-use mathlib.Core.Path.{◌≡◌, refl, sym, ◌∙◌, ap, subst}
+use mathlib.Core.Path.{◌≡◌, refl, ◌∙◌, ap, subst}
 use Prim.Native.Nat.{◌*◌}
 use native.Mathlib.Omega.{arith}
 use lib.ListN.{length}
@@ -13,19 +13,8 @@ use Rattle.rules.specs.Limits.{max_bits, size_limit}
 use Rattle.rules.specs.Table.{at}
 use Rattle.rules.specs.Scatter.{Put}
 use Rattle.rules.proofs.BoundLaws.{scaled-once, bound-is}
-use Rattle.decoder.specs.Closing.{rows_on, RowsFit}
+use Rattle.decoder.specs.Closing.{rows_on}
 use Rattle.decoder.proofs.gap.bound_of.Goals as goal
-
-pub add_rows-prices-requires : goal.add_rows-prices-requires
-add_rows-prices-requires c =
-    let a = c.args in
-    subst (RowsFit a.starts.now a.members.now a.multipliers.now a.masks.now) (sym c.load.ensures) c.requires.0
-
-pub overflow_add-result : goal.overflow_add-result
-overflow_add-result c =
-    let sizes = c.sum_sizes in
-    let put = c.add_rows-prices in
-    plus-fits (fit w64 sizes.result sizes.type_inv) (fit w64 put.result put.type_inv) sizes.ensures.1 put.ensures.sum (omega arith)
 
 pub returns : goal.returns
 returns c =
