@@ -1,48 +1,29 @@
 -- `add_row_of` meets its contract: the members from k on, with what is left of the mask, make the whole row. Assumes nothing.
 use mathlib.Core.Path.{◌∙◌, ap}
-use Prim.Native.Nat.{◌<◌, ◌%◌}
+use Prim.Native.Nat.{◌%◌}
 use native.Mathlib.Omega.{arith}
-use lib.ListN.{length, get_or}
+use lib.ListN.{get_or}
 use lib.IntN.{pos, ◌+ℤ◌}
 use lib.Dec.{eqb}
 use mir.Syntax.{w64}
 use mir.Facts.{to_z-of_z}
 use Rattle.integers.specs.Machine.{fit}
-use Rattle.integers.specs.Signed64.{sized}
 use Rattle.rules.specs.Table.{at}
 use Rattle.rules.specs.Parity.{side}
 use Rattle.rules.proofs.Duality.{below_at}
-use Rattle.rules.proofs.BoundLaws.{members-none, members-room, members-more, members-end}
+use Rattle.rules.proofs.BoundLaws.{members-none, members-more, members-end}
 use Rattle.decoder.proofs.gap.add_row_of.Goals as goal
 
 pub loop-k-init : goal.loop-k-init
 loop-k-init c = (omega arith, members-none c.requires.sizes)
 
-pub overflow_cast-i : goal.overflow_cast-i
-overflow_cast-i c = omega (arith, c.shared_slice_known-in-loop-k-1.given c.loop-k.k)
-
-pub offset_bounds-numbers-i : goal.offset_bounds-numbers-i
-offset_bounds-numbers-i c = omega (arith, c.shared_slice_known-in-loop-k-1.given c.loop-k.k)
-
 pub slice_copy_out-weighted : goal.slice_copy_out-weighted
 slice_copy_out-weighted c =
-    let inside : get_or c.args.members.now c.loop-k.k 0 < length c.loop-k.numbers = omega (arith, c.loop-k.invariant.1.long, below_at (length c.args.numbers.now) c.args.members.now c.loop-k.k c.loop-k-test.true c.requires.inside) in
-    inside
-
-pub weighted-requires : goal.weighted-requires
-weighted-requires c =
-    let loop = c.loop-k in
-    let i = get_or c.args.members.now loop.k 0 in
-    let room = (members-room loop.invariant.1 c.loop-k-test.true c.requires.few).place i in
-    ((sized (to_z-of_z (fit w64 (at loop.numbers i) c.weighted-arg-1.given)) room).1, c.requires.small)
-
-pub offset_bounds-numbers-i-in-loop-k : goal.offset_bounds-numbers-i-in-loop-k
-offset_bounds-numbers-i-in-loop-k c = omega (arith, c.shared_slice_known-in-loop-k-1.given c.loop-k.k)
+    omega (arith, c.loop-k.invariant.1.long, below_at _ _ _ c.loop-k-test.true c.requires.inside)
 
 pub bounds-numbers-i : goal.bounds-numbers-i
 bounds-numbers-i c =
-    let inside : get_or c.args.members.now c.loop-k.k 0 < length c.loop-k.numbers = omega (arith, c.loop-k.invariant.1.long, below_at (length c.args.numbers.now) c.args.members.now c.loop-k.k c.loop-k-test.true c.requires.inside) in
-    inside
+    omega (arith, c.loop-k.invariant.1.long, below_at _ _ _ c.loop-k-test.true c.requires.inside)
 
 pub loop-k-preserved : goal.loop-k-preserved
 loop-k-preserved c =
@@ -52,9 +33,6 @@ loop-k-preserved c =
     let read = to_z-of_z (fit w64 (at loop.numbers (get_or args.members.now loop.k 0)) c.weighted-arg-1.given) in
     let sum = to_z-of_z (fit w64 c.weighted.result c.weighted.type_inv) ∙ c.weighted.ensures ∙ ap (λ z. z +ℤ w) read in
     (omega arith, members-more loop.invariant.1 _ c.loop-k-test.true c.requires.small sum)
-
-pub shape_of-numbers : goal.shape_of-numbers
-shape_of-numbers c = c.loop-k.invariant.1.long
 
 pub returns : goal.returns
 returns c = members-end c.loop-k.invariant.1 c.loop-k-test.false
