@@ -11,7 +11,10 @@ use Rattle.rules.specs.Cut.{negatives}
 use Rattle.decoder.proofs.gap.agreed.Given as goal
 
 abbrev pub invariant-loop-i : goal.invariant-loop-i
-invariant-loop-i l = (l.i ≤ length l.spins) × (l.sum ≡ sum_to l.i (λ k. turn (bit (negatives l.spins) k) (at l.frame k))) × Within (frame_size * l.i) l.sum
+invariant-loop-i l =
+    (l.i ≤ length l.spins)
+    × (l.sum ≡ sum_to l.i (λ k. turn (bit (negatives l.spins) k) (at l.frame k)))
+    × Within (frame_size * l.i) l.sum
 
 abbrev pub decreases-loop-i : goal.decreases-loop-i
 decreases-loop-i l = length l.spins - l.i
