@@ -14,18 +14,15 @@ use Rattle.decoder.specs.Closing.{rows_on}
 use Rattle.decoder.proofs.GapLaws.{rows_fit}
 use Rattle.decoder.proofs.gap.gap_in.Goals as goal
 
-pub overflow_sub-result : goal.overflow_sub-result
-overflow_sub-result c =
-    let least = c.bound_of-least in
-    less-fits (fit w64 least.result least.type_inv) (fit w64 c.agreed.result c.agreed.type_inv) least.ensures.1 c.agreed.ensures.1 (omega arith)
-
 pub returns : goal.returns
 returns c =
     let a = c.args in
     let l = a.frame.now in
     let least = c.bound_of-least in
     let rows = rows_on a.starts.now a.members.now a.multipliers.now a.masks.now in
-    less-reads (fit w64 least.result least.type_inv) (fit w64 c.agreed.result c.agreed.type_inv) (less-fits (fit w64 least.result least.type_inv) (fit w64 c.agreed.result c.agreed.type_inv) least.ensures.1 c.agreed.ensures.1 (omega arith))
+    let f = fit w64 least.result least.type_inv in
+    let g = fit w64 c.agreed.result c.agreed.type_inv in
+    less-reads f g (less-fits f g least.ensures.1 c.agreed.ensures.1 (omega arith))
     ∙ gap_is (length a.spins.now) 1 l rows (negatives a.spins.now)
     (least.ensures.0 ∙ ap (λ n. bound n 1 l rows) c.requires.gap_fits.frame_long) (c.agreed.ensures.0 ∙ once _)
 
