@@ -24,9 +24,9 @@ returns c =
     let put = c.add_rows-prices in
     let sizes = c.sum_sizes in
     let new = put.new.numbers in
-    let sum = plus-reads (fit w64 sizes.result sizes.type_inv) (fit w64 put.result put.type_inv) ((let sizes = c.sum_sizes in
-    let put = c.add_rows-prices in
-    plus-fits (fit w64 sizes.result sizes.type_inv) (fit w64 put.result put.type_inv) sizes.ensures.1 put.ensures.sum (omega arith))) in
+    let f = fit w64 sizes.result sizes.type_inv in
+    let g = fit w64 put.result put.type_inv in
+    let sum = plus-reads f g (plus-fits f g sizes.ensures.1 put.ensures.sum (omega arith)) in
     let long : length new ≡ length l = omega arith in
     let total = sizes.ensures.0 ∙ ap (λ n. sum_to n (λ i. abs (at new i))) long in
     let loaded = subst (λ z. Put rows z new put.result) c.load.ensures put.ensures.put in (
