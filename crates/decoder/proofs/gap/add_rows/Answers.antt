@@ -11,7 +11,7 @@ use Rattle.integers.specs.Signed64.{sized, summed-fits}
 use Rattle.rules.specs.Limits.{row_limit}
 use Rattle.rules.proofs.BoundLaws.{rows_none, rows-room, rows_more, rows_end}
 use Rattle.decoder.specs.Closing.{rows_left}
-use Rattle.decoder.proofs.GapLaws.{first-begins, rows-past, starts-in, few-rows, part-ends, multiplier-in, row_fits, step-adds, rows_next}
+use Rattle.decoder.proofs.GapLaws.{first-begins, rows-past, starts-in, few-rows, part-ends, row_fits, step-adds, rows_next}
 use Rattle.decoder.proofs.gap.add_rows.Goals as goal
 
 pub loop-j-init : goal.loop-j-init
@@ -23,26 +23,17 @@ pub bounds-starts-j : goal.bounds-starts-j
 bounds-starts-j c =
     starts-in c.requires c.loop-j.j c.loop-j-test.true
 
-pub overflow_cast-e : goal.overflow_cast-e
-overflow_cast-e c = omega (arith, c.shared_slice_known-in-loop-j-1.given (c.loop-j.j + 1))
-
-pub offset_bounds-members-a : goal.offset_bounds-members-a
-offset_bounds-members-a c = omega (arith, c.shared_slice_known-in-loop-j-1.given c.loop-j.j)
-
 pub slice_bounds-add_check-count : goal.slice_bounds-add_check-count
 slice_bounds-add_check-count c =
     (part-ends c.requires c.loop-j.j c.loop-j-test.true c.loop-j.invariant.2).0
 
 pub slice_bounds-add_check-start : goal.slice_bounds-add_check-start
-slice_bounds-add_check-start c = ((part-ends c.requires c.loop-j.j c.loop-j-test.true c.loop-j.invariant.2).0)
+slice_bounds-add_check-start c =
+    (part-ends c.requires c.loop-j.j c.loop-j-test.true c.loop-j.invariant.2).0
 
 pub slice_bounds-add_check-end : goal.slice_bounds-add_check-end
 slice_bounds-add_check-end c =
     (part-ends c.requires c.loop-j.j c.loop-j-test.true c.loop-j.invariant.2).1
-
-pub bounds-multipliers-j : goal.bounds-multipliers-j
-bounds-multipliers-j c =
-    multiplier-in c.requires c.loop-j.j c.loop-j-test.true
 
 pub add_check-sum-requires : goal.add_check-sum-requires
 add_check-sum-requires c =
@@ -50,15 +41,6 @@ add_check-sum-requires c =
     let fit = c.requires in
     let few = few-rows fit loop.j c.loop-j-test.true in
     row_fits fit loop.j c.loop-j-test.true loop.invariant.2 loop.invariant.1.long (rows-room loop.invariant.1 (omega (arith, few)))
-
-pub overflow_add-sum : goal.overflow_add-sum
-overflow_add-sum c =
-    let loop = c.loop-j in
-    let rows = c.requires in
-    let call = c.add_check-sum in
-    let few = few-rows rows loop.j c.loop-j-test.true in
-    summed-fits row_limit loop.j _ call.result _ (fit w64 call.result call.type_inv) (omega (arith, few)) (refl, loop.invariant.1.sum)
-    (sized call.ensures.prices (step-adds rows loop.j c.loop-j-test.true loop.invariant.2).sum).1
 
 added-reads : (t : ℤ) {x : ℤ} → SFits w64 x → SFits w64 (t +ℤ to_z w64 (of_z w64 x)) → to_z w64 (of_z w64 (t +ℤ to_z w64 (of_z w64 x))) ≡ t +ℤ x
 added-reads t f g = reads g (ap (λ z. t +ℤ z) (to_z-of_z f))
@@ -75,10 +57,9 @@ loop-j-preserved c =
     let fits = fit w64 call.result call.type_inv in
     let sum = added-reads _ fits (summed-fits row_limit j _ call.result _ fits (omega (arith, few)) (refl, loop.invariant.1.sum)
     (sized call.ensures.prices (step-adds c.requires j taken loop.invariant.2).sum).1) in
-    (omega (arith, taken), rows_more loop.invariant.1 rest (step-adds c.requires j taken loop.invariant.2) call.ensures (rows_next c.requires j taken loop.invariant.2) sum, refl)
-
-pub shape_of-numbers : goal.shape_of-numbers
-shape_of-numbers c = c.loop-j.invariant.1.long
+    let adds = step-adds c.requires j taken loop.invariant.2 in
+    let next = rows_next c.requires j taken loop.invariant.2 in
+    (omega (arith, taken), rows_more loop.invariant.1 rest adds call.ensures next sum, refl)
 
 pub returns : goal.returns
 returns c =
