@@ -12,18 +12,8 @@ use Rattle.integers.specs.Product.{abs}
 use Rattle.integers.specs.Sum.{sum_to}
 use Rattle.rules.specs.Limits.{max_bits, size_limit}
 use Rattle.rules.specs.Table.{at}
-use Rattle.integers.specs.Signed64.{sized, summed-fits, summed-next}
+use Rattle.integers.specs.Signed64.{summed-next}
 use Rattle.decoder.proofs.gap.sum_sizes.Goals as goal
-
-pub size-sum-requires : goal.size-sum-requires
-size-sum-requires c =
-    let loop = c.loop-i in
-    (sized (to_z-of_z (fit w64 (at c.args.numbers.now loop.i) (omega arith))) (c.requires.1.place loop.i)).1
-
-pub overflow_add-sum : goal.overflow_add-sum
-overflow_add-sum c =
-    let loop = c.loop-i in
-    summed-fits size_limit loop.i _ c.size-sum.result _ (fit w64 c.size-sum.result c.size-sum.type_inv) (omega arith) (loop.invariant.1, loop.invariant.2) c.size-sum.ensures.1
 
 pub loop-i-preserved : goal.loop-i-preserved
 loop-i-preserved c =
@@ -31,12 +21,15 @@ loop-i-preserved c =
     let r = c.args.numbers.now in
     let f : ℕ → ℤ = λ j. abs (at r j) in
     let is : c.size-sum.result ≡ f loop.i = c.size-sum.ensures.0 ∙ ap abs (to_z-of_z (fit w64 (at r loop.i) (omega arith))) in
-    let next = summed-next size_limit loop.i _ c.size-sum.result f (fit w64 c.size-sum.result c.size-sum.type_inv) (loop.invariant.1, loop.invariant.2) c.size-sum.ensures.1 is (omega arith) in
+    let fits = fit w64 c.size-sum.result c.size-sum.type_inv in
+    let next = summed-next size_limit loop.i _ c.size-sum.result f fits (loop.invariant.1, loop.invariant.2) c.size-sum.ensures.1 is (omega arith) in
     (omega arith, next.0, next.1)
 
 pub returns : goal.returns
 returns c =
     let loop = c.loop-i in
     let r = c.args.numbers.now in
-    let all : loop.i ≡ length r = omega arith in
-    (loop.invariant.1 ∙ ap (λ n. sum_to n (λ j. abs (at r j))) all, within_wider (size_limit * loop.i) (max_bits * size_limit) _ (omega arith) loop.invariant.2)
+    let all : loop.i ≡ length r = omega arith in (
+      loop.invariant.1 ∙ ap (λ n. sum_to n (λ j. abs (at r j))) all,
+      within_wider (size_limit * loop.i) (max_bits * size_limit) _ (omega arith) loop.invariant.2,
+    )
