@@ -10,4 +10,6 @@ pub returns-then-not-meets_checks : goal.returns-then-not-meets_checks
 returns-then-not-meets_checks c = none_found _ _ _ _ _ (sym c.meets_checks.ensures ∙ c.if-not-meets_checks.true)
 
 pub returns : goal.returns
-returns c = word-found _ _ _ _ _ _ (sym c.meets_checks.ensures ∙ c.if-not-meets_checks.false) (to_z-of_z (fit w64 c.gap_of.result c.gap_of.type_inv) ∙ c.gap_of.ensures)
+returns c =
+    let gap = to_z-of_z (fit w64 c.gap_of.result c.gap_of.type_inv) ∙ c.gap_of.ensures in
+    word-found _ _ _ _ _ _ (sym c.meets_checks.ensures ∙ c.if-not-meets_checks.false) gap
