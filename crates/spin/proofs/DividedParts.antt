@@ -1,5 +1,5 @@
 -- The parts of a division as the code forms them: each fits 32 bits, and which number each is. Assumes nothing.
-use mathlib.Core.Path.{◌≡◌, sym, ◌∙◌, ap₂, subst}
+use mathlib.Core.Path.{◌≡◌, sym, ◌∙◌, ap, ap₂, subst}
 use Prim.Native.Nat.{◌*◌, ◌/◌, ◌%◌, ◌≤◌}
 use native.Mathlib.Nat.{mod-le, mul-div-le}
 use lib.IntN.{ℤ, pos, neg_ℤ, nat_abs, ◌+ℤ◌, ◌-ℤ◌, ◌*ℤ◌}
@@ -7,9 +7,9 @@ use lib.Signed.{quot_z}
 use mir.Syntax.{w32}
 use mir.Val.{SFits, to_z, of_z}
 use mir.Facts.{to_z-of_z}
-use Rattle.integers.specs.Linear.{Within}
+use Rattle.integers.specs.Linear.{lin, arith_z, Within}
 use Rattle.integers.specs.Division.{div_z, signed-times, rest-is}
-use Rattle.integers.specs.Machine.{reads, op_fits, quot_fits, quot-div, signed-fits}
+use Rattle.integers.specs.Machine.{known, reads, op_fits, quot_fits, quot-div, signed-fits}
 use Rattle.rules.specs.Round.{divided}
 use Rattle.spin.specs.Spin.{Degree, Remainder, lacks}
 use Rattle.spin.proofs.SpinLaws.{degree-is, degree-some, degree-few, left, rounded, raised-fits, rounded-fits, left-small}
@@ -17,6 +17,18 @@ use Rattle.spin.proofs.SpinLaws.{degree-is, degree-some, degree-few, left, round
 -- a number in 32 bits, read back
 abbrev pub wrap : ℤ → ℤ
 wrap z = to_z w32 (of_z w32 z)
+
+-- what the halves are found by: twice a remainder, and a degree negated
+module _ {r d : ℤ} (h : Remainder r d) where
+  pub twice-reads : SFits w32 r → wrap (wrap r +ℤ wrap r) ≡ r +ℤ r
+  twice-reads f =
+      let fits : SFits w32 (wrap r +ℤ wrap r) = simp lin (omega (arith_z, known f, h.small)) in
+      reads fits (ap (λ z. z +ℤ z) (to_z-of_z f))
+
+  pub minus-reads : SFits w32 d → wrap (pos 0 -ℤ wrap d) ≡ pos 0 -ℤ d
+  minus-reads f =
+      let fits : SFits w32 (pos 0 -ℤ wrap d) = simp lin (omega (arith_z, known f, simp lin at h.degree.few)) in
+      reads fits (ap (λ z. pos 0 -ℤ z) (to_z-of_z f))
 
 module _ (t d : ℤ) (total : SFits w32 t) (degree : SFits w32 d) (g : Degree d) where
   abbrev quotient : ℤ

@@ -16,30 +16,19 @@ use Rattle.spin.proofs.clip_all.Goals as goal
 
 pub loop-i-preserved : goal.loop-i-preserved
 loop-i-preserved c =
-    let long : length c.loop-i.spins ≡ length c.args.spins.now = ap length c.loop-i.invariant.1 ∙ fill-length c.loop-i.i _ _ in
-    let old : at c.loop-i.spins c.loop-i.i ≡ at c.args.spins.now c.loop-i.i = ap (λ l. at l c.loop-i.i) c.loop-i.invariant.1 ∙ fill-at c.loop-i.i _ _ (pos 0) in
     let spins = c.args.spins.now in
-    let inside : c.loop-i.i < length spins = omega (arith, long) in
-    let read = to_z-of_z (fit w32 (at c.loop-i.spins c.loop-i.i) c.clip-arg-1.given) ∙ old in (
-      omega arith,
-      fill_more c.loop-i.i _ _ _ _ (pos 0) (omega (arith, clips-length unit spins))
-          (to_z-of_z (fit w32 c.clip.result c.clip.type_inv) ∙ c.clip.ensures ∙ ap (clip_z unit) read ∙ sym (clips-at unit spins c.loop-i.i inside)) c.loop-i.invariant.1,
-    )
+    let loop = c.loop-i in
+    let long = ap length loop.invariant.1 ∙ fill-length loop.i _ _ in
+    let old : at loop.spins loop.i ≡ at spins loop.i = ap (λ l. at l loop.i) loop.invariant.1 ∙ fill-at loop.i _ _ (pos 0) in
+    let inside : loop.i < length spins = omega (arith, long) in
+    let read = to_z-of_z (fit w32 (at loop.spins loop.i) c.clip-arg-1.given) ∙ old in
+    let made = to_z-of_z (fit w32 c.clip.result c.clip.type_inv) ∙ c.clip.ensures ∙ ap (clip_z unit) read ∙ sym (clips-at unit spins loop.i inside) in
+    (omega arith, fill_more loop.i _ _ _ _ (pos 0) (omega (arith, clips-length unit spins)) made loop.invariant.1)
 
 pub returns : goal.returns
 returns c =
-    let long : length c.loop-i.spins ≡ length c.args.spins.now = ap length c.loop-i.invariant.1 ∙ fill-length c.loop-i.i _ _ in
+    let long = ap length c.loop-i.invariant.1 ∙ fill-length c.loop-i.i _ _ in
     c.loop-i.invariant.1 ∙ fill-all c.loop-i.i _ _ (clips-length unit c.args.spins.now) (omega (arith, long))
 
 pub loop-i-init : goal.loop-i-init
 loop-i-init c = (omega arith, sym (fill_none _ _))
-
-pub loop-i-smaller : goal.loop-i-smaller
-loop-i-smaller c =
-    let long : length c.loop-i.spins ≡ length c.args.spins.now = ap length c.loop-i.invariant.1 ∙ fill-length c.loop-i.i _ _ in
-    omega (arith, long)
-
-pub shape_of-spins : goal.shape_of-spins
-shape_of-spins c =
-    let long : length c.loop-i.spins ≡ length c.args.spins.now = ap length c.loop-i.invariant.1 ∙ fill-length c.loop-i.i _ _ in
-    long

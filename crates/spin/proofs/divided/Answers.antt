@@ -5,22 +5,24 @@ use Rattle.spin.proofs.DividedParts.{remainder, raised-narrow, result-fits, resu
 use Rattle.spin.proofs.divided.Goals as goal
 
 pub half_above-requires : goal.half_above-requires
-half_above-requires c = remainder c.args.total c.args.d c.ranges.total c.ranges.d c.requires
+half_above-requires c = remainder _ _ c.ranges.total c.ranges.d c.requires
 
 pub overflow_add-result : goal.overflow_add-result
-overflow_add-result c = raised-narrow c.args.total c.args.d c.ranges.total c.ranges.d c.requires c.half_above.result (fit w32 c.half_above.result c.half_above.type_inv) c.half_above.ensures
+overflow_add-result c =
+    let a = c.half_above in
+    raised-narrow _ _ c.ranges.total c.ranges.d c.requires _ (fit w32 a.result a.type_inv) a.ensures
 
 pub half_below-requires : goal.half_below-requires
-half_below-requires c = remainder c.args.total c.args.d c.ranges.total c.ranges.d c.requires
+half_below-requires c = remainder _ _ c.ranges.total c.ranges.d c.requires
 
 pub overflow_sub-result : goal.overflow_sub-result
 overflow_sub-result c =
-    result-fits c.args.total c.args.d c.ranges.total c.ranges.d c.requires
-    c.half_above.result c.half_below.result (fit w32 c.half_above.result c.half_above.type_inv) (fit w32 c.half_below.result c.half_below.type_inv)
-    c.half_above.ensures c.half_below.ensures
+    let a = c.half_above in
+    let b = c.half_below in
+    result-fits _ _ c.ranges.total c.ranges.d c.requires _ _ (fit w32 a.result a.type_inv) (fit w32 b.result b.type_inv) a.ensures b.ensures
 
 pub returns : goal.returns
 returns c =
-    result-right c.args.total c.args.d c.ranges.total c.ranges.d c.requires
-    c.half_above.result c.half_below.result (fit w32 c.half_above.result c.half_above.type_inv) (fit w32 c.half_below.result c.half_below.type_inv)
-    c.half_above.ensures c.half_below.ensures
+    let a = c.half_above in
+    let b = c.half_below in
+    result-right _ _ c.ranges.total c.ranges.d c.requires _ _ (fit w32 a.result a.type_inv) (fit w32 b.result b.type_inv) a.ensures b.ensures

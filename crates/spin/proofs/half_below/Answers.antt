@@ -1,13 +1,9 @@
 -- `half_below` meets its contract. Assumes nothing.
-use mathlib.Core.Path.{ap}
 use lib.IntN.{ℤ, pos, neg_ℤ, ◌+ℤ◌, ◌-ℤ◌}
 use lib.Signed.{◌<ℤ◌}
-use mir.Syntax.{w32}
-use mir.Val.{SFits, to_z, of_z}
-use mir.Facts.{to_z-of_z}
 use Rattle.integers.specs.Linear.{lin, arith_z, ◌⩽◌}
-use Rattle.integers.specs.Machine.{known, reads}
 use Rattle.spin.proofs.SpinLaws.{at_most, above, lacks-one, lacks-none}
+use Rattle.spin.proofs.DividedParts.{twice-reads, minus-reads}
 use Rattle.spin.proofs.half_below.Goals as goal
 
 turned : (r d : ℤ) → r +ℤ r ⩽ pos 0 -ℤ d → d ⩽ neg_ℤ r +ℤ neg_ℤ r
@@ -18,16 +14,10 @@ turned-above r d = simp lin (omega arith_z)
 
 pub returns : goal.returns
 returns c =
-    let r = c.args.r in
-    let d = c.args.d in
-    let twice_fits : SFits w32 (to_z w32 (of_z w32 r) +ℤ to_z w32 (of_z w32 r)) = simp lin (omega (arith_z, known c.ranges.r, c.requires.small)) in
-    let minus_fits : SFits w32 (pos 0 -ℤ to_z w32 (of_z w32 d)) = simp lin (omega (arith_z, known c.ranges.d, simp lin at c.requires.degree.few)) in
-    lacks-none (neg_ℤ r) d (turned-above r d (above (reads twice_fits (ap (λ z. z +ℤ z) (to_z-of_z c.ranges.r))) (reads minus_fits (ap (λ z. pos 0 -ℤ z) (to_z-of_z c.ranges.d))) c.if-r-d.false))
+    let more = above (twice-reads c.requires c.ranges.r) (minus-reads c.requires c.ranges.d) c.if-r-d.false in
+    lacks-none (neg_ℤ c.args.r) c.args.d (turned-above _ _ more)
 
 pub returns-then-r-d : goal.returns-then-r-d
 returns-then-r-d c =
-    let r = c.args.r in
-    let d = c.args.d in
-    let twice_fits : SFits w32 (to_z w32 (of_z w32 r) +ℤ to_z w32 (of_z w32 r)) = simp lin (omega (arith_z, known c.ranges.r, c.requires.small)) in
-    let minus_fits : SFits w32 (pos 0 -ℤ to_z w32 (of_z w32 d)) = simp lin (omega (arith_z, known c.ranges.d, simp lin at c.requires.degree.few)) in
-    lacks-one (neg_ℤ r) d (turned r d (at_most (reads twice_fits (ap (λ z. z +ℤ z) (to_z-of_z c.ranges.r))) (reads minus_fits (ap (λ z. pos 0 -ℤ z) (to_z-of_z c.ranges.d))) c.if-r-d.true))
+    let less = at_most (twice-reads c.requires c.ranges.r) (minus-reads c.requires c.ranges.d) c.if-r-d.true in
+    lacks-one (neg_ℤ c.args.r) c.args.d (turned _ _ less)

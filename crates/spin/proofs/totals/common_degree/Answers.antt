@@ -1,15 +1,11 @@
 -- `common_degree` meets its contract. Assumes nothing.
 use mathlib.Core.Path.{sym, ◌∙◌}
-use native.Mathlib.Omega.{arith}
 use Rattle.spin.proofs.TotalsLaws.{common-none, common-is, common-differs}
 use Rattle.spin.proofs.totals.common_degree.Goals as goal
 
 pub returns-then-degrees-eq0 : goal.returns-then-degrees-eq0
 returns-then-degrees-eq0 c =
     sym (common-none c.args.degrees.now c.if-degrees-eq0.true)
-
-pub bounds-degrees-0 : goal.bounds-degrees-0
-bounds-degrees-0 c = omega (arith, c.if-degrees-eq0.false)
 
 pub returns-then-all_are : goal.returns-then-all_are
 returns-then-all_are c =

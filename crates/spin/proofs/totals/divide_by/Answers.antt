@@ -1,5 +1,5 @@
 -- `divide_by` meets its contract: the first i places are divided, and the others still as they came. Assumes nothing.
-use mathlib.Core.Path.{◌≡◌, sym, ◌∙◌, ap}
+use mathlib.Core.Path.{sym, ◌∙◌, ap}
 use Prim.Native.Nat.{◌<◌}
 use native.Mathlib.Omega.{arith}
 use lib.ListN.{length}
@@ -14,7 +14,7 @@ use Rattle.spin.proofs.totals.divide_by.Goals as goal
 
 pub loop-i-preserved : goal.loop-i-preserved
 loop-i-preserved c =
-    let long : length c.loop-i.totals ≡ length c.args.totals.now = ap length c.loop-i.invariant.1 ∙ fill-length c.loop-i.i _ _ in
+    let long = ap length c.loop-i.invariant.1 ∙ fill-length c.loop-i.i _ _ in
     let ts = c.args.totals.now in
     let d = c.args.d in
     let inside : c.loop-i.i < length ts = omega (arith, long) in
@@ -24,18 +24,8 @@ loop-i-preserved c =
 
 pub returns : goal.returns
 returns c =
-    let long : length c.loop-i.totals ≡ length c.args.totals.now = ap length c.loop-i.invariant.1 ∙ fill-length c.loop-i.i _ _ in
+    let long = ap length c.loop-i.invariant.1 ∙ fill-length c.loop-i.i _ _ in
     c.loop-i.invariant.1 ∙ fill-all c.loop-i.i _ _ (quotients-length _ _) (omega (arith, long))
 
 pub loop-i-init : goal.loop-i-init
 loop-i-init c = (omega arith, sym (fill_none _ _))
-
-pub loop-i-smaller : goal.loop-i-smaller
-loop-i-smaller c =
-    let long : length c.loop-i.totals ≡ length c.args.totals.now = ap length c.loop-i.invariant.1 ∙ fill-length c.loop-i.i _ _ in
-    omega (arith, long)
-
-pub shape_of-totals : goal.shape_of-totals
-shape_of-totals c =
-    let long : length c.loop-i.totals ≡ length c.args.totals.now = ap length c.loop-i.invariant.1 ∙ fill-length c.loop-i.i _ _ in
-    long
