@@ -1,4 +1,3 @@
 pub mod SpinLaws
-pub mod EveryLaws
 pub mod TotalsLaws
 pub mod DividedParts
