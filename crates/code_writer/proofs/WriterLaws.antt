@@ -17,10 +17,6 @@ use Rattle.rules.proofs.FileBytesLaws.{bytes-length, content-length, file-length
 use Rattle.rules.proofs.StoreLaws.{drop-next, sets-next, sets_over}
 use Rattle.code_writer.specs.Written.{Filled, filled_by, file_written}
 
--- ---- one check's content
-pub content-put : (l l1 l2 : List ℕ) (i s d : ℕ) → l1 ≡ sets l i (le16 s) → l2 ≡ sets l1 (i + 2) (le16 d) → l2 ≡ sets l i (bytes16 (s ∷ d ∷ []))
-content-put l l1 l2 i s d e1 e2 = e2 ∙ sets-next l l1 i (i + 2) (le16 s) (le16 d) e1 refl
-
 -- ---- what is left to write of the contents, from check j on, the first start s
 abbrev pub contents_left : List ℕ → ℕ → ℕ → List ℕ
 contents_left ds j s = bytes16 (content_numbers s (drop j ds))
@@ -73,7 +69,8 @@ module _ (n : ℕ) (ds ms old : List ℕ) where
   tested : Bool → Bool → Bool → Filled
   tested few small room = filled_by (must few size_range (must small start_wrong (must room buffer_short (gives (file_from n ds ms))))) old
 
-  tested-is : (few small room : Bool) → leb (length ds) max_checks ≡ few → leb (length ms) max_edges ≡ small → leb size (length old) ≡ room → file_written n ds ms old ≡ tested few small room
+  tested-is : (few small room : Bool) → leb (length ds) max_checks ≡ few → leb (length ms) max_edges ≡ small → leb size (length old) ≡ room
+      → file_written n ds ms old ≡ tested few small room
   unfolding file_written tested
   tested-is few small room p q r = ap (λ x. tested x (leb (length ms) max_edges) (leb size (length old))) p ∙ ap₂ (tested few) q r
 

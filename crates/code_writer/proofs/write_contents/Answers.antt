@@ -1,5 +1,5 @@
 -- `write_contents` meets its contract: what is written and the contents from check j on make the slice. Assumes nothing.
-use mathlib.Core.Path.{refl, ◌∙◌}
+use mathlib.Core.Path.{◌∙◌}
 use Prim.Native.Nat.{◌+◌, ◌*◌, ◌<◌}
 use native.Mathlib.Omega.{arith}
 use lib.ListN.{length}
@@ -22,6 +22,3 @@ returns c =
     let args = c.args in
     let loop = c.loop-j in
     content-end loop.file args.counts.now (4 + 4 * loop.j) loop.j loop.start c.loop-j-test.false ∙ loop.invariant.3
-
-pub loop-j-init : goal.loop-j-init
-loop-j-init c = (omega arith, omega arith, refl, refl)

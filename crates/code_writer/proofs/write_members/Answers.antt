@@ -1,8 +1,7 @@
 -- `write_members` meets its contract: what is written and the members from k on make the slice. Assumes nothing.
-use mathlib.Core.Path.{refl, ◌∙◌}
+use mathlib.Core.Path.{◌∙◌}
 use Prim.Native.Nat.{◌+◌, ◌*◌, ◌<◌}
 use native.Mathlib.Omega.{arith}
-use native.Mathlib.Nat.{add-zero}
 use lib.ListN.{length}
 use borrow.Author.Rules.{rules}
 use Rattle.code_writer.proofs.WriterLaws.{member-more, member-end}
@@ -23,6 +22,3 @@ returns c =
     let args = c.args in
     let loop = c.loop-k in
     member-end loop.file args.members.now (args.from + 2 * loop.k) loop.k c.loop-k-test.false ∙ loop.invariant.2
-
-pub loop-k-init : goal.loop-k-init
-loop-k-init c = (omega arith, refl, simp add-zero)

@@ -8,7 +8,9 @@ use Rattle.code_writer.proofs.write_members.Given as goal
 
 abbrev pub invariant-loop-k : goal.invariant-loop-k
 invariant-loop-k l =
-    (l.k ≤ length l.members) × (length l.file ≡ length l.initial.file) × (sets l.file (l.from + 2 * l.k) (bytes16 (drop l.k l.members)) ≡ sets l.initial.file l.from (bytes16 l.members))
+    (l.k ≤ length l.members)
+    × (length l.file ≡ length l.initial.file)
+    × (sets l.file (l.from + 2 * l.k) (bytes16 (drop l.k l.members)) ≡ sets l.initial.file l.from (bytes16 l.members))
 
 abbrev pub decreases-loop-k : goal.decreases-loop-k
 decreases-loop-k l = length l.members - l.k
