@@ -8,7 +8,8 @@ use Rattle.rules.proofs.AnnouncedLaws.{announced-most}
 use Rattle.reporting.specs.ReadOn.{file_limit, between, ReadOn}
 
 -- got of what is handed on
-pub on-to : (size end got : ℕ) (old new : List ℕ) → size < end → end ≤ length old → got ≤ length new → length new ≡ length (between size end old) → size + got ≤ max size end
+pub on-to : (size end got : ℕ) (old new : List ℕ) → size < end → end ≤ length old → got ≤ length new → length new ≡ length (between size end old)
+    → size + got ≤ max size end
 on-to size end got old new h k g e = omega (arith, length-take (end - size) (drop size old), length-drop size old)
 
 pub read-most : (size r : ℕ) (new old : List ℕ) → size ≤ file_limit → ReadOn size r new old → r ≤ file_limit

@@ -111,7 +111,8 @@ module _ (file : List ℕ) (l : List ℤ) (b : Buffers) (h : max_edges ≤ lengt
         ∙ ap (λ x. record { answer = refused j; rounds = 0; word = x.buffers.word; certificate = x.buffers.certificate }) (sym (stayed file b h k i j bad))
         ∙ ap (λ a. ran_of (call_by l round_limit (started_run file b) a)) (sym bad)
 
-    pub ran-started : (r : Record) (c : Called) → s ≡ Fresh r → c ≡ call file l round_limit (record { progress = progress_of r; buffers = with_started b d }) → ran_of c ≡ fresh_ran file l b
+    pub ran-started : (r : Record) (c : Called) → s ≡ Fresh r → c ≡ call file l round_limit (record { progress = progress_of r; buffers = with_started b d })
+        → ran_of c ≡ fresh_ran file l b
     unfolding fresh_ran lends
     ran-started r c p q =
         ap ran_of q

@@ -7,7 +7,9 @@ pub slice_bounds-word-end : goal.slice_bounds-word-end
 slice_bounds-word-end c = omega (arith, certified-short _ _ c.decode-called.result _ _ c.decode-called.ensures c.in-Certified.is)
 
 pub slice_bounds-certified_line-end : goal.slice_bounds-certified_line-end
-slice_bounds-certified_line-end c = simp length-take (omega (arith, certified-short _ _ c.decode-called.result _ _ c.decode-called.ensures c.in-Certified.is))
+slice_bounds-certified_line-end c =
+    let short = certified-short _ _ c.decode-called.result _ _ c.decode-called.ensures c.in-Certified.is in
+    simp length-take (omega (arith, short))
 
 pub returns-in-Refused : goal.returns-in-Refused
 returns-in-Refused c = line_of _ _ c.decode-called.result _ _ c.decode-called.ensures _ c.in-Refused.is
