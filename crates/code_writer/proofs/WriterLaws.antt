@@ -17,6 +17,10 @@ use Rattle.rules.proofs.FileBytesLaws.{bytes-length, content-length, file-length
 use Rattle.rules.proofs.StoreLaws.{drop-next, sets-next, sets_over}
 use Rattle.code_writer.specs.Written.{Filled, filled_by, file_written}
 
+-- ---- one check's content
+pub content-put : (l l1 l2 : List ℕ) (i s d : ℕ) → l1 ≡ sets l i (le16 s) → l2 ≡ sets l1 (i + 2) (le16 d) → l2 ≡ sets l i (bytes16 (s ∷ d ∷ []))
+content-put l l1 l2 i s d e1 e2 = e2 ∙ sets-next l l1 i (i + 2) (le16 s) (le16 d) e1 refl
+
 -- ---- what is left to write of the contents, from check j on, the first start s
 abbrev pub contents_left : List ℕ → ℕ → ℕ → List ℕ
 contents_left ds j s = bytes16 (content_numbers s (drop j ds))

@@ -1,3 +1,4 @@
 pub mod SpinLaws
+pub mod EveryLaws
 pub mod TotalsLaws
 pub mod DividedParts

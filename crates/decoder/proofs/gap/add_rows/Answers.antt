@@ -1,13 +1,10 @@
 -- `add_rows` meets its contract: the rows from check j on, and the prices summed, make the whole. Assumes nothing.
-use mathlib.Core.Path.{◌≡◌, refl, ap}
+use mathlib.Core.Path.{refl}
 use Prim.Native.Nat.{◌+◌}
 use native.Mathlib.Omega.{arith}
-use lib.IntN.{ℤ, ◌+ℤ◌}
 use mir.Syntax.{w64}
-use mir.Val.{SFits, to_z, of_z}
-use mir.Facts.{to_z-of_z}
-use Rattle.integers.specs.Machine.{fit, reads}
-use Rattle.integers.specs.Signed64.{sized, summed-fits}
+use Rattle.integers.specs.Machine.{fit}
+use Rattle.integers.specs.Signed64.{sized, summed-fits, added-reads}
 use Rattle.rules.specs.Limits.{row_limit}
 use Rattle.rules.proofs.BoundLaws.{rows_none, rows-room, rows_more, rows_end}
 use Rattle.decoder.specs.Closing.{rows_left}
@@ -41,9 +38,6 @@ add_check-sum-requires c =
     let fit = c.requires in
     let few = few-rows fit loop.j c.loop-j-test.true in
     row_fits fit loop.j c.loop-j-test.true loop.invariant.2 loop.invariant.1.long (rows-room loop.invariant.1 (omega (arith, few)))
-
-added-reads : (t : ℤ) {x : ℤ} → SFits w64 x → SFits w64 (t +ℤ to_z w64 (of_z w64 x)) → to_z w64 (of_z w64 (t +ℤ to_z w64 (of_z w64 x))) ≡ t +ℤ x
-added-reads t f g = reads g (ap (λ z. t +ℤ z) (to_z-of_z f))
 
 pub loop-j-preserved : goal.loop-j-preserved
 loop-j-preserved c =

@@ -1,21 +1,15 @@
 -- `put_entries` meets its contract: what is put on and the entries from k on make the numbers and the sum of prices. Assumes nothing.
-use mathlib.Core.Path.{◌≡◌, refl, ap}
+use mathlib.Core.Path.{refl}
 use Prim.Native.Nat.{◌+◌}
 use native.Mathlib.Omega.{arith}
-use lib.IntN.{ℤ, ◌+ℤ◌}
 use mir.Syntax.{w64}
-use mir.Val.{SFits, to_z, of_z}
-use mir.Facts.{to_z-of_z}
-use Rattle.integers.specs.Machine.{fit, reads}
-use Rattle.integers.specs.Signed64.{sized, summed-fits}
+use Rattle.integers.specs.Machine.{fit}
+use Rattle.integers.specs.Signed64.{sized, summed-fits, added-reads}
 use Rattle.rules.specs.Limits.{row_limit}
 use Rattle.rules.proofs.BoundLaws.{rows_more, rows_end}
 use Rattle.judge.specs.Rows.{rows_left}
 use Rattle.judge.proofs.RowLaws.{rows_next, rows-past, entry-adds}
 use Rattle.judge.proofs.bound.put_entries.Goals as goal
-
-added-reads : (t : ℤ) {x : ℤ} → SFits w64 x → SFits w64 (t +ℤ to_z w64 (of_z w64 x)) → to_z w64 (of_z w64 (t +ℤ to_z w64 (of_z w64 x))) ≡ t +ℤ x
-added-reads t f g = reads g (ap (λ z. t +ℤ z) (to_z-of_z f))
 
 pub loop-k-preserved : goal.loop-k-preserved
 loop-k-preserved c =
