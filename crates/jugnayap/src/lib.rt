@@ -1,5 +1,5 @@
-// The C interface (c/jugnayap.h): its version, and functions that each call the proved one of table, cut,
-// judge, run or decoder and give its answer as numbers.
+// The functions of the C interface (c/jugnayap.h), which jugnayap_c exports: its version, and functions that
+// each call the proved one of table, cut, judge, run or decoder and give its answer as numbers.
 #![tactic(auto)]
 
 mod numbers;
@@ -72,15 +72,13 @@ pub struct JugnayapCalled {
 // 0.4.0, as JUGNAYAP_VERSION counts it.
 const VERSION: u32 = 400;
 
-#[unsafe(no_mangle)]
-pub extern "C" fn jugnayap_version() -> u32
+pub fn jugnayap_version() -> u32
     ensures { result ≡ version }
 {
     VERSION
 }
 
-#[unsafe(no_mangle)]
-pub extern "C" fn jugnayap_check_table(code: &[u8]) -> JugnayapTable
+pub fn jugnayap_check_table(code: &[u8]) -> JugnayapTable
     ensures { result ≡ table_from (code_file_reply code.now) }
 {
     let answer = table::check(code);
@@ -104,8 +102,7 @@ pub extern "C" fn jugnayap_check_table(code: &[u8]) -> JugnayapTable
     }
 }
 
-#[unsafe(no_mangle)]
-pub extern "C" fn jugnayap_search_cut(code: &[u8], spins: &[i32], check: usize) -> JugnayapCut
+pub fn jugnayap_search_cut(code: &[u8], spins: &[i32], check: usize) -> JugnayapCut
     ensures { result ≡ cut_from (cut_reply code.now spins.now check) }
 {
     let answer = cut::search(code, spins, check);
@@ -128,8 +125,7 @@ pub extern "C" fn jugnayap_search_cut(code: &[u8], spins: &[i32], check: usize) 
     }
 }
 
-#[unsafe(no_mangle)]
-pub extern "C" fn jugnayap_judge(
+pub fn jugnayap_judge(
     code: &[u8],
     frame: &[i16],
     word: &[u8],
@@ -166,8 +162,7 @@ pub extern "C" fn jugnayap_judge(
     }
 }
 
-#[unsafe(no_mangle)]
-pub extern "C" fn jugnayap_agreement(code: &[u8], frame: &[i16], word: &[u8]) -> JugnayapAgreement
+pub fn jugnayap_agreement(code: &[u8], frame: &[i16], word: &[u8]) -> JugnayapAgreement
     ensures { result ≡ agreement_from (reply_of agreement_values (agreement_of code.now frame.now word.now)) }
 {
     let answer = judge::agreement(code, frame, word);
@@ -183,8 +178,7 @@ pub extern "C" fn jugnayap_agreement(code: &[u8], frame: &[i16], word: &[u8]) ->
     }
 }
 
-#[unsafe(no_mangle)]
-pub extern "C" fn jugnayap_start(
+pub fn jugnayap_start(
     code: &[u8],
     copies: &mut [i32],
     offsets: &mut [i32],
@@ -195,8 +189,7 @@ pub extern "C" fn jugnayap_start(
     started_numbers(run::start(code, copies, offsets, sums))
 }
 
-#[unsafe(no_mangle)]
-pub extern "C" fn jugnayap_rounds(
+pub fn jugnayap_rounds(
     code: &[u8],
     frame: &[i16],
     run: JugnayapRun,

@@ -1,4 +1,5 @@
-// What no clause says: that known bytes are read in order, and that an error of the input is handed on.
+// Runs of what the clauses say of known bytes, and what no clause says: how numbers and parts lie in them, and
+// that an error of the input is handed on.
 use super::*;
 
 // These bytes, one at a time, and then an error, again and again.
