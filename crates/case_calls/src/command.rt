@@ -2,36 +2,60 @@
 ghost use Rattle.std.specs.Prelude.{◌+◌, ◌≤◌, length};
 ghost use Rattle.case_calls.specs.Rooms.{InRooms};
 
-use super::{BITS, CERTIFICATE, CHECKS, EDGES};
-use file_numbers::u32_of;
+use super::buffers::{BITS, CERTIFICATE, CHECKS, EDGES};
 use run::{Record, Status};
 use std::io::{self, Read};
-use stream::{i32_of, read_full, read_i16_part, read_part, whole};
-
-pub(crate) const SET: u8 = 0;
-
-const CODE: u8 = 1;
-
-pub(crate) const FRAME: u8 = 2;
-
-pub(crate) const START: u8 = 3;
-
-pub(crate) const ROUNDS: u8 = 4;
-
-pub(crate) const PUT: u8 = 5;
-
-// A call for rounds that was made.
-pub(crate) const CALLED: u8 = 6;
-
-const END: u8 = 7;
+use stream::{i32_of, read_full, read_i16_part, read_part};
 
 // Room for the fields of any record.
 pub(crate) const FIELDS_LIMIT: usize = 64;
 
+#[derive(Clone, Copy, Debug, PartialEq, Eq)]
+pub(crate) enum Operation {
+    Set,
+    Code,
+    Frame,
+    Start,
+    Rounds,
+    Put,
+
+    // The script's end; or an operation that is none of these, or fields that are cut short.
+    End,
+}
+
+impl From<u8> for Operation {
+    fn from(number: u8) -> Operation {
+        match number {
+            0 => Operation::Set,
+            1 => Operation::Code,
+            2 => Operation::Frame,
+            3 => Operation::Start,
+            4 => Operation::Rounds,
+            5 => Operation::Put,
+            _ => Operation::End,
+        }
+    }
+}
+
+impl Operation {
+    // How many bytes of fields it has. A code file and a frame have their lengths with them.
+    fn fields(self) -> usize
+        ensures { result ≤ 64 }
+    {
+        match self {
+            Operation::Set => 35,
+            Operation::Start => 12,
+            Operation::Rounds => 40,
+            Operation::Put => 9,
+            Operation::Code | Operation::Frame | Operation::End => 0,
+        }
+    }
+}
+
 // How much of the code file and of the frame is there goes on from record to record.
 #[derive(Clone, Copy)]
 pub(crate) struct Command {
-    pub operation: u8,
+    pub operation: Operation,
     pub fields: [u8; FIELDS_LIMIT],
     pub code: usize,
     pub frame: usize,
@@ -69,34 +93,22 @@ pub(crate) struct Parts {
     pub certificate: usize,
 }
 
-// A code file and a frame have their lengths with them.
-fn fields_size(operation: u8) -> usize
-    ensures { result ≤ 64 }
-{
-    match operation {
-        0 => 35,
-        3 => 12,
-        4 => 40,
-        5 => 9,
-        _ => 0,
-    }
-}
-
 impl Command {
-    // Whether it is about the buffers as they are.
-    pub(crate) fn goes_on(self) -> bool {
-        SET < self.operation && self.operation < END
+    // A set of zeros, and no code file and no frame yet.
+    pub(crate) fn first() -> Command {
+        Command {
+            operation: Operation::Set,
+            fields: [0; FIELDS_LIMIT],
+            code: 0,
+            frame: 0,
+        }
     }
 
     pub(crate) fn number(self, at: usize) -> u32
         requires { at + 4 ≤ 64 }
     {
-        u32_of(
-            self.fields[at],
-            self.fields[at + 1],
-            self.fields[at + 2],
-            self.fields[at + 3],
-        )
+        let f = self.fields;
+        u32::from_le_bytes([f[at], f[at + 1], f[at + 2], f[at + 3]])
     }
 
     pub(crate) fn signed(self, at: usize) -> i32
@@ -110,16 +122,15 @@ impl Command {
         requires { at + 4 ≤ 64 }
         ensures { result ≤ room }
     {
-        least(self.number(at) as usize, room)
+        room.min(self.number(at) as usize)
     }
 
     pub(crate) fn fill(self) -> Fill {
-        let run = Record {
-            rounds: self.number(0),
-            status: status_of(self.fields[4]),
-        };
         Fill {
-            run,
+            run: Record {
+                rounds: self.number(0),
+                status: status_of(self.fields[4]),
+            },
             spin: self.signed(5),
             copy: self.signed(9),
             offset: self.signed(13),
@@ -137,8 +148,8 @@ impl Command {
     {
         Parts {
             wanted: self.number(0),
-            code: least(self.code, code),
-            frame: least(self.frame, frame),
+            code: code.min(self.code),
+            frame: frame.min(self.frame),
             spins: self.lent(4, BITS),
             copies: self.lent(8, EDGES),
             offsets: self.lent(12, EDGES),
@@ -150,12 +161,6 @@ impl Command {
             certificate: self.lent(36, CERTIFICATE),
         }
     }
-}
-
-pub(crate) fn least(n: usize, room: usize) -> usize
-    ensures { result ≤ room }
-{
-    if room < n { room } else { n }
 }
 
 fn status_of(number: u8) -> Status {
@@ -173,47 +178,17 @@ fn read_fields<R: Read>(input: &mut R, fields: &mut [u8], size: usize) -> io::Re
     Ok(read_full(input, &mut fields[..size])? == size)
 }
 
-// The end, too, where the operation is none of the script's or its fields are cut short.
-fn read_operation<R: Read>(input: &mut R, fields: &mut [u8]) -> io::Result<u8>
+fn read_operation<R: Read>(input: &mut R, fields: &mut [u8]) -> io::Result<Operation>
     requires { 64 ≤ length fields.old }
 {
     if !read_fields(input, fields, 1)? {
-        return Ok(END);
+        return Ok(Operation::End);
     }
-    let operation = fields[0];
-    if PUT < operation {
-        return Ok(END);
-    }
-    if !read_fields(input, fields, fields_size(operation))? {
-        return Ok(END);
+    let operation = Operation::from(fields[0]);
+    if !read_fields(input, fields, operation.fields())? {
+        return Ok(Operation::End);
     }
     Ok(operation)
-}
-
-fn code_size<R: Read>(
-    input: &mut R,
-    operation: u8,
-    before: usize,
-    code: &mut [u8],
-) -> io::Result<usize> {
-    if operation == CODE {
-        Ok(whole(read_part(input, code)?))
-    } else {
-        Ok(before)
-    }
-}
-
-fn frame_size<R: Read>(
-    input: &mut R,
-    operation: u8,
-    before: usize,
-    frame: &mut [i16],
-) -> io::Result<usize> {
-    if operation == FRAME {
-        Ok(whole(read_i16_part(input, frame)?))
-    } else {
-        Ok(before)
-    }
 }
 
 // The next record.
@@ -223,14 +198,12 @@ pub(crate) fn next<R: Read>(
     code: &mut [u8],
     frame: &mut [i16],
 ) -> io::Result<Command> {
-    let mut fields = [0u8; FIELDS_LIMIT];
-    let operation = read_operation(input, &mut fields)?;
-    let size = code_size(input, operation, before.code, code)?;
-    let count = frame_size(input, operation, before.frame, frame)?;
-    Ok(Command {
-        operation,
-        fields,
-        code: size,
-        frame: count,
-    })
+    let mut command = before;
+    command.operation = read_operation(input, &mut command.fields)?;
+    match command.operation {
+        Operation::Code => command.code = read_part(input, code)?.whole(),
+        Operation::Frame => command.frame = read_i16_part(input, frame)?.whole(),
+        _ => {}
+    }
+    Ok(command)
 }

@@ -14,39 +14,30 @@
 // operation that is none of these or fields that are cut short end the program.
 #![tactic(auto)]
 
-mod calls;
+mod buffers;
 mod checksum;
 mod command;
 mod print;
 
-use calls::on_state;
-use checksum::{of_signed, with_cuts};
-use command::{CALLED, Command, FIELDS_LIMIT, FRAME, Fill, ROUNDS, SET, next};
-use print::{print_called, print_state};
+use buffers::{BITS, CERTIFICATE, CHECKS, EDGES, put};
+use checksum::{FIRST, with};
+use command::{Command, Operation, next};
+use print::{print_called, print_started, print_state};
 use std::io::{self, Read};
 use stream::CODE_LIMIT;
 
-const BITS: usize = 2100;
-
-const EDGES: usize = 8300;
-
-const CHECKS: usize = 2100;
-
-const CERTIFICATE: usize = 20600;
-
-// A number that no input uses up.
-const BUDGET: u64 = 0x1_0000_0000_0000;
-
-// Plays the script from a set to the next one or to the end, a call for rounds in a turn of its own.
-// What a start or a call leaves is printed before the next record is read.
+// Plays the script from a set to the next one or to the end. What a start or a call leaves is printed before
+// the next record is read. The buffers are nine arrays and no struct: of parts of its
+// fields that are lent at once the check knows no borrow. A loop
+// has to end: no input uses the count up.
 fn play<R: Read>(
     rt: &impl Print,
     input: &mut R,
-    fill: Fill,
-    first: Command,
+    set: Command,
     code: &mut [u8],
     frame: &mut [i16],
 ) -> io::Result<Command> {
+    let fill = set.fill();
     let mut spins = [fill.spin; BITS];
     let mut copies = [fill.copy; EDGES];
     let mut offsets = [fill.offset; EDGES];
@@ -57,37 +48,51 @@ fn play<R: Read>(
     let mut word = [fill.word; BITS];
     let mut certificate = [fill.certificate; CERTIFICATE];
     let mut run = fill.run;
-    let mut command = first;
-    for _ in 0..BUDGET {
-        if !command.goes_on() {
-            break;
+    let mut command = next(input, set, code, frame)?;
+    for _ in 0..u64::MAX {
+        match command.operation {
+            Operation::Set | Operation::End => break,
+            Operation::Code | Operation::Frame => {}
+            Operation::Put => put(command, &mut copies, &mut offsets, &mut sums),
+            Operation::Start => {
+                let size = code.len().min(command.code);
+                let started = run::start(
+                    &code[..size],
+                    &mut copies[..command.lent(0, EDGES)],
+                    &mut offsets[..command.lent(4, EDGES)],
+                    &mut sums[..command.lent(8, BITS)],
+                );
+                run = print_started(rt, started, run)?;
+            }
+            Operation::Rounds => {
+                let parts = command.parts(code.len(), frame.len());
+                let called = decoder::rounds(
+                    &code[..parts.code],
+                    &frame[..parts.frame],
+                    run,
+                    parts.wanted,
+                    &mut spins[..parts.spins],
+                    &mut copies[..parts.copies],
+                    &mut offsets[..parts.offsets],
+                    &mut sums[..parts.sums],
+                    &mut multipliers[..parts.multipliers],
+                    &mut masks[..parts.masks],
+                    &mut depths[..parts.depths],
+                    &mut word[..parts.word],
+                    &mut certificate[..parts.certificate],
+                );
+                run = print_called(rt, called)?;
+            }
         }
-        if command.operation == ROUNDS {
-            let parts = command.parts(code.len(), frame.len());
-            let called = decoder::rounds(
-                &code[..parts.code],
-                &frame[..parts.frame],
-                run,
-                parts.wanted,
-                &mut spins[..parts.spins],
-                &mut copies[..parts.copies],
-                &mut offsets[..parts.offsets],
-                &mut sums[..parts.sums],
-                &mut multipliers[..parts.multipliers],
-                &mut masks[..parts.masks],
-                &mut depths[..parts.depths],
-                &mut word[..parts.word],
-                &mut certificate[..parts.certificate],
+        if matches!(command.operation, Operation::Start | Operation::Rounds) {
+            let edges = with(with(with(FIRST, &spins), &copies), &offsets);
+            let cuts = with(
+                with(with(with(edges, &sums), &multipliers), &masks),
+                &depths,
             );
-            run = print_called(rt, called)?;
-            command.operation = CALLED;
-        } else {
-            let signed = of_signed(&spins, &copies, &offsets, &sums);
-            let all = with_cuts(signed, &multipliers, &masks, &depths, &word, &certificate);
-            print_state(rt, command.operation, run, all)?;
-            command = next(input, command, code, frame)?;
-            run = on_state(rt, run, command, code, &mut copies, &mut offsets, &mut sums)?;
+            print_state(rt, run, with(with(cuts, &word), &certificate))?;
         }
+        command = next(input, command, code, frame)?;
     }
     Ok(command)
 }
@@ -96,20 +101,12 @@ fn main(rt: HostRuntime) -> io::Result<()> {
     let mut input = rt.reader();
     let mut code = [0u8; CODE_LIMIT];
     let mut frame = [0i16; BITS];
-    let fields = [0u8; FIELDS_LIMIT];
-    let mut command = Command {
-        operation: SET,
-        fields,
-        code: 0,
-        frame: 0,
-    };
-    for _ in 0..BUDGET {
-        if command.operation != SET {
+    let mut command = Command::first();
+    for _ in 0..u64::MAX {
+        if command.operation == Operation::End {
             break;
         }
-        let fill = command.fill();
-        command.operation = FRAME;
-        command = play(&rt, &mut input, fill, command, &mut code, &mut frame)?;
+        command = play(&rt, &mut input, command, &mut code, &mut frame)?;
     }
     Ok(())
 }

@@ -6,44 +6,38 @@
 // that is cut short ends the program.
 #![tactic(auto)]
 
-use judge::{Agreed, Parity, Verdict};
+use judge::Verdict;
 use limits::MAX_BITS;
+use limits::refusals::Refusal;
 use std::io::{self, Read};
-use stream::{
-    CODE_LIMIT, NUMBERS_AT_ONCE, Part, print, print_number, print_signed, read_i16_part, read_part,
-};
+use stream::{CODE_LIMIT, NUMBERS_AT_ONCE, Part, read_i16_part, read_part};
 
 const WORD_LIMIT: usize = 2 * MAX_BITS;
 
 const CERTIFICATE_LIMIT: usize = 50000;
 
-fn print_verdict(rt: &impl Print, answer: Verdict) -> io::Result<()> {
+fn print_verdict(rt: &impl Print, answer: Result<Verdict, Refusal>) -> io::Result<()> {
     match answer {
-        Verdict::Refused(k) => print_number(rt, b"refused ", k as u64),
-        Verdict::Broken(j) => print_number(rt, b"broken ", j as u64),
-        Verdict::Certified { sole } => {
-            print(rt, b"certified")?;
-            if sole { print(rt, b" sole") } else { Ok(()) }
-        }
-        Verdict::Gap(g) => {
-            print(rt, b"gap ")?;
-            print_signed(rt, g)
-        }
+        Ok(Verdict::Broken(check)) => print!(rt; "broken {check}"),
+        Ok(Verdict::Certified { sole: false }) => print!(rt; "certified"),
+        Ok(Verdict::Certified { sole: true }) => print!(rt; "certified sole"),
+        Ok(Verdict::Gap(gap)) => print!(rt; "gap {gap}"),
+        Err(refusal) => print!(rt; "refused {refusal}"),
     }
 }
 
-fn print_parity(rt: &impl Print, answer: Parity) -> io::Result<()> {
+fn print_parity(rt: &impl Print, answer: Result<Option<usize>, Refusal>) -> io::Result<()> {
     match answer {
-        Parity::Refused(k) => print_number(rt, b"refused ", k as u64),
-        Parity::Met => print(rt, b"met"),
-        Parity::Broken(j) => print_number(rt, b"broken ", j as u64),
+        Ok(None) => print!(rt; "met"),
+        Ok(Some(check)) => print!(rt; "broken {check}"),
+        Err(refusal) => print!(rt; "refused {refusal}"),
     }
 }
 
-fn print_agreed(rt: &impl Print, answer: Agreed) -> io::Result<()> {
+fn print_agreed(rt: &impl Print, answer: Result<i64, Refusal>) -> io::Result<()> {
     match answer {
-        Agreed::Refused(k) => print_number(rt, b"refused ", k as u64),
-        Agreed::Is(a) => print_signed(rt, a),
+        Ok(agreement) => print!(rt; "{agreement}"),
+        Err(refusal) => print!(rt; "refused {refusal}"),
     }
 }
 
@@ -55,11 +49,11 @@ fn print_answers(
     certificate: &[u8],
 ) -> io::Result<()> {
     print_verdict(rt, judge::judge(code, frame, word, certificate))?;
-    print(rt, b" ; ")?;
+    print!(rt; " ; ")?;
     print_parity(rt, judge::syndrome(code, word))?;
-    print(rt, b" ; ")?;
+    print!(rt; " ; ")?;
     print_agreed(rt, judge::agreement(code, frame, word))?;
-    print(rt, b"\n")
+    println!(rt)
 }
 
 // The rest of a record, part by part: false where it is not whole.
@@ -71,8 +65,7 @@ fn with_word<R: Read>(
     word: &[u8],
 ) -> io::Result<bool> {
     let mut certificate = [0u8; CERTIFICATE_LIMIT];
-    let part = read_part(input, &mut certificate)?;
-    let Part::Whole(size) = part else {
+    let Part::Whole(size) = read_part(input, &mut certificate)? else {
         return Ok(false);
     };
     print_answers(rt, code, frame, word, &certificate[..size])?;
@@ -86,8 +79,7 @@ fn with_frame<R: Read>(
     frame: &[i16],
 ) -> io::Result<bool> {
     let mut word = [0u8; WORD_LIMIT];
-    let part = read_part(input, &mut word)?;
-    let Part::Whole(size) = part else {
+    let Part::Whole(size) = read_part(input, &mut word)? else {
         return Ok(false);
     };
     with_word(rt, input, code, frame, &word[..size])
@@ -95,8 +87,7 @@ fn with_frame<R: Read>(
 
 fn with_code<R: Read>(rt: &impl Print, input: &mut R, code: &[u8]) -> io::Result<bool> {
     let mut frame = [0i16; NUMBERS_AT_ONCE];
-    let part = read_i16_part(input, &mut frame)?;
-    let Part::Whole(count) = part else {
+    let Part::Whole(count) = read_i16_part(input, &mut frame)? else {
         return Ok(false);
     };
     with_frame(rt, input, code, &frame[..count])
@@ -104,8 +95,7 @@ fn with_code<R: Read>(rt: &impl Print, input: &mut R, code: &[u8]) -> io::Result
 
 fn one_record<R: Read>(rt: &impl Print, input: &mut R) -> io::Result<bool> {
     let mut code = [0u8; CODE_LIMIT];
-    let part = read_part(input, &mut code)?;
-    let Part::Whole(size) = part else {
+    let Part::Whole(size) = read_part(input, &mut code)? else {
         return Ok(false);
     };
     with_code(rt, input, &code[..size])
@@ -114,9 +104,9 @@ fn one_record<R: Read>(rt: &impl Print, input: &mut R) -> io::Result<bool> {
 // The budget is a number that no input uses up.
 fn main(rt: HostRuntime) -> io::Result<()> {
     let mut input = rt.reader();
-    for _ in 0..0x1_0000_0000_0000u64 {
+    for _ in 0..u64::MAX {
         if !one_record(&rt, &mut input)? {
-            return Ok(());
+            break;
         }
     }
     Ok(())

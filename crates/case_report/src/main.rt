@@ -1,4 +1,5 @@
-// The frame report of standard input.
+// The frame report of standard input, once more: the gate runs a program on one input, and here that is the
+// reference's large code.
 #![tactic(auto)]
 
 use std::io;

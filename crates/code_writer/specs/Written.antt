@@ -1,16 +1,15 @@
 -- A code file written to a lent buffer: the answer, a refusal or how long the file is, and what the buffer holds then. Definitions only. Assumes
 -- nothing.
-use Rattle.std.specs.Prelude.{List, ℕ, leb, length}
+use Rattle.std.specs.Prelude.{List, ℕ, leb, length, Result}
 use Rattle.rules.specs.Limits.{max_checks, max_edges, file_length}
 use Rattle.rules.specs.Refusal.{Answer, refused, gives, must, size_range, start_wrong, buffer_short}
 use Rattle.rules.specs.Buffers.{over}
 use Rattle.rules.specs.FileBytes.{file_from}
-use Rattle.code_writer.specs.declared.Written.{Written}
-use Rattle.code_writer.specs.declared.Written.TheVariants.{Refused, Length}
+use Rattle.limits.specs.Numbers.{answer_by}
+use Rattle.limits.specs.declared.refusals.Refusal.{Refusal}
 
-abbrev pub written_of : Written → Answer ℕ
-written_of (Refused k) = refused k
-written_of (Length n) = gives n
+abbrev pub written_of : Result ℕ Refusal → Answer ℕ
+written_of = answer_by (λ n. n)
 
 pub record Filled : Type 0 where
   pub answer : Answer ℕ

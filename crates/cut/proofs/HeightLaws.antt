@@ -9,7 +9,7 @@ use native.Mathlib.Nat.{le_of_suc-le-suc}
 use lib.Dec.{eqb}
 use lib.ListN.{length, set}
 use lib.Seq.{get_or-set_same, get_or-set_other}
-use lib.IntN.{ℤ, pos, negsuc, ◌+ℤ◌, ◌-ℤ◌}
+use lib.IntN.{ℤ, pos, negsuc}
 use lib.Signed.{◌≤ℤ◌, ◌<ℤ◌, lt_z, ≤ℤ_refl}
 use mir.Syntax.{w32}
 use mir.Val.{SFits}
@@ -92,14 +92,6 @@ set-picks hs k i z h = go (eqb i k) refl
     go false e = get_or-set_other hs k i z (pos 0) (eqb-false i k e)
 
 -- ---- as the negative values see them
-pub height-negative : (v : ℤ) → v <ℤ pos 0 → pos unit +ℤ v ≡ height (is_neg v) v
-height-negative (pos n) h = absurd (omega arith_z)
-height-negative (negsuc n) h = refl
-
-pub height-other : (v : ℤ) → pos 0 ⩽ v → pos unit -ℤ v ≡ height (is_neg v) v
-height-other (pos n) h = refl
-height-other (negsuc n) h = absurd h.le
-
 pub height-low : (v : ℤ) → SFits w32 v → floor ⩽ height (is_neg v) v
 height-low (pos n) = simp lin (omega arith_z)
 height-low (negsuc n) = simp lin (omega arith_z)

@@ -1,4 +1,3 @@
-pub mod ValueLaws
 pub mod GatherLaws
 pub mod HeightLaws
 pub mod ClipLaws

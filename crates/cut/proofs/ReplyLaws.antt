@@ -3,12 +3,12 @@ use mathlib.Core.Path.{◌≡◌, refl, sym, ◌∙◌, ap, ap₂, subst}
 use mathlib.Core.Bool.{Bool, cond, ◌&&◌}
 use mathlib.Core.List.{List, [], ◌∷◌}
 use mathlib.Core.Option.{Option, some, none}
-use Prim.Native.Nat.{ℕ, ◌≤◌, ◌<◌}
+use Prim.Native.Nat.{ℕ, ◌<◌}
 use native.Mathlib.Decide.{ℕ_discrete}
 use lib.Dec.{eqb, ltb}
 use lib.ListN.{length}
 use lib.IntN.{ℤ}
-use borrow.Author.Tests.{eqb-true, ltb-true, eq-eqb, ne_eqb, lt-ltb, le-ltb}
+use borrow.Author.Tests.{eqb-true, ltb-true, eq-eqb, ne_eqb}
 use Rattle.integers.specs.Sum.{AllWithin}
 use Rattle.integers.specs.Clip.{clip-mid}
 use Rattle.rules.specs.Limits.{unit}
@@ -23,8 +23,8 @@ use Rattle.rules.proofs.Basics.{and_both}
 use Rattle.rules.proofs.RangeLaws.{each_all}
 use Rattle.rules.proofs.Optimal.{within-at}
 use Rattle.rules.proofs.DepthLaws.{depth-cut, violation-is⇔}
-use Rattle.inputs.specs.Refusals.{point_refusal, or_else, turned_down}
-use Rattle.inputs.proofs.RefusalLaws.{else-refused, else-none, cond-none, test-number, turned-else, turned-refused, turned_none}
+use Rattle.inputs.specs.Refusals.{point_refusal, turned_down}
+use Rattle.inputs.proofs.RefusalLaws.{else-none, cond-none, test-number, turned-else, turned-refused, turned_none}
 use Rattle.inputs.proofs.InputLaws.{point-law}
 use Rattle.cut.specs.CutMask.{cut_mask, CutIs}
 use Rattle.cut.specs.Search.{search_refusal, spins_at, search_on, cut_gives}
@@ -63,28 +63,12 @@ cut-gives ss m d e = go (ℕ_discrete m 0)
         ∙ ap₂ (λ n k. gives (some (record { set = n; depth = k }))) (e.0 ∙ ap cut_mask is) (e.1 ∙ depth-cut unit ss _ is)
         ∙ says (some _) is
 
-module _ (n m : ℕ) (s : List ℤ) (j : ℕ) where
-  -- ---- the refusal's number
-  module _ (r : ℕ) (e : r ≡ point_refusal n s) where
-    pub refusal-point : (r ≡ 0 → ⊥) → r ≡ search_refusal n m s j
-    unfolding search_refusal
-    refusal-point f = sym (else-refused r (cond (ltb j m) 0 asked_too_much) f) ∙ ap (λ i. or_else i (cond (ltb j m) 0 asked_too_much)) e
-
-    point-passes : r ≡ 0 → cond (ltb j m) 0 asked_too_much ≡ search_refusal n m s j
-    unfolding search_refusal
-    point-passes z = ap (λ i. or_else i (cond (ltb j m) 0 asked_too_much)) (sym z ∙ e)
-
-    pub refusal-check : r ≡ 0 → m ≤ j → asked_too_much ≡ search_refusal n m s j
-    refusal-check z h = ap (λ b. cond b 0 asked_too_much) (sym (le-ltb j m h)) ∙ point-passes z
-
-    pub refusal-none : r ≡ 0 → j < m → 0 ≡ search_refusal n m s j
-    refusal-none z h = ap (λ b. cond b 0 asked_too_much) (sym (lt-ltb j m h)) ∙ point-passes z
-
-  pub none-refused : search_refusal n m s j ≡ 0 → (point_refusal n s ≡ 0) × (j < m)
-  unfolding search_refusal
-  none-refused e =
-      let p = else-none (point_refusal n s) (cond (ltb j m) 0 asked_too_much) e in
-      (p.0, ltb-true j m (cond-none (ltb j m) 0 16 p.1).0)
+-- ---- no refusal
+pub none-refused : (n m : ℕ) (s : List ℤ) (j : ℕ) → search_refusal n m s j ≡ 0 → (point_refusal n s ≡ 0) × (j < m)
+unfolding search_refusal
+none-refused n m s j e =
+    let p = else-none (point_refusal n s) (cond (ltb j m) 0 asked_too_much) e in
+    (p.0, ltb-true j m (cond-none (ltb j m) 0 16 p.1).0)
 
 -- ---- the answer on a table
 abbrev pub refusal_on : Table → List ℤ → ℕ → ℕ

@@ -2,10 +2,12 @@
 use mathlib.Core.Path.{◌≡◌, refl, sym, ◌∙◌, ap, ap₂, subst}
 use mathlib.Core.Bool.{Bool, true, false, cond}
 use mathlib.Core.List.{List, [], ◌∷◌, ◌++◌}
-use Prim.Native.Nat.{ℕ, suc, ◌+◌, ◌*◌, ◌^◌, ◌≤◌, ◌<◌}
+use Prim.Native.Nat.{ℕ, suc, ◌+◌, ◌*◌, ◌%◌, ◌^◌, ◌≤◌, ◌<◌}
 use native.Mathlib.Omega.{arith}
-use native.Mathlib.Nat.{pow-suc, add_comm}
+use native.Mathlib.Nat.{pow-suc, add_comm, one-mul}
 use native.Mathlib.Numerals.{add-one}
+use lib.Dec.{lit<}
+use lib.Pow.{shl_exact}
 use lib.Bits.{bit_or, or_shifted_r}
 use lib.ListN.{length, take, drop, set, length-append, get_or-append}
 use lib.Seq.{take-suc, get_or-append_seam, length-take-le}
@@ -30,6 +32,10 @@ use Rattle.cut.proofs.HeightLaws.{floor, is-above, higher-left, higher-right, hi
 pub negatives-length : (ss : List ℤ) → length (negatives ss) ≡ length ss
 negatives-length [] = refl
 negatives-length (s ∷ ss) = ap suc (negatives-length ss)
+
+-- 1 << k at 32 bits
+pub shifted_one : (k : ℕ) → k < 32 → 1 * 2 ^ k % 2 ^ 32 ≡ 2 ^ k
+shifted_one k h = shl_exact 1 k 32 (lit< tt) (omega arith) ∙ one-mul (2 ^ k)
 
 -- ---- one value more, as the code's two arms have it
 abbrev scan_of : ℕ → ℕ → ℤ → ℕ → Scan
@@ -135,9 +141,6 @@ with-more vs s v f p =
 -- ---- the loop
 take_next : (v : List ℤ) (i : ℕ) → i < length v → take (i + 1) v ≡ take i v ++ (at v i ∷ [])
 take_next v i h = ap (λ n. take n v) (add-one i) ∙ take-suc v i (pos 0) h
-
-pub scanned-none : (s : Scan) → s.mask ≡ 0 → s.room ≡ 0 → s.top ≡ floor → s.place ≡ 0 → Scanned [] s
-scanned-none s m r t k = record { negative = m; total = r; high = t; peak = k }
 
 pub scanned-more : (v : List ℤ) (i : ℕ) (s r : Scan) → i < length v → SFits w32 (at v i) → Scanned (take i v) s → r ≡ scanned s (at v i) (own_height (at v i)) i
     → Scanned (take (i + 1) v) r

@@ -26,9 +26,8 @@ use Rattle.rules.proofs.Masks.{set-mask}
 use Rattle.rules.proofs.AnswerLaws.{refused≢gives, gives-inj, must-gives, must-true, then-gives, then-of}
 use Rattle.rules.proofs.CutRule.{Cuts, at_most_one, cut-finds, cut-some⇔, cut-none⇔}
 use Rattle.rules.proofs.DepthLaws.{shortfall-is, depth-cut, depth-range, depth-greatest, violation-is⇔, violation-depth}
-use Rattle.cut.specs.declared.Found.{Found}
-use Rattle.cut.specs.declared.Found.TheVariants.{Nothing, Violated}
-use Rattle.cut.specs.Reply.{found_of}
+use Rattle.std.specs.Prelude.{Ok, None}
+use Rattle.cut.specs.Reply.{Found, found_of, violated}
 use Rattle.cut.specs.Search.{Inputs, spins_at, OnlyCut, NoCut}
 use Rattle.rules.proofs.RangeLaws.{each_all}
 use Rattle.cut.proofs.GatherLaws.{values_length}
@@ -135,13 +134,13 @@ module _ (file : List ℕ) (s : List ℤ) (j : ℕ) where
 
     -- the answer that a set of the check's members is
     found_with : List Bool → Found
-    found_with vs = Violated (mask_of vs) (shortfall unit vs (spins_at t s j))
+    found_with vs = violated (mask_of vs) (shortfall unit vs (spins_at t s j))
 
     cut-is : (vs : List Bool) → Cuts unit vs (spins_at t s j) → found_of (found_with vs) ≡ cut_answer file s j
     unfolding cut_answer deep found_with
     cut-is vs c = ap mask_answer (sym ((mask⇔ vs).1 c))
 
-    none_is : NoCut t s j → found_of Nothing ≡ cut_answer file s j
+    none_is : NoCut t s j → found_of (Ok None) ≡ cut_answer file s j
     unfolding cut_answer
     none_is f = ap mask_answer (sym (none⇔.1 f))
 
@@ -150,15 +149,15 @@ module _ (file : List ℕ) (s : List ℤ) (j : ℕ) where
     answer-is a r e = (λ h. found-inj r a (h ∙ sym e), λ h. ap found_of h ∙ e)
 
     -- right inputs with a violated set have that set's mask and depth for their answer, and no other; without one, none
-    pub violated-found : (vs : List Bool) → Cuts unit vs (spins_at t s j) → (r : Found) → (found_of r ≡ cut_answer file s j) ↔ (r ≡ Violated (mask_of vs) (shortfall unit vs (spins_at t s j)))
+    pub violated-found : (vs : List Bool) → Cuts unit vs (spins_at t s j) → (r : Found) → (found_of r ≡ cut_answer file s j) ↔ (r ≡ violated (mask_of vs) (shortfall unit vs (spins_at t s j)))
     unfolding found_with
     violated-found vs c r = answer-is (found_with vs) r (cut-is vs c)
 
-    pub none_found : NoCut t s j → (r : Found) → (found_of r ≡ cut_answer file s j) ↔ (r ≡ Nothing)
-    none_found f r = answer-is Nothing r (none_is f)
+    pub none_found : NoCut t s j → (r : Found) → (found_of r ≡ cut_answer file s j) ↔ (r ≡ Ok None)
+    none_found f r = answer-is (Ok None) r (none_is f)
 
   -- a mask that is answered is that of a violated set, the only one, and the depth says by how much
-  pub found-violated : (m d : ℕ) → found_of (Violated m d) ≡ cut_answer file s j → (t : Table) × Inputs file s j t × OnlyCut t s j (set_of (length (members_at t j)) m) d
+  pub found-violated : (m d : ℕ) → found_of (violated m d) ≡ cut_answer file s j → (t : Table) × Inputs file s j t × OnlyCut t s j (set_of (length (members_at t j)) m) d
   unfolding cut_answer
   found-violated m d e =
       let p = mask-set (record { set = m; depth = d }) (cut_search file s j) e in
@@ -166,7 +165,7 @@ module _ (file : List ℕ) (s : List ℤ) (j : ℕ) where
       (i.0, i.1, answered i.0 i.1 m d p.0 p.1 p.2 p.3)
 
   -- none is answered where no odd set is violated
-  pub found_none : found_of Nothing ≡ cut_answer file s j → (t : Table) × Inputs file s j t × NoCut t s j
+  pub found_none : found_of (Ok None) ≡ cut_answer file s j → (t : Table) × Inputs file s j t × NoCut t s j
   unfolding cut_answer
   found_none e =
       let p = none-set (cut_search file s j) e in

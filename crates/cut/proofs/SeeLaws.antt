@@ -9,12 +9,12 @@ use native.Mathlib.Omega.{arith}
 use native.Mathlib.Nat.{le_of_suc-le-suc}
 use lib.Bits.{bit_xor}
 use lib.Count.{ones, ones-le}
-use lib.Dec.{leb, eqb, ltb}
+use lib.Dec.{eqb, ltb}
 use lib.ListN.{length, drop, set, length-append, length-set}
 use lib.Seq.{set-append_left}
 use lib.IntN.{ℤ, pos, negsuc, nat_abs, ◌+ℤ◌, ◌-ℤ◌}
 use lib.Signed.{lt_z}
-use borrow.Author.Tests.{ltb-true, ltb-false, eq-eqb, ne_eqb, lt-ltb, le-ltb, lt-leb, le-leb}
+use borrow.Author.Tests.{ltb-true, ltb-false, eq-eqb, ne_eqb, lt-ltb, le-ltb, le-leb}
 use Rattle.integers.specs.Linear.{lin, arith_z, ◌⩽◌, Within, up, le_out}
 use Rattle.rules.specs.Limits.{unit, max_degree}
 use Rattle.rules.specs.Refusal.{count_range, buffer_short}
@@ -27,8 +27,14 @@ use Rattle.rules.specs.Buffers.{over}
 use Rattle.rules.proofs.Steps.{clips-length, clips-within}
 use Rattle.rules.proofs.Masks.{set-mask, mask_below, odd-ones}
 use Rattle.rules.proofs.EmptyLaws.{empty-uncut}
+use Rattle.std.specs.Prelude.{Result, Ok, Err}
+use Rattle.std.specs.Result.{IsOk}
+use Rattle.limits.specs.declared.refusals.Refusal.{Refusal}
+use Rattle.limits.proofs.NumberLaws.{number-some}
+use Rattle.cut.specs.declared.Cut.{Cut}
 use Rattle.cut.specs.declared.scan.Scan.{Scan}
 use Rattle.cut.specs.CutMask.{cut_mask, CutIs}
+use Rattle.cut.specs.Reply.{seen_of}
 use Rattle.cut.specs.Heights.{height, heights_of, highest, side_by, Seen, seen_on, unseen, seen}
 use Rattle.cut.specs.Scan.{sights, Highest, Scanned, stays, changes, when_odd, when_even, decided}
 use Rattle.cut.proofs.HeightLaws.{highest-set, sights-top, sights-length}
@@ -77,9 +83,6 @@ module _ (s : Scan) (hs : List ℤ) where
 
   pub decided-stay : (t : ℤ) → (ones s.mask % 2 ≡ 1 → ⊥) → 2 * up s.top ≤ s.room → t ≡ s.top → stays 0 0 t hs ≡ decided s hs
   decided-stay t o h p = ap (λ t. stays 0 0 t hs) p ∙ decided-even false o (le-ltb s.room (2 * up s.top) h)
-
-  pub changes-is : (d b : ℕ) (t : ℤ) (l : List ℤ) → b ≡ 2 ^ s.place → l ≡ set hs s.place t → t ≡ pos (2 * unit) -ℤ s.top → stays (bit_xor s.mask b) d t l ≡ changes d s hs
-  changes-is d b t l e r p = ap (stays (bit_xor s.mask b) d t) r ∙ ap₂ (λ b t. stays (bit_xor s.mask b) d t (set hs s.place t)) e p
 
 -- a height above 0 is a size
 pub above_within : (z : ℤ) (r : ℕ) → z ⩽ pos unit → r < 2 * up z → Within unit z
@@ -218,21 +221,12 @@ decides vs old s p = go (eqb (ones s.mask % 2) 1) refl
     go true o = odd-sees vs old s p o
     go false o = even-decides vs old s p o
 
--- ---- the tests: at most 32 values, and room for each height
-module _ (v old : List ℤ) where
-  pub seen-many : max_degree < length v → unseen count_range old ≡ seen v old
-  unfolding seen
-  seen-many h = ap (λ a. cond a (cond (leb (length v) (length old)) (seen_on v old) (unseen buffer_short old)) (unseen count_range old)) (sym (lt-leb (length v) max_degree h))
-
-  tested : (b : Bool) → length v ≤ max_degree → leb (length v) (length old) ≡ b → cond b (seen_on v old) (unseen buffer_short old) ≡ seen v old
-  unfolding seen
-  tested b h e = ap₂ (λ a b. cond a (cond b (seen_on v old) (unseen buffer_short old)) (unseen count_range old)) (sym (le-leb (length v) max_degree h)) (sym e)
-
-  pub seen-short : length v ≤ max_degree → length old < length v → unseen buffer_short old ≡ seen v old
-  seen-short h k = tested false h (lt-leb (length v) (length old) k)
-
-  pub seen-whole : length v ≤ max_degree → length v ≤ length old → seen_on v old ≡ seen v old
-  seen-whole h k = tested true h (le-leb (length v) (length old) k)
+-- ---- at most 32 values, and room for each height
+pub seen-whole : (v old : List ℤ) → length v ≤ max_degree → length v ≤ length old → seen_on v old ≡ seen v old
+unfolding seen
+seen-whole v old h k =
+    ap₂ (λ a b. cond a (cond b (seen_on v old) (unseen buffer_short old)) (unseen count_range old))
+    (sym (le-leb (length v) max_degree h)) (sym (le-leb (length v) (length old) k))
 
 -- ---- what the pass over all values leaves
 place_inside : (hs : List ℤ) (k : ℕ) → Highest hs k → length hs ≤ max_degree → k < max_degree
@@ -261,3 +255,9 @@ module _ (v old hs : List ℤ) (few : length v ≤ max_degree) (s : Scan) (p : S
 pub seen-cut : (v old : List ℤ) (r : Seen) → r ≡ seen v old → length v ≤ max_degree → length v ≤ length old → CutIs (clips unit v) r.mask r.depth
 unfolding seen_on
 seen-cut v old r e h k = let same = e ∙ sym (seen-whole v old h k) in (ap (λ s. s.mask) same, ap (λ s. s.depth) same)
+
+-- and no refusal answers them
+pub seen-ok : (v old : List ℤ) (r : Result Cut Refusal) (hs : List ℤ) → seen_of r hs ≡ seen v old → length v ≤ max_degree → length v ≤ length old → IsOk r
+unfolding seen_on
+seen-ok v old (Ok c) hs e h k = refl
+seen-ok v old (Err j) hs e h k = absurd (number-some j (ap (λ s. s.number) (e ∙ sym (seen-whole v old h k))))

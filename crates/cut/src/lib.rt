@@ -7,55 +7,49 @@ mod scan;
 ghost use Rattle.std.specs.Prelude.{◌≡◌, cond, ◌+◌, ◌-◌, ◌*◌, ◌<◌, eqb, ltb, pos, length, set};
 ghost use Rattle.integers.specs.Linear.{up, ◌⩽◌, Within};
 ghost use Rattle.rules.specs.Limits.{unit, max_degree};
+ghost use Rattle.rules.specs.Table.{checks_of};
 ghost use Rattle.rules.specs.Cut.{mask_answer, cut_answer};
-ghost use Rattle.table.specs.Layout.{table_of, Holds};
+ghost use Rattle.limits.specs.Numbers.{refusal_of};
 ghost use Rattle.cut.specs.Heights.{seen_to, seen};
 ghost use Rattle.cut.specs.Scan.{changes, decided};
-ghost use Rattle.cut.specs.Reply.{found_of};
-ghost use Rattle.cut.specs.Search.{search_refusal, search_on, cut_gives};
+ghost use Rattle.cut.specs.Reply.{found_of, seen_of};
+ghost use Rattle.cut.specs.Search.{search_refusal, search_on};
 
 use check::check_cut;
-use limits::refusals::{ASKED_TOO_MUCH, BUFFER_SHORT, COUNT_RANGE};
-use limits::{MAX_CHECKS, MAX_DEGREE, MAX_EDGES, RIGHT_SIDE, UNIT};
+use limits::refusals::Refusal;
+use limits::{MAX_DEGREE, RIGHT_SIDE, UNIT};
 use scan::{Scan, bit, scan_values};
-use table::Checked;
+use std::hint::select_unpredictable;
+use table::loaded::{Loaded, Room};
 
-// 0 or a refusal's number; the cut's mask and depth, or 0 and 0 for none, and the greatest height as it
-// sees the members.
-#[derive(Clone, Copy)]
+// The cut's mask and depth, or 0 and 0 for none, as buffers hold them, and the greatest height as it sees
+// the members.
+#[derive(Clone, Copy, Debug, PartialEq, Eq)]
 pub struct Cut {
-    pub number: u8,
     pub mask: u32,
     pub depth: u32,
     pub top: i32,
 }
 
-// The answer: a refusal's number, none, or the violated set and by how much it falls short.
-#[derive(Clone, Copy)]
-pub enum Found {
-    Refused(u8),
-    Nothing,
-    Violated { mask: u32, depth: u32 },
+// The violated set, and by how much it falls short.
+#[derive(Clone, Copy, Debug, PartialEq, Eq)]
+pub struct Violation {
+    pub mask: u32,
+    pub depth: u32,
 }
 
 // What a height adds to a left side: 0 for a negative one.
 pub(crate) fn above(h: i32) -> u32
     ensures { result ≡ up h }
 {
-    if h < 0 {
-        return 0;
-    }
-    h as u32
+    h.max(0) as u32
 }
 
 // The set, where its left side is below 2U.
 fn when_violated(left: u32, mask: u32) -> u32
     ensures { result ≡ cond (ltb left (2 * unit)) mask 0 }
 {
-    if left < RIGHT_SIDE {
-        return mask;
-    }
-    0
+    if left < RIGHT_SIDE { mask } else { 0 }
 }
 
 // By how much a set with this left side falls short; 0 where there is none. It asks for the mask, as the
@@ -64,45 +58,30 @@ fn depth_of(mask: u32, left: u32) -> u32
     requires { (mask ≡ 0 → ⊥) → left < 2 * unit }
     ensures { result ≡ cond (eqb mask 0) 0 (2 * unit - left) }
 {
-    if mask != 0 {
-        return RIGHT_SIDE - left;
-    }
-    0
-}
-
-// What place i has when x is put in place k.
-fn pick(i: usize, k: usize, x: i32, h: i32) -> i32
-    ensures { result ≡ cond (eqb i k) x h }
-{
-    if i == k {
-        return x;
-    }
-    h
+    if mask == 0 { 0 } else { RIGHT_SIDE - left }
 }
 
 // x in place k. A pass over all places with a choice in each: a store at a place that is known late
-// would hold up the reads that follow it.
+// would hold up the reads that follow it. An `if` in the choice's place is compiled to a branch on each
+// place, since a store of what is there already is left out.
 fn put(heights: &mut [i32], k: usize, x: i32)
     ensures { heights.new ≡ set heights.old k x }
 {
-    let mut i: usize = 0;
-    while i < heights.len() {
-        heights[i] = pick(i, k, x, heights[i]);
-        i += 1;
+    for (i, height) in heights.iter_mut().enumerate() {
+        *height = select_unpredictable(i == k, x, *height);
     }
 }
 
 // The member with the greatest height changes sides: U less its size becomes U and its size.
 fn change_side(s: Scan, depth: u32, heights: &mut [i32]) -> Cut
     requires { (s.place < max_degree) × (s.place < length heights.old) × Within unit s.top }
-    ensures { seen_to result.number result.mask result.depth result.top heights.new ≡ changes depth s heights.old }
+    ensures { seen_to 0 result.mask result.depth result.top heights.new ≡ changes depth s heights.old }
 {
     let k = s.place;
     let height = s.top;
     let raised = 2 * UNIT - height;
     put(heights, k, raised);
     Cut {
-        number: 0,
         mask: s.mask ^ bit(k),
         depth,
         top: raised,
@@ -114,12 +93,11 @@ fn change_side(s: Scan, depth: u32, heights: &mut [i32]) -> Cut
 // the latter, and falls as far short of it as the changed set's left side falls short of 2U.
 fn decide(s: Scan, heights: &mut [i32]) -> Cut
     requires { (s.place < max_degree) × (s.top ⩽ pos unit) × (s.room < 2 * up s.top → s.place < length heights.old) }
-    ensures { seen_to result.number result.mask result.depth result.top heights.new ≡ decided s heights.old }
+    ensures { seen_to 0 result.mask result.depth result.top heights.new ≡ decided s heights.old }
 {
-    if u32::count_ones(s.mask) % 2 == 1 {
+    if s.mask.count_ones() % 2 == 1 {
         let mask = when_violated(s.room, s.mask);
         return Cut {
-            number: 0,
             mask,
             depth: depth_of(mask, s.room),
             top: s.top,
@@ -130,7 +108,6 @@ fn decide(s: Scan, heights: &mut [i32]) -> Cut
         return change_side(s, right - s.room, heights);
     }
     Cut {
-        number: 0,
         mask: 0,
         depth: 0,
         top: s.top,
@@ -140,96 +117,49 @@ fn decide(s: Scan, heights: &mut [i32]) -> Cut
 // The cut of a check's values clipped: its mask and depth, or 0 and 0, each member's height as the cut
 // sees it, left in `heights`, and the greatest of them. More than 32 values are refused, and less room
 // than values.
-pub fn see(v: &[i32], heights: &mut [i32]) -> Cut
-    ensures { seen_to result.number result.mask result.depth result.top heights.new ≡ seen v.now heights.old }
+#[tactic(auto, unfolding(crate::specs::Heights::seen))]
+pub fn see(v: &[i32], heights: &mut [i32]) -> Result<Cut, Refusal>
+    ensures { seen_of result heights.new ≡ seen v.now heights.old }
 {
     if MAX_DEGREE < v.len() {
-        return Cut {
-            number: COUNT_RANGE,
-            mask: 0,
-            depth: 0,
-            top: 0,
-        };
+        return Err(Refusal::CountRange);
     }
     if heights.len() < v.len() {
-        return Cut {
-            number: BUFFER_SHORT,
-            mask: 0,
-            depth: 0,
-            top: 0,
-        };
+        return Err(Refusal::BufferShort);
     }
     let s = scan_values(v, heights);
-    decide(s, heights)
+    Ok(decide(s, heights))
 }
 
-// Mask and depth as an answer: no odd set has mask 0.
-fn answer_of(mask: u32, depth: u32) -> Found
-    ensures { found_of result ≡ cut_gives mask depth }
+// The point and the check number of a search, or refusal 16 or 17.
+#[tactic(auto, unfolding(crate::specs::Search::search_refusal))]
+fn admit(table: &Loaded, spins: &[i32], check: usize) -> Result<(), Refusal>
+    ensures { refusal_of result ≡ search_refusal table.now.bits (checks_of table.now) spins.now check }
 {
+    inputs::point(spins, table.bits())?;
+    if table.checks() <= check {
+        return Err(Refusal::AskedTooMuch);
+    }
+    Ok(())
+}
+
+// The search on a loaded table. No odd set has mask 0.
+fn search_table(table: &Loaded, spins: &[i32], check: usize) -> Result<Option<Violation>, Refusal>
+    ensures { found_of result ≡ mask_answer (search_on table.now spins.now check) }
+{
+    admit(table, spins, check)?;
+    let Cut { mask, depth, .. } = check_cut(table, spins, check);
     if mask == 0 {
-        return Found::Nothing;
+        return Ok(None);
     }
-    Found::Violated { mask, depth }
-}
-
-// The refusal of the point or of the check number, or 0.
-fn refusal(bits: usize, checks: usize, spins: &[i32], check: usize) -> u8
-    ensures { result ≡ search_refusal bits checks spins.now check }
-{
-    let point = inputs::point(spins, bits);
-    if point != 0 {
-        return point;
-    }
-    if checks <= check {
-        return ASKED_TOO_MUCH;
-    }
-    0
-}
-
-// The search on a loaded table of `bits` bits and `checks` checks.
-fn search_table(
-    starts: &[u16],
-    members: &[u16],
-    bits: usize,
-    checks: usize,
-    spins: &[i32],
-    check: usize,
-) -> Found
-    requires { Holds bits starts.now members.now × (length starts.now ≡ checks + 1) }
-    ensures { found_of result ≡ mask_answer (search_on (table_of bits starts.now members.now) spins.now check) }
-{
-    let refused = refusal(bits, checks, spins, check);
-    if refused != 0 {
-        return Found::Refused(refused);
-    }
-    let found = check_cut(starts, members, spins, check);
-    answer_of(found.mask, found.depth)
+    Ok(Some(Violation { mask, depth }))
 }
 
 // The cut search on any bytes, any spins and any check number.
-pub fn search(code: &[u8], spins: &[i32], check: usize) -> Found
+pub fn search(code: &[u8], spins: &[i32], check: usize) -> Result<Option<Violation>, Refusal>
     ensures { found_of result ≡ cut_answer code.now spins.now check }
 {
-    let mut starts = [0u16; MAX_CHECKS + 1];
-    let mut members = [0u16; MAX_EDGES];
-    let answer = table::load(code, &mut starts, &mut members);
-    match answer {
-        Checked::Refused(k) => Found::Refused(k),
-        Checked::Accepted {
-            bits,
-            checks,
-            edges,
-        } => {
-            let end = checks + 1;
-            search_table(
-                &starts[..end],
-                &members[..edges],
-                bits,
-                checks,
-                spins,
-                check,
-            )
-        }
-    }
+    let mut room = Room::new();
+    let table = room.load(code)?;
+    search_table(&table, spins, check)
 }

@@ -18,10 +18,7 @@ const FLOOR: i32 = UNIT + i32::MIN;
 fn height_of(x: i32) -> i32
     ensures { result ≡ height (is_neg x) x }
 {
-    if x < 0 {
-        return UNIT + x;
-    }
-    UNIT - x
+    if x < 0 { UNIT + x } else { UNIT - x }
 }
 
 // Bit k alone.
@@ -29,7 +26,7 @@ pub(crate) fn bit(k: usize) -> u32
     requires { k < max_degree }
     ensures { result ≡ 2 ^ k }
 {
-    1u32 << (k as u32)
+    1 << k
 }
 
 // Bit k if x is negative.
@@ -37,15 +34,12 @@ fn sign_bit(x: i32, k: usize) -> u32
     requires { k < max_degree }
     ensures { result ≡ digit (is_neg x) * 2 ^ k }
 {
-    if x < 0 {
-        return bit(k);
-    }
-    0
+    if x < 0 { bit(k) } else { 0 }
 }
 
 // The negative values as a mask, the sum of the heights above 0, the greatest height and the first
 // place that has it.
-#[derive(Clone, Copy)]
+#[derive(Clone, Copy, Debug, PartialEq, Eq)]
 pub struct Scan {
     pub mask: u32,
     pub room: u32,
@@ -73,20 +67,15 @@ impl Scan {
     {
         let mask = self.mask | sign_bit(x, k);
         let room = self.room + above(h);
-        let top = self.top;
-        if top < h {
-            return Scan {
+        if self.top < h {
+            Scan {
                 mask,
                 room,
                 top: h,
                 place: k,
-            };
-        }
-        Scan {
-            mask,
-            room,
-            top,
-            place: self.place,
+            }
+        } else {
+            Scan { mask, room, ..self }
         }
     }
 }
@@ -97,13 +86,10 @@ pub(crate) fn scan_values(v: &[i32], heights: &mut [i32]) -> Scan
     ensures { Scanned v.now result × (heights.new ≡ over (sights v.now) heights.old) }
 {
     let mut s = Scan::new();
-    let mut i: usize = 0;
-    while i < v.len() {
-        let x = v[i];
+    for (i, &x) in v.iter().enumerate() {
         let h = height_of(x);
         heights[i] = h;
         s = s.with(x, h, i);
-        i += 1;
     }
     s
 }

@@ -22,10 +22,12 @@ use Rattle.rules.proofs.Counted.{all-counted}
 use Rattle.table.specs.Starts.{starts_of}
 use Rattle.table.specs.Layout.{Opened}
 use Rattle.table.proofs.LayoutLaws.{laid-opened}
-use Rattle.run.specs.declared.Admitted.{Admitted}
-use Rattle.run.specs.declared.Admitted.TheVariants.{Refused, Sized}
+use Rattle.std.specs.Prelude.{Result, Ok, Err}
+use Rattle.limits.specs.declared.refusals.Refusal.{Refusal}
+use Rattle.limits.specs.Numbers.{number_of}
+use Rattle.table.specs.declared.Sizes as table
 use Rattle.run.specs.Slices.{lent_of, told_of}
-use Rattle.run.specs.Admitted.{Sizes, admitted_of, sizes_of, Admission, admission_by, admission}
+use Rattle.run.specs.Admitted.{Sizes, sizes_by, admitted_of, sizes_of, Admission, admission_by, admission}
 use Rattle.run.proofs.AdmitLaws.{Admits, admits-refused, admits-gives, admission-room}
 use Rattle.decoder.specs.Finished.{front_table, PartsFit}
 
@@ -38,7 +40,7 @@ admission_in file l wanted r ss ms =
     let b = r.buffers in
     admission file l wanted (lent_of (told_of b) b.copies b.offsets b.sums) r.progress b.copies b.offsets b.sums ss ms
 
-abbrev answered : Admitted → List ℕ → List ℕ → Admission
+abbrev answered : Result table.Sizes Refusal → List ℕ → List ℕ → Admission
 answered a ss ms = record { answer = admitted_of a; starts = ss; members = ms }
 
 told-lengths : (b : Buffers) → lent_of (told_of b) b.copies b.offsets b.sums ≡ lengths_of b
@@ -136,22 +138,22 @@ module _ (file : List ℕ) (l : List ℤ) (wanted : ℕ) (r : Run) (ss ms : List
       a' : Admits t l wanted (lengths_of r.buffers) r (sizes_of t)
       a' = subst (Admits t l wanted (lengths_of r.buffers) r) a.sizes a
 
-  admitted-good : (n m e : ℕ) (ss' ms' : List ℕ) → answered (Sized n m e) ss' ms' ≡ admission_in file l wanted r ss ms → Fits n m e ss' ms'
+  admitted-good : (z : table.Sizes) (ss' ms' : List ℕ) → answered (Ok z) ss' ms' ≡ admission_in file l wanted r ss ms → Fits z.bits z.checks z.edges ss' ms'
   unfolding Good
-  admitted-good n m e ss' ms' f = subst Good (sym (f ∙ roomy-in)) (good-by (code_file file) refl) (record { bits = n; checks = m; edges = e }) refl
+  admitted-good z ss' ms' f = subst Good (sym (f ∙ roomy-in)) (good-by (code_file file) refl) (sizes_by z) refl
 
   -- ---- by the case that the code's answer a was found to be
-  module _ (a : Admitted) (ss' ms' : List ℕ) (e : answered a ss' ms' ≡ admission_in file l wanted r ss ms) where
-    pub found-refused : (k : ℕ) → a ≡ Refused k → refused_at k r ≡ call file l wanted r
+  module _ (a : Result table.Sizes Refusal) (ss' ms' : List ℕ) (e : answered a ss' ms' ≡ admission_in file l wanted r ss ms) where
+    pub found-refused : (k : Refusal) → a ≡ Err k → refused_at (number_of k) r ≡ call file l wanted r
     unfolding call
-    found-refused k f = refused-by k (code_file file) l wanted r ss ms (ap (λ x. (answered x ss' ms').answer) (sym f) ∙ ap (λ d. d.answer) (e ∙ roomy-in))
+    found-refused k f = refused-by (number_of k) (code_file file) l wanted r ss ms (ap (λ x. (answered x ss' ms').answer) (sym f) ∙ ap (λ d. d.answer) (e ∙ roomy-in))
 
-    module _ (n m z : ℕ) (f : a ≡ Sized n m z) where
-      found-good : Fits n m z ss' ms'
-      found-good = admitted-good n m z ss' ms' (ap (λ x. answered x ss' ms') (sym f) ∙ e)
+    module _ (z : table.Sizes) (f : a ≡ Ok z) where
+      found-good : Fits z.bits z.checks z.edges ss' ms'
+      found-good = admitted-good z ss' ms' (ap (λ x. answered x ss' ms') (sym f) ∙ e)
 
-      pub found-fit : PartsFit n m z l ss' ms' r
+      pub found-fit : PartsFit z.bits z.checks z.edges l ss' ms' r
       found-fit = found-good.0
 
-      pub found-call : Done file l wanted r n m z ss' ms'
+      pub found-call : Done file l wanted r z.bits z.checks z.edges ss' ms'
       found-call = found-good.1

@@ -11,7 +11,8 @@ use Rattle.integers.specs.Linear.{Within}
 use Rattle.integers.specs.Clip.{clip_z}
 use Rattle.integers.specs.Sum.{AllWithin}
 use Rattle.rules.specs.Limits.{unit, round_limit, offset_per_round, offset_limit, value_limit, weight_limit, sum_limit, step_limit, max_bit_degree}
-use Rattle.rules.specs.Table.{Table, at, edges_of, degree_of}
+use Rattle.rules.specs.Table.{Table, at, edges, edges_of, degree_of}
+use Rattle.rules.specs.Sound.{Sound}
 use Rattle.rules.specs.Cut.{negatives, keep}
 use Rattle.rules.specs.Step.{Entry, minus}
 use Rattle.rules.specs.Round.{State, total, divided, spin, first_of, sums_of, Round, round}
@@ -24,14 +25,13 @@ use Rattle.rules.proofs.Steps.{minus-within}
 use Rattle.rules.proofs.SumLaws.{zeros-room, sum-within}
 use Rattle.rules.proofs.RoundSizes.{first-length, first-at, Sized, round-sized}
 use Rattle.rules.proofs.Runs.{multipliers-limit, safe-moves}
-use Rattle.table.specs.Layout.{checks_from, table_of, Holds}
 use Rattle.decoder.specs.Spins.{SpinsFit, Spun}
 use Rattle.decoder.specs.Passed.{Passed, PassFits, passed, passed_of}
 use Rattle.decoder.specs.Closing.{AllUpTo, GapFits}
 use Rattle.run.specs.Ending.{closing, status_by, record_by}
 use Rattle.run.proofs.EndingLaws.{counted_next}
 use Rattle.decoder.specs.Found.{found}
-use Rattle.decoder.specs.Rounds.{Given, looped, filled, rounds_from, Ready}
+use Rattle.decoder.specs.Rounds.{Given, looped, filled, rounds_from, Steady}
 use Rattle.decoder.proofs.PlaceLaws.{first-same}
 use Rattle.decoder.proofs.ExactLaws.{state-exact, sums-exact}
 use Rattle.decoder.proofs.RoundLaws.{spins-are, passed_is, spins-within, found_in, round-closed}
@@ -51,34 +51,28 @@ first-all b (suc n) f w = (w 0 (omega arith), first-all b n (λ i. f (suc i)) (�
 offsets-low : (k : ℕ) → k < round_limit → offset_per_round * k ≤ offset_limit
 offsets-low k h = omega arith
 
-module _ {l : List ℤ} {ss ms ds : List ℕ} {r : Run} (g : Given (length l) l ss ms ds) (h : Ready l ss ms r) where
-  t : Table
-  t = table_of (length l) ss ms
-
+module _ {t : Table} {l : List ℤ} {ds : List ℕ} {r : Run} (sound : Sound t) (g : Given t l ds) (h : Steady t r) where
   st : State
   st = record { copies = r.buffers.copies; offsets = r.buffers.offsets }
 
   d : Round
   d = round t l st
 
-  here : state_in (table_of (length l) ss ms) (filled (table_of (length l) ss ms) r).buffers ≡ record { copies = r.buffers.copies; offsets = r.buffers.offsets }
-  here = state-exact (table_of (length l) ss ms) (filled (table_of (length l) ss ms) r).buffers h.sizes
+  here : state_in t (filled t r).buffers ≡ record { copies = r.buffers.copies; offsets = r.buffers.offsets }
+  here = state-exact t (filled t r).buffers h.sizes
 
   -- ---- what the spins and the pass are given
   pub early : r.progress.rounds < round_limit
   early = h.safe.early h.runs
 
-  members-long : edges_of (table_of (length l) ss ms) ≡ length ms
-  members-long = ap length (sym g.holds.members)
-
-  spins-long : length r.buffers.spins ≡ length l
+  spins-long : length r.buffers.spins ≡ t.bits
   spins-long = ap (λ n. n spins) h.sizes
 
-  copies-long : length r.buffers.copies ≡ length ms
-  copies-long = ap (λ n. n copies) h.sizes ∙ members-long
+  copies-long : length r.buffers.copies ≡ edges_of t
+  copies-long = ap (λ n. n copies) h.sizes
 
-  offsets-long : length r.buffers.offsets ≡ length ms
-  offsets-long = ap (λ n. n offsets) h.sizes ∙ members-long
+  offsets-long : length r.buffers.offsets ≡ edges_of t
+  offsets-long = ap (λ n. n offsets) h.sizes
 
   offsets-within : AllWithin (offset_per_round * r.progress.rounds) r.buffers.offsets
   offsets-within = subst (λ s. AllWithin (offset_per_round * r.progress.rounds) s.offsets) here h.safe.offsets
@@ -86,16 +80,15 @@ module _ {l : List ℤ} {ss ms ds : List ℕ} {r : Run} (g : Given (length l) l 
   offsets-few : AllWithin offset_limit r.buffers.offsets
   offsets-few = all-wider (offset_per_round * r.progress.rounds) offset_limit r.buffers.offsets (offsets-low r.progress.rounds early) offsets-within
 
-  sums-long : length r.buffers.sums ≡ length l
+  sums-long : length r.buffers.sums ≡ t.bits
   sums-long = ap (λ n. n sums) h.sizes
 
   -- the sums are those of copies and offsets
-  sums-are : r.buffers.sums ≡ sums_of (length l) ms (record { copies = r.buffers.copies; offsets = r.buffers.offsets })
-  sums-are = sym (sums-exact (table_of (length l) ss ms) (filled (table_of (length l) ss ms) r).buffers h.sizes) ∙ h.safe.sums
-      ∙ ap₂ (sums_of (length l)) (sym g.holds.members) here
+  sums-are : r.buffers.sums ≡ sums_of t.bits (edges t.checks) (record { copies = r.buffers.copies; offsets = r.buffers.offsets })
+  sums-are = sym (sums-exact t (filled t r).buffers h.sizes) ∙ h.safe.sums ∙ ap (sums_of t.bits (edges t.checks)) here
 
-  standing : (i : ℕ) → i < length l → degree_of i ms ≤ max_bit_degree
-  standing i k = subst (λ es. degree_of i es ≤ max_bit_degree) (sym g.holds.members) (g.holds.sound.standing i k).1
+  standing : (i : ℕ) → i < t.bits → degree_of i (edges t.checks) ≤ max_bit_degree
+  standing i k = (sound.standing i k).1
 
   weights-within : AllWithin weight_limit (minus r.buffers.copies r.buffers.offsets)
   weights-within = all-wider value_limit weight_limit (minus r.buffers.copies r.buffers.offsets) (omega arith)
@@ -104,7 +97,7 @@ module _ {l : List ℤ} {ss ms ds : List ℕ} {r : Run} (g : Given (length l) l 
   sums-within : AllWithin sum_limit r.buffers.sums
   unfolding sums_of
   sums-within = subst (AllWithin sum_limit) (sym sums-are)
-      (first-all sum_limit (length l) _ (λ i k. sum-within i ms (minus r.buffers.copies r.buffers.offsets) (standing i k) weights-within))
+      (first-all sum_limit t.bits _ (λ i k. sum-within i (edges t.checks) (minus r.buffers.copies r.buffers.offsets) (standing i k) weights-within))
 
   pub spins-fit : SpinsFit (length r.buffers.spins) l ds r.buffers.sums
   spins-fit = subst (λ n. SpinsFit n l ds r.buffers.sums) (sym spins-long) (record {
@@ -117,69 +110,65 @@ module _ {l : List ℤ} {ss ms ds : List ℕ} {r : Run} (g : Given (length l) l 
 
   -- after step 1
   module _ {s x : List ℤ} (e : Spun (length r.buffers.spins) l ds r.buffers.sums s x) where
-    spin-is : (i : ℕ) → i < length l → clip_z unit (divided (at l i +ℤ at r.buffers.sums i) (get_or ds i 0)) ≡ spin unit ms l (record { copies = r.buffers.copies; offsets = r.buffers.offsets }) i
+    spin-is : (i : ℕ) → i < t.bits → clip_z unit (divided (at l i +ℤ at r.buffers.sums i) (get_or ds i 0)) ≡ spin unit (edges t.checks) l (record { copies = r.buffers.copies; offsets = r.buffers.offsets }) i
     unfolding spin total sums_of
-    spin-is i k = ap₂ (λ a d. clip_z unit (divided (at l i +ℤ a) d)) (ap (λ q. at q i) sums-are ∙ first-at (length l) _ i k) (g.degrees i k)
+    spin-is i k = ap₂ (λ a d. clip_z unit (divided (at l i +ℤ a) d)) (ap (λ q. at q i) sums-are ∙ first-at t.bits _ i k) (g.degrees i k)
 
-    e' : s ≡ first_of (length l) (spin unit ms l (record { copies = r.buffers.copies; offsets = r.buffers.offsets }))
-    e' = e.spins ∙ ap (λ n. first_of n (λ i. clip_z unit (divided (at l i +ℤ at r.buffers.sums i) (get_or ds i 0)))) spins-long ∙ first-same (length l) _ _ spin-is
+    e' : s ≡ first_of t.bits (spin unit (edges t.checks) l (record { copies = r.buffers.copies; offsets = r.buffers.offsets }))
+    e' = e.spins ∙ ap (λ n. first_of n (λ i. clip_z unit (divided (at l i +ℤ at r.buffers.sums i) (get_or ds i 0)))) spins-long ∙ first-same t.bits _ _ spin-is
 
-    cleared : x ≡ zeros (length l)
+    cleared : x ≡ zeros t.bits
     cleared = e.sums ∙ ap zeros spins-long
 
-    s-long : length s ≡ length l
-    s-long = ap length e' ∙ first-length (length l) _
+    s-long : length s ≡ t.bits
+    s-long = ap length e' ∙ first-length t.bits _
 
-    pub pass_fits : PassFits (length s) ss ms s r.buffers.copies r.buffers.offsets x r.buffers.multipliers r.buffers.masks r.buffers.depths
+    pub pass_fits : PassFits t s r.buffers.copies r.buffers.offsets x r.buffers.multipliers r.buffers.masks r.buffers.depths
     pass_fits = record {
-      holds = subst (λ k. Holds k ss ms) (sym s-long) g.holds;
-      size = refl;
-      spins = subst (λ x. AllWithin unit x) (sym e') (spins-within unit (length l) ms l _);
+      size = s-long;
+      spins = subst (λ x. AllWithin unit x) (sym e') (spins-within unit t.bits (edges t.checks) l _);
       copies_long = copies-long;
       offsets_long = offsets-long;
       offsets = offsets-few;
-      sums_long = ap length cleared ∙ length-replicate (length l) (pos 0) ∙ sym s-long;
-      room = subst (Room ms) (sym cleared) (zeros-room (length l) ms standing);
+      sums_long = ap length cleared ∙ length-replicate t.bits (pos 0) ∙ sym s-long;
+      room = subst (Room (edges t.checks)) (sym cleared) (zeros-room t.bits (edges t.checks) standing);
       multipliers_long = ap (λ n. n multipliers) h.sizes;
       masks_long = ap (λ n. n masks) h.sizes;
       depths_long = ap (λ n. n depths) h.sizes;
     }
 
     spins-is : s ≡ d.spins
-    unfolding d t st
-    spins-is = e' ∙ spins-are (length l) l ss ms g.holds _
+    unfolding d st
+    spins-is = e' ∙ spins-are t sound.below l _
 
     -- after steps 2 and 3
-    module _ {p : Passed} (f : p ≡ passed (at s) (checks_from ss ms) r.buffers.offsets x) where
+    module _ {p : Passed} (f : p ≡ passed (at s) t.checks r.buffers.offsets x) where
       pass-is : p ≡ passed_of d
-      unfolding d t st
-      pass-is = passed_is (length l) l ss ms g.holds (record { copies = r.buffers.copies; offsets = r.buffers.offsets }) s x p e' cleared f
+      unfolding d st
+      pass-is = passed_is t sound.below l (record { copies = r.buffers.copies; offsets = r.buffers.offsets }) s x p e' cleared f
 
       sized : Sized t d
-      unfolding d t
+      unfolding d
       sized = round-sized t l st
 
       limited : AllUpTo step_limit p.multipliers
-      unfolding d t st
+      unfolding d st
       limited = subst (λ x. AllUpTo step_limit x.multipliers) (sym pass-is) (up_to step_limit d.entries (multipliers-limit t l st r.progress.rounds early offsets-within))
 
-      pub gap-fits : GapFits (length s) l s ss ms p.multipliers p.masks
-      unfolding t
+      pub gap-fits : GapFits t l s p.multipliers p.masks
       gap-fits = record {
-        holds = subst (λ k. Holds k ss ms) (sym s-long) g.holds;
-        frame_long = sym s-long;
+        frame_long = g.size;
         frame = g.frame;
-        spins_long = refl;
+        spins_long = s-long;
         multipliers_long = ap (λ x. length x.multipliers) pass-is ∙ sized.multipliers;
         masks_long = ap (λ x. length x.masks) pass-is ∙ sized.masks;
         multipliers = limited;
       }
 
       -- after step 4
-      module _ {o : Option ℤ} {q : Progress} (i : o ≡ found l (checks_from ss ms) s p.multipliers p.masks) (j : q ≡ record_by o r.progress) where
+      module _ {o : Option ℤ} {q : Progress} (i : o ≡ found l t.checks s p.multipliers p.masks) (j : q ≡ record_by o r.progress) where
         found-is : o ≡ found_in t l d
-        unfolding t
-        found-is = i ∙ ap₂ (λ x y. found l (checks_from ss ms) x y.multipliers y.masks) spins-is pass-is
+        found-is = i ∙ ap₂ (λ x y. found l t.checks x y.multipliers y.masks) spins-is pass-is
 
         record_is : q ≡ record { rounds = suc r.progress.rounds; status = status_at (suc r.progress.rounds) d.word }
         unfolding d
@@ -189,8 +178,8 @@ module _ {l : List ℤ} {ss ms ds : List ℕ} {r : Run} (g : Given (length l) l 
             (status-by (suc r.progress.rounds) (closing (found_in t l (round t l st))) (negatives (round t l st).spins) ∙ ap (status_at (suc r.progress.rounds)) (round-closed t l st))
 
         -- the round is what the rules' next round is
-        pub done-law : record { progress = q; buffers = round_lent s p.copies p.offsets p.sums p.multipliers p.masks p.depths } ≡ rounds_from 1 l ss ms r
-        unfolding rounds_from iterate d t st
+        pub done-law : record { progress = q; buffers = round_lent s p.copies p.offsets p.sums p.multipliers p.masks p.depths } ≡ rounds_from 1 l t r
+        unfolding rounds_from iterate d st
         done-law = ap₂ (λ x y. record { progress = x; buffers = y }) record_is
             (ap₂ (λ v y. round_lent v y.copies y.offsets y.sums y.multipliers y.masks y.depths) spins-is pass-is ∙ sym exact)
             ∙ ap (λ x. looped (moved (filled t r) (round t l x))) (sym here) ∙ ap looped (sym (safe-moves t l (filled t r) h.safe h.runs))

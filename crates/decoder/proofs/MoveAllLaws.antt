@@ -10,8 +10,7 @@ use lib.ListN.{length, get_or, set}
 use lib.IntN.{ℤ, pos, ◌+ℤ◌, ◌-ℤ◌}
 use mir.Syntax.{w32}
 use mir.Val.{SFits, to_z}
-use mir.Facts.{to_z_pos}
-use Rattle.rules.specs.Limits.{step_limit, value_limit, weight_limit, unit}
+use Rattle.rules.specs.Limits.{value_limit, weight_limit, unit, step_limit}
 use Rattle.integers.specs.Linear.{lin, arith_z, Within}
 use Rattle.rules.specs.Table.{at}
 use Rattle.rules.specs.Mask.{set_of}
@@ -26,15 +25,7 @@ use Rattle.rules.proofs.FillLaws.{fill, fill_none, fill-length, fill-at, fill_mo
 use Rattle.decoder.specs.Stepped.{new_copies, new_offsets, MoveFits, Moved}
 use Rattle.decoder.proofs.MaskLaws.{set_at, set-alike}
 use Rattle.decoder.proofs.StepListLaws.{moves-length, moves-at}
-
-pub word-pos : (b : ℕ) → b ≤ step_limit → to_z w32 b ≡ pos b
-word-pos b h = to_z_pos w32 (omega arith)
-
-pub up_fits : (v : ℤ) (b : ℕ) → Within value_limit v → b ≤ step_limit → SFits w32 (v +ℤ pos b)
-up_fits v b = simp lin (omega arith_z)
-
-pub down_fits : (v : ℤ) (b : ℕ) → Within value_limit v → b ≤ step_limit → SFits w32 (v -ℤ pos b)
-down_fits v b = simp lin (omega arith_z)
+use mir.Facts.{to_z_pos}
 
 pub offset-fits : (v z : ℤ) → Within value_limit v → Within unit z → SFits w32 (v -ℤ z)
 offset-fits v z = simp lin (omega arith_z)
@@ -83,6 +74,10 @@ module _ {b m : ℕ} {ms : List ℕ} {z₀ v x₀ : List ℤ} (f : MoveFits b ms
     pub moving-at : at y i ≡ at v i
     moving-at = ap (λ l. at l i) g.offsets ∙ fill-at i (new_offsets b m v) v (pos 0)
 
+    -- and its member has a sum
+    pub inside : i < length v → get_or ms i 0 < length x
+    inside h = subst (λ n. get_or ms i 0 < n) (sym g.sums.long) (below_at (length x₀) ms i (omega (arith, f.members_long)) f.below)
+
     -- it goes to c, and its offset is w
     module _ {t : Bool} {c w : ℤ} (h : i < length v) (d : t ≡ eqb (m / 2 ^ i % 2) 1) (e : c ≡ move unit b t (at v i)) (k : w ≡ at v i -ℤ c) where
       copy : c ≡ at (new_copies b m v) i
@@ -100,18 +95,15 @@ module _ {b m : ℕ} {ms : List ℕ} {z₀ v x₀ : List ℤ} (f : MoveFits b ms
       pub weight-fits : SFits w32 (c -ℤ w)
       weight-fits = weight-word (c -ℤ w) small
 
-      -- its member's sum, and that it has room
+      -- its member's sum has room
       there : i < length ms
       there = omega (arith, f.members_long)
-
-      pub inside : get_or ms i 0 < length x
-      inside = subst (λ n. get_or ms i 0 < n) (sym g.sums.long) (below_at (length x₀) ms i there f.below)
 
       held : Within weight_limit (at (weights_of b m v) i)
       held = subst (Within weight_limit) weight small
 
       pub sum_fits : SFits w32 (at x (get_or ms i 0) +ℤ (c -ℤ w))
-      sum_fits = subst (λ n. SFits w32 (at x (get_or ms i 0) +ℤ n)) (sym weight) (added-fits g.sums there (omega (arith, weights-long b m v)) inside held)
+      sum_fits = subst (λ n. SFits w32 (at x (get_or ms i 0) +ℤ n)) (sym weight) (added-fits g.sums there (omega (arith, weights-long b m v)) (inside h) held)
 
       pub moving-next : {z' y' x' : List ℤ} → z' ≡ set z i c → y' ≡ set y i w → x' ≡ set x (get_or ms i 0) (at x (get_or ms i 0) +ℤ (c -ℤ w)) → Moving b m ms z₀ v x₀ (i + 1) z' y' x'
       moving-next {z'} {y'} {x'} p q r = record {
@@ -119,7 +111,7 @@ module _ {b m : ℕ} {ms : List ℕ} {z₀ v x₀ : List ℤ} (f : MoveFits b ms
         copies = p ∙ fill_more i (new_copies b m v) z₀ z c (pos 0) (omega (arith, copies-long b m v)) copy g.copies;
         offsets = q ∙ fill_more i (new_offsets b m v) v y w (pos 0) (omega (arith, offsets-long b m v)) offset g.offsets;
         sums = subst (Added ms (weights_of b m v) x₀ (i + 1)) (sym r)
-            (added_more g.sums there (omega (arith, weights-long b m v)) inside held (ap (λ n. at x (get_or ms i 0) +ℤ n) weight));
+            (added_more g.sums there (omega (arith, weights-long b m v)) (inside h) held (ap (λ n. at x (get_or ms i 0) +ℤ n) weight));
       }
 
     pub moving-last : length v ≤ i → Moved b m ms v x₀ z y x
@@ -128,3 +120,13 @@ module _ {b m : ℕ} {ms : List ℕ} {z₀ v x₀ : List ℤ} (f : MoveFits b ms
       offsets = g.offsets ∙ fill-all i (new_offsets b m v) v (offsets-long b m v) (omega (arith, g.few));
       sums = added-all g.sums (omega (arith, f.members_long));
     }
+
+-- No proof cites these any more, since the check finds what they say.
+pub word-pos : (b : ℕ) → b ≤ step_limit → to_z w32 b ≡ pos b
+word-pos b h = to_z_pos w32 (omega arith)
+
+pub up_fits : (v : ℤ) (b : ℕ) → Within value_limit v → b ≤ step_limit → SFits w32 (v +ℤ pos b)
+up_fits v b = simp lin (omega arith_z)
+
+pub down_fits : (v : ℤ) (b : ℕ) → Within value_limit v → b ≤ step_limit → SFits w32 (v -ℤ pos b)
+down_fits v b = simp lin (omega arith_z)

@@ -9,7 +9,7 @@ use lib.Seq.{drop-drop}
 use lib.IntN.{ℤ}
 use Rattle.integers.specs.Sum.{AllWithin}
 use Rattle.rules.specs.Limits.{unit, offset_limit, weight_limit, max_degree}
-use Rattle.rules.specs.Table.{at}
+use Rattle.rules.specs.Table.{Table, at, checks_of}
 use Rattle.rules.specs.Sound.{Below}
 use Rattle.rules.specs.Step.{Step, step, minus}
 use Rattle.rules.specs.Round.{values, pass, copies_in, offsets_in, entries_in}
@@ -20,7 +20,7 @@ use Rattle.rules.proofs.Optimal.{within-at}
 use Rattle.rules.proofs.Steps.{minus-within, minus-length, minus-drop, minus-take}
 use Rattle.rules.proofs.SumLaws.{room-first, added_none, added-all, added-part}
 use Rattle.rules.proofs.FillLaws.{fill, fill_none, fill-length, fill-rest, fill_more, fill-all}
-use Rattle.table.specs.Layout.{checks_from, edges_before}
+use Rattle.table.specs.Layout.{checks_from, table_of, edges_before, Holds}
 use Rattle.decoder.specs.Stepped.{Stepped, summed, stepped_by, stepped_on, stepped}
 use Rattle.decoder.specs.Passed.{Passed, passed_to, passed, PassFits}
 use Rattle.decoder.specs.Parts.{part, placed, one_passed, OneFits}
@@ -46,7 +46,20 @@ pub record Passing (f : ℕ → ℤ) (ss ms : List ℕ) (q₀ q : Passed) (j : �
 pub passed-eq : {a a' b b' x x' : List ℤ} {c c' d d' e e' : List ℕ} → a ≡ a' → b ≡ b' → x ≡ x' → c ≡ c' → d ≡ d' → e ≡ e' → passed_to a b x c d e ≡ passed_to a' b' x' c' d' e'
 passed-eq p q x r s t = λ i. passed_to (p i) (q i) (x i) (r i) (s i) (t i)
 
-module _ {n : ℕ} {ss ms : List ℕ} {s z y x : List ℤ} {bs ks ds : List ℕ} (fits : PassFits n ss ms s z y x bs ks ds) where
+-- the fields n, ss and ms of the table t hold it
+module _ {n : ℕ} {ss ms : List ℕ} {t : Table} {s z y x : List ℤ} {bs ks ds : List ℕ} (held : Holds n ss ms) (is : table_of n ss ms ≡ t) (given : PassFits t s z y x bs ks ds) where
+  fits : PassFits (table_of n ss ms) s z y x bs ks ds
+  fits = subst (λ t. PassFits t s z y x bs ks ds) (sym is) given
+
+  z-long : length z ≡ length ms
+  z-long = fits.copies_long ∙ sym (members-long n ss ms held)
+
+  y-long : length y ≡ length ms
+  y-long = fits.offsets_long ∙ sym (members-long n ss ms held)
+
+  room-is : Room ms x
+  room-is = subst (λ es. Room es x) (sym held.members) fits.room
+
   abbrev cs : List (List ℕ)
   cs = checks_from ss ms
 
@@ -67,11 +80,11 @@ module _ {n : ℕ} {ss ms : List ℕ} {s z y x : List ℤ} {bs ks ds : List ℕ}
 
   copies-same : length goal.copies ≡ length z
   unfolding passed
-  copies-same = copies_length unit cs steps laid ∙ sym (members-long n ss ms fits.holds) ∙ sym fits.copies_long
+  copies-same = copies_length unit cs steps laid ∙ sym (members-long n ss ms held) ∙ sym z-long
 
   offsets-same : length goal.offsets ≡ length y
   unfolding passed
-  offsets-same = offsets-length unit cs steps laid ∙ sym (members-long n ss ms fits.holds) ∙ sym fits.offsets_long
+  offsets-same = offsets-length unit cs steps laid ∙ sym (members-long n ss ms held) ∙ sym y-long
 
   multipliers-same : length goal.multipliers ≡ length bs
   unfolding passed
@@ -86,7 +99,7 @@ module _ {n : ℕ} {ss ms : List ℕ} {s z y x : List ℤ} {bs ks ds : List ℕ}
   depths-same = depths-length unit cs steps laid ∙ sym fits.depths_long
 
   weights-long : length (weights_in goal) ≡ length ms
-  weights-long = minus-length goal.copies goal.offsets (copies-same ∙ fits.copies_long ∙ sym (offsets-same ∙ fits.offsets_long)) ∙ copies-same ∙ fits.copies_long
+  weights-long = minus-length goal.copies goal.offsets (copies-same ∙ z-long ∙ sym (offsets-same ∙ y-long)) ∙ copies-same ∙ z-long
 
   weights-within : AllWithin weight_limit (weights_in goal)
   unfolding passed
@@ -94,21 +107,21 @@ module _ {n : ℕ} {ss ms : List ℕ} {s z y x : List ℤ} {bs ks ds : List ℕ}
       (offsets-within unit offset_limit (at s) (within-at unit s fits.spins) cs y fits.offsets)
 
   pub one_more : length ss ≡ length cs + 1
-  one_more = starts-long n ss ms fits.holds
+  one_more = starts-long n ss ms held
 
   pub start_first : 0 ≡ from 0
-  start_first = sym (start_is_lem n ss ms fits.holds 0 (omega arith))
+  start_first = sym (start_is_lem n ss ms held 0 (omega arith))
 
   -- a start is no further than the edges go
   start-in : (j : ℕ) → j ≤ length cs → from j ≤ length ms
-  start-in j h = omega (arith, start_is_lem n ss ms fits.holds j h, before-most cs j, members-long n ss ms fits.holds)
+  start-in j h = omega (arith, start_is_lem n ss ms held j h, before-most cs j, members-long n ss ms held)
 
   pub passing-first : Passing (at s) ss ms first first 0
   passing-first = record {
     few = omega arith;
     copies = sym (fill_none goal.copies z) ∙ ap (λ a. fill a goal.copies z) start_first;
     offsets = sym (fill_none goal.offsets y) ∙ ap (λ a. fill a goal.offsets y) start_first;
-    sums = subst (λ a. Added ms (weights_in goal) x a x) start_first (added_none fits.room);
+    sums = subst (λ a. Added ms (weights_in goal) x a x) start_first (added_none room-is);
     multipliers = sym (fill_none goal.multipliers bs);
     masks = sym (fill_none goal.masks ks);
     depths = sym (fill_none goal.depths ds);
@@ -116,10 +129,10 @@ module _ {n : ℕ} {ss ms : List ℕ} {s z y x : List ℤ} {bs ks ds : List ℕ}
 
   module _ {j : ℕ} {q : Passed} (g : Passing (at s) ss ms first q j) where
     copies-long : length q.copies ≡ length ms
-    copies-long = ap length g.copies ∙ fill-length (from j) goal.copies z ∙ fits.copies_long
+    copies-long = ap length g.copies ∙ fill-length (from j) goal.copies z ∙ z-long
 
     offsets-long : length q.offsets ≡ length ms
-    offsets-long = ap length g.offsets ∙ fill-length (from j) goal.offsets y ∙ fits.offsets_long
+    offsets-long = ap length g.offsets ∙ fill-length (from j) goal.offsets y ∙ y-long
 
     multipliers-long : length q.multipliers ≡ length cs
     multipliers-long = ap length g.multipliers ∙ fill-length j goal.multipliers bs ∙ fits.multipliers_long
@@ -130,30 +143,12 @@ module _ {n : ℕ} {ss ms : List ℕ} {s z y x : List ℤ} {bs ks ds : List ℕ}
     depths-long : length q.depths ≡ length cs
     depths-long = ap length g.depths ∙ fill-length j goal.depths ds ∙ fits.depths_long
 
-    -- as many masks as checks, to the end
-    pub still : j < length q.masks → j < length cs
-    still h = omega (arith, masks-long)
-
-    pub past : length q.masks ≤ j → length cs ≤ j
-    past h = omega (arith, masks-long)
-
-    pub passing-long : (length q.copies ≡ length z) × (length q.offsets ≡ length y) × (length q.sums ≡ length x)
-        × (length q.multipliers ≡ length bs) × (length q.masks ≡ length ks) × (length q.depths ≡ length ds)
-    passing-long = (
-      copies-long ∙ sym fits.copies_long,
-      offsets-long ∙ sym fits.offsets_long,
-      g.sums.long,
-      multipliers-long ∙ sym fits.multipliers_long,
-      masks-long ∙ sym fits.masks_long,
-      depths-long ∙ sym fits.depths_long,
-    )
-
-    pub passing-last : length cs ≤ j → q ≡ goal
+    passing-done : length cs ≤ j → q ≡ goal
     unfolding passed
-    passing-last h = passed-eq
-        (g.copies ∙ fill-all (from j) goal.copies z copies-same (end ∙ sym fits.copies_long))
-        (g.offsets ∙ fill-all (from j) goal.offsets y offsets-same (end ∙ sym fits.offsets_long))
-        (added-all g.sums (omega (arith, end)) ∙ ap (λ l. scatter l (weights_in goal) x) fits.holds.members)
+    passing-done h = passed-eq
+        (g.copies ∙ fill-all (from j) goal.copies z copies-same (end ∙ sym z-long))
+        (g.offsets ∙ fill-all (from j) goal.offsets y offsets-same (end ∙ sym y-long))
+        (added-all g.sums (omega (arith, end)) ∙ ap (λ l. scatter l (weights_in goal) x) held.members)
         (g.multipliers ∙ fill-all j goal.multipliers bs multipliers-same (done ∙ sym fits.multipliers_long))
         (g.masks ∙ fill-all j goal.masks ks masks-same (done ∙ sym fits.masks_long))
         (g.depths ∙ fill-all j goal.depths ds depths-same (done ∙ sym fits.depths_long))
@@ -162,21 +157,36 @@ module _ {n : ℕ} {ss ms : List ℕ} {s z y x : List ℤ} {bs ks ds : List ℕ}
         done = omega (arith, g.few)
 
         end : from j ≡ length ms
-        end = start_is_lem n ss ms fits.holds j g.few ∙ ap (λ k. edges_before k cs) done ∙ before-all cs ∙ sym (members-long n ss ms fits.holds)
+        end = start_is_lem n ss ms held j g.few ∙ ap (λ k. edges_before k cs) done ∙ before-all cs ∙ sym (members-long n ss ms held)
+
+    pub passing-last : checks_of t ≤ j → q ≡ passed (at s) t.checks y x
+    passing-last h = passing-done (omega (arith, h, ap checks_of is)) ∙ ap (λ a. passed (at s) a.checks y x) is
+
+    -- No proof cites this any more, since the check finds what it says.
+    pub passing-long : (length q.copies ≡ length z) × (length q.offsets ≡ length y) × (length q.sums ≡ length x)
+        × (length q.multipliers ≡ length bs) × (length q.masks ≡ length ks) × (length q.depths ≡ length ds)
+    passing-long = (
+      copies-long ∙ sym z-long,
+      offsets-long ∙ sym y-long,
+      g.sums.long,
+      multipliers-long ∙ sym fits.multipliers_long,
+      masks-long ∙ sym fits.masks_long,
+      depths-long ∙ sym fits.depths_long,
+    )
 
     module _ (h : j < length cs) where
       ordered : from j ≤ from (j + 1)
-      ordered = omega (arith, start-next n ss ms fits.holds j h)
+      ordered = omega (arith, start-next n ss ms held j h)
 
       end-in : from (j + 1) ≤ length ms
       end-in = start-in (j + 1) (omega arith)
 
       width : from (j + 1) - from j ≡ length (get_or cs j [])
-      width = omega (arith, start-next n ss ms fits.holds j h)
+      width = omega (arith, start-next n ss ms held j h)
 
       members-are : part (from j) (from (j + 1)) ms ≡ get_or cs j []
       unfolding part
-      members-are = part-is n ss ms fits.holds j h
+      members-are = part-is n ss ms held j h
 
       -- the offsets of check j are still those that came in
       offsets_are : part (from j) (from (j + 1)) q.offsets ≡ take (from (j + 1) - from j) (drop (from j) y)
@@ -197,7 +207,7 @@ module _ {n : ℕ} {ss ms : List ℕ} {s z y x : List ℤ} {bs ks ds : List ℕ}
       sums-size = g.sums.long ∙ fits.sums_long
 
       below-there : Below (length s) (part (from j) (from (j + 1)) ms)
-      below-there = subst (λ l. Below (length s) l) (sym members-are) (subst (λ k. Below k (get_or cs j [])) (sym fits.size) (part-below n ss ms fits.holds j h))
+      below-there = subst (λ l. Below (length s) l) (sym members-are) (subst (λ k. Below k (get_or cs j [])) (sym fits.size) (part-below n ss ms held j h))
 
       fits-there : OneFits j (from j) (from (j + 1)) s ms q.copies q.offsets q.sums q.multipliers q.masks q.depths
       fits-there = record {
@@ -209,7 +219,7 @@ module _ {n : ℕ} {ss ms : List ℕ} {s z y x : List ℤ} {bs ks ds : List ℕ}
         mask_there = omega (arith, masks-long);
         depth_there = omega (arith, depths-long);
         step = record {
-          few = subst (λ l. length l ≤ max_degree) (sym members-are) (part-degree n ss ms fits.holds j h);
+          few = subst (λ l. length l ≤ max_degree) (sym members-are) (part-degree n ss ms held j h);
           below = below-there;
           copies_long = part_length (from j) (from (j + 1)) q.copies (omega (arith, end-in, copies-long)) ∙ sym (part_length (from j) (from (j + 1)) ms end-in);
           offsets_long = part_length (from j) (from (j + 1)) q.offsets (omega (arith, end-in, offsets-long)) ∙ sym (part_length (from j) (from (j + 1)) ms end-in);
@@ -224,7 +234,7 @@ module _ {n : ℕ} {ss ms : List ℕ} {s z y x : List ℤ} {bs ks ds : List ℕ}
       one-fits e = subst (λ a. OneFits j a (from (j + 1)) s ms q.copies q.offsets q.sums q.multipliers q.masks q.depths) (sym e) fits-there
 
       values-are : values (at s) (part (from j) (from (j + 1)) ms) (part (from j) (from (j + 1)) q.offsets) ≡ values (at s) (get_or cs j []) (drop (edges_before j cs) y)
-      values-are = ap₂ (values (at s)) members-are (offsets_are ∙ ap₂ (λ k a. take k (drop a y)) width (start_is_lem n ss ms fits.holds j g.few))
+      values-are = ap₂ (values (at s)) members-are (offsets_are ∙ ap₂ (λ k a. take k (drop a y)) width (start_is_lem n ss ms held j g.few))
           ∙ values-take (at s) (get_or cs j []) (drop (edges_before j cs) y)
 
       stepped-is : stepped (at s) (part (from j) (from (j + 1)) ms) (part (from j) (from (j + 1)) q.offsets) q.sums
@@ -235,7 +245,7 @@ module _ {n : ℕ} {ss ms : List ℕ} {s z y x : List ℤ} {bs ks ds : List ℕ}
       -- the part of a list from start j to start j + 1
       here : (l p : List ℤ) → take (length (get_or cs j [])) (drop (edges_before j cs) l) ≡ p → p ≡ part (from j) (from (j + 1)) l
       unfolding part
-      here l p e = sym e ∙ ap₂ (λ k a. take k (drop a l)) (sym width) (sym (start_is_lem n ss ms fits.holds j g.few))
+      here l p e = sym e ∙ ap₂ (λ k a. take k (drop a l)) (sym width) (sym (start_is_lem n ss ms held j g.few))
 
       -- z − y of this check's edges
       weights-are : minus (step_at unit (at s) cs y j).copies (step_at unit (at s) cs y j).offsets ≡ part (from j) (from (j + 1)) (weights_in goal)
@@ -259,9 +269,9 @@ module _ {n : ℕ} {ss ms : List ℕ} {s z y x : List ℤ} {bs ks ds : List ℕ}
       unfolding passed
       passing-placed = record {
         few = omega arith;
-        copies = fill-part (from j) (from (j + 1)) goal.copies z q.copies _ copies-same ordered (omega (arith, end-in, fits.copies_long))
+        copies = fill-part (from j) (from (j + 1)) goal.copies z q.copies _ copies-same ordered (omega (arith, end-in, z-long))
             (here goal.copies _ (copies_at unit (at s) cs y j h)) g.copies;
-        offsets = fill-part (from j) (from (j + 1)) goal.offsets y q.offsets _ offsets-same ordered (omega (arith, end-in, fits.offsets_long))
+        offsets = fill-part (from j) (from (j + 1)) goal.offsets y q.offsets _ offsets-same ordered (omega (arith, end-in, y-long))
             (here goal.offsets _ (offsets-at unit (at s) cs y j h)) g.offsets;
         sums = sums_next;
         multipliers = fill_more j goal.multipliers bs q.multipliers _ 0 (omega (arith, multipliers-same, fits.multipliers_long)) (sym (multiplier-at unit (at s) cs y j h)) g.multipliers;

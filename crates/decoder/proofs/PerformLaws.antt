@@ -3,7 +3,7 @@ use mathlib.Core.Path.{◌≡◌, refl, sym, ◌∙◌, ap, ap₂, subst}
 use mathlib.Core.Bool.{Bool, true, false}
 use mathlib.Core.List.{List, ◌++◌}
 use mathlib.Core.Option.{some}
-use Prim.Native.Nat.{ℕ, ◌+◌, ◌*◌, ◌≤◌, ◌<◌}
+use Prim.Native.Nat.{ℕ, ◌*◌, ◌≤◌, ◌<◌}
 use native.Mathlib.Omega.{arith}
 use lib.ListN.{length, take, drop, get_or, take-append-drop}
 use lib.Seq.{length-take-le}
@@ -26,7 +26,7 @@ use Rattle.rules.proofs.Runs.{coming, Kept, iterate-kept, held_start, iterate-he
 use Rattle.rules.proofs.Lends.{iterate-lend}
 use Rattle.writing.specs.Written.{certificate_from}
 use Rattle.run.specs.Ending.{closing}
-use Rattle.decoder.specs.Rounds.{Given, looped, filled, rounds_from, Steady, Ready}
+use Rattle.decoder.specs.Rounds.{Given, looped, filled, rounds_from, Steady}
 use Rattle.decoder.specs.Finished.{Ending, ended_to, finished, FinishFits, front_table, PartsFit}
 use Rattle.decoder.proofs.ClosingLaws.{certificate-from}
 use Rattle.decoder.proofs.RoundLaws.{found_in, round-closed}
@@ -36,13 +36,12 @@ pub room_after : {a b n : ℕ} → a ≡ b → n ≤ b → n ≤ a
 room_after e h = omega (arith, e, h)
 
 -- ---- the end of a call, by how the run stands
+pub finish-other : (v : Status) (s : List ℤ) (bs ks w c : List ℕ) → (v ≡ certified → ⊥) → ended_to w c ≡ finished v s bs ks (ended_to w c)
+finish-other running s bs ks w c f = refl
+finish-other certified s bs ks w c f = absurd (f refl)
+finish-other spent s bs ks w c f = refl
+
 module _ (v : Status) (s : List ℤ) (bs ks w c : List ℕ) where
-  pub finish-running : v ≡ running → ended_to w c ≡ finished v s bs ks (ended_to w c)
-  finish-running e = ap (λ x. finished x s bs ks (ended_to w c)) (sym e)
-
-  pub finish-spent : v ≡ spent → ended_to w c ≡ finished v s bs ks (ended_to w c)
-  finish-spent e = ap (λ x. finished x s bs ks (ended_to w c)) (sym e)
-
   pub finish-certified : (w' c' : List ℕ) → v ≡ certified → w' ≡ over (bytes_of (negatives s)) w → c' ≡ over (certificate_from bs ks) c
       → ended_to w' c' ≡ finished v s bs ks (ended_to w c)
   finish-certified w' c' e f g = ap₂ ended_to f g ∙ ap (λ x. finished x s bs ks (ended_to w c)) (sym e)
@@ -80,32 +79,30 @@ module _ {n m e : ℕ} {l : List ℤ} {ss ms : List ℕ} {r : Run} (h : PartsFit
       here = state-part t (needs_by n m e) r.buffers part-needs
 
   -- ---- what the rounds are given: the table, the frame and the degrees
-  pub given-all : {ds : List ℕ} → length ds ≡ max_bits → ((i : ℕ) → i < max_bits → get_or ds i 0 ≡ degree_of i (take e ms)) → Given (length l) l (take (m + 1) ss) (take e ms) ds
-  given-all {ds} d f = subst (λ k. Given k l (take (m + 1) ss) (take e ms) ds) (sym h.size) (record {
-    holds = h.holds;
+  pub given-all : {ds : List ℕ} → length ds ≡ max_bits → ((i : ℕ) → i < max_bits → get_or ds i 0 ≡ degree_of i (take e ms)) → Given (front_table n m e ss ms) l ds
+  given-all d f = record {
     size = h.size;
     frame = h.frame;
     room = omega (arith, h.holds.sound.bits.1);
-    degrees = λ i k. f i (omega (arith, h.holds.sound.bits.1));
-  })
+    degrees = λ i k. f i (omega (arith, h.holds.sound.bits.1)) ∙ ap (degree_of i) h.holds.members;
+  }
 
   -- the run on the parts that are needed
-  pub parts-ready : Ready l (take (m + 1) ss) (take e ms) (looped (lend (needs_by n m e) r))
-  parts-ready = subst (λ k. Steady (front_table k m e ss ms) (looped (lend (needs_by n m e) r))) (sym h.size) (record {
+  pub parts-ready : Steady (front_table n m e ss ms) (looped (lend (needs_by n m e) r))
+  parts-ready = record {
     runs = h.runs;
     sizes = filled-sizes t (lend (needs_by n m e) r) part-sizes;
     safe = record { copies = part-safe.copies; offsets = part-safe.offsets; sums = part-safe.sums; early = part-safe.early };
-  })
+  }
 
-  module _ (wanted : ℕ) {x : Run} (f : x ≡ rounds_from wanted l (take (m + 1) ss) (take e ms) (looped (lend (needs_by n m e) r))) where
+  module _ (wanted : ℕ) {x : Run} (f : x ≡ rounds_from wanted l (front_table n m e ss ms) (looped (lend (needs_by n m e) r))) where
     -- the whole run after the rounds
     abbrev end : Run
     end = iterate t l wanted r
 
     rounds-are : x ≡ looped (lend (needs_by n m e) end)
     unfolding rounds_from
-    rounds-are = f ∙ ap (λ k. looped (iterate (front_table k m e ss ms) l wanted (filled (front_table k m e ss ms) (looped (lend (needs_by n m e) r))))) h.size
-        ∙ iterate-looped t l wanted (filled t (lend (needs_by n m e) r)) ∙ sym (iterate-looped t l wanted (lend (needs_by n m e) r)) ∙ ap looped (iterate-lend t l (needs_by n m e) part-needs wanted r)
+    rounds-are = f ∙ iterate-looped t l wanted (filled t (lend (needs_by n m e) r)) ∙ sym (iterate-looped t l wanted (lend (needs_by n m e) r)) ∙ ap looped (iterate-lend t l (needs_by n m e) part-needs wanted r)
 
     past : AllPast (needs t) end.buffers r.buffers
     past = (iterate-held t l wanted r.buffers r (held_start t r long)).past

@@ -10,6 +10,7 @@ use Rattle.integers.specs.Linear.{Within}
 use Rattle.integers.specs.Sum.{AllWithin}
 use Rattle.rules.specs.Limits.{unit}
 use Rattle.rules.specs.Table.{Table, edges, at}
+use Rattle.rules.specs.Sound.{AllBelow}
 use Rattle.rules.specs.Parity.{meets}
 use Rattle.rules.specs.Cut.{negatives, keep}
 use Rattle.rules.specs.Step.{Entry, Step, minus}
@@ -21,7 +22,6 @@ use Rattle.rules.proofs.CallPasses.{round-proper}
 use Rattle.rules.proofs.RoundSizes.{first-length, first-at}
 use Rattle.rules.proofs.Runs.{spin-within}
 use Rattle.rules.proofs.SumLaws.{scatter-sums}
-use Rattle.table.specs.Layout.{checks_from, table_of, Holds}
 use Rattle.decoder.specs.Passed.{Passed, passed_to, passed_by, passed_of, passed}
 use Rattle.decoder.specs.Closing.{met_by, rows_from}
 use Rattle.run.specs.Ending.{closing}
@@ -30,30 +30,30 @@ use Rattle.decoder.proofs.RoundSpinsLaws.{pass_same, candidate-same}
 use Rattle.decoder.proofs.ClosingLaws.{rows-from, candidate-negatives}
 
 -- ---- steps 1 to 3
-module _ (n : ℕ) (l : List ℤ) (ss ms : List ℕ) (h : Holds n ss ms) (st : State) where
+module _ (t : Table) (below : AllBelow t.bits t.checks) (l : List ℤ) (st : State) where
   -- the spins, and the pass over the checks with them
   f : ℕ → ℤ
-  f = spin unit (edges (checks_from ss ms)) l st
+  f = spin unit (edges t.checks) l st
 
-  pub spins-are : first_of n (spin unit ms l st) ≡ (round (table_of n ss ms) l st).spins
+  pub spins-are : first_of t.bits (spin unit (edges t.checks) l st) ≡ (round t l st).spins
   unfolding round
-  spins-are = ap (λ es. first_of n (spin unit es l st)) h.members
+  spins-are = refl
 
-  steps-are : pass unit (at (first_of n f)) (checks_from ss ms) st.offsets ≡ pass unit f (checks_from ss ms) st.offsets
-  steps-are = pass_same n f (at (first_of n f)) (first-at n f) unit (checks_from ss ms) st.offsets h.sound.below
+  steps-are : pass unit (at (first_of t.bits f)) t.checks st.offsets ≡ pass unit f t.checks st.offsets
+  steps-are = pass_same t.bits f (at (first_of t.bits f)) (first-at t.bits f) unit t.checks st.offsets below
 
   -- the sums begin at zero
-  pub passed_is : (s x : List ℤ) (p : Passed) → s ≡ first_of n (spin unit ms l st) → x ≡ zeros n → p ≡ passed (at s) (checks_from ss ms) st.offsets x
-      → p ≡ passed_of (round (table_of n ss ms) l st)
+  pub passed_is : (s x : List ℤ) (p : Passed) → s ≡ first_of t.bits (spin unit (edges t.checks) l st) → x ≡ zeros t.bits → p ≡ passed (at s) t.checks st.offsets x
+      → p ≡ passed_of (round t l st)
   unfolding round passed f sums_of
-  passed_is s x p e z g = g ∙ ap₂ (λ v w. passed_by es w (pass unit (at v) (checks_from ss ms) st.offsets)) (e ∙ spins-are) z ∙ ap (passed_by es (zeros n)) steps-are
-      ∙ ap (λ w. passed_to (copies_in ts) (offsets_in ts) w (multipliers_of (entries_in ts)) (masks_of (entries_in ts)) (depths_in ts)) (scatter-sums n es (minus (copies_in ts) (offsets_in ts)))
+  passed_is s x p e z g = g ∙ ap₂ (λ v w. passed_by es w (pass unit (at v) t.checks st.offsets)) (e ∙ spins-are) z ∙ ap (passed_by es (zeros t.bits)) steps-are
+      ∙ ap (λ w. passed_to (copies_in ts) (offsets_in ts) w (multipliers_of (entries_in ts)) (masks_of (entries_in ts)) (depths_in ts)) (scatter-sums t.bits es (minus (copies_in ts) (offsets_in ts)))
     where
       es : List ℕ
-      es = edges (checks_from ss ms)
+      es = edges t.checks
 
       ts : List Step
-      ts = pass unit (spin unit (edges (checks_from ss ms)) l st) (checks_from ss ms) st.offsets
+      ts = pass unit (spin unit (edges t.checks) l st) t.checks st.offsets
 
 first-within : (u n : ℕ) (g : ℕ → ℤ) → ((i : ℕ) → Within u (g i)) → AllWithin u (first_of n g)
 first-within u zero g w = tt

@@ -24,10 +24,15 @@ use Rattle.rules.proofs.Multiplier.{moves-zero}
 use Rattle.rules.proofs.Optimal.{within-at}
 use Rattle.rules.proofs.Pass.{values-within}
 use Rattle.rules.proofs.Steps.{clips-alike}
+use Rattle.std.specs.Prelude.{Result}
+use Rattle.std.specs.Result.{IsOk}
+use Rattle.limits.specs.declared.refusals.Refusal.{Refusal}
+use Rattle.cut.specs.declared.Cut.{Cut}
 use Rattle.cut.specs.CutMask.{cut_mask}
+use Rattle.cut.specs.Reply.{seen_of}
 use Rattle.cut.specs.Heights.{heights_of, highest, side_by, seen_to, seen_on, seen}
 use Rattle.cut.proofs.MaskLaws.{mask-none, mask-some}
-use Rattle.cut.proofs.SeeLaws.{seen-whole}
+use Rattle.cut.proofs.SeeLaws.{seen-whole, seen-ok}
 use Rattle.multiplier_search.specs.Lifted.{Rising, LeastAt, MultiplierOf}
 use Rattle.decoder.specs.Stepped.{Stepped, stepped_to, summed, stepped_by, stepped_on, stepped, new_copies, StepFits, MoveFits, Moved}
 use Rattle.decoder.proofs.MaskLaws.{set-alike}
@@ -142,6 +147,10 @@ module _ (s : List ℤ) (ms : List ℕ) (z y x l : List ℤ) (fits : StepFits s 
 
   same : length z ≡ length l
   same = fits.copies_long ∙ sym long
+
+  -- the cut search refuses nothing
+  pub sees : (r : Result Cut Refusal) (hs : List ℤ) → seen_of r hs ≡ seen l z → IsOk r
+  sees r hs h = seen-ok l z r hs h few (omega (arith, same))
 
   module _ (hs : List ℤ) (k m d : ℕ) (top : ℤ) (em : seen_to k m d top hs ≡ seen l z) where
     pub multiplier-asks : (m ≡ 0 → ⊥) → Rising hs top

@@ -4,12 +4,12 @@ use Rattle.std.specs.Prelude.{◌≡◌, Bool, true, false, List, [], ◌∷◌,
 use Rattle.std.proofs.Math.Option.{Option, some, none}
 use Rattle.integers.specs.Sum.{AllWithin}
 use Rattle.rules.specs.Limits.{frame_limit, max_degree, max_multiplier, scaled_limit, size_limit, step_limit}
+use Rattle.rules.specs.Table.{Table, checks_of}
 use Rattle.rules.specs.Parity.{meets}
 use Rattle.rules.specs.Cut.{negatives}
 use Rattle.rules.specs.Bound.{Row, bound, gap}
 use Rattle.rules.specs.Scatter.{row_of, EachWithin}
 use Rattle.rules.specs.Sound.{Below}
-use Rattle.table.specs.Layout.{checks_from, Holds}
 
 -- there is a candidate, and it meets all checks
 abbrev pub met_by : Option (List Bool) → List (List ℕ) → Bool
@@ -27,19 +27,19 @@ rows_from (ms ∷ cs) [] ks = []
 rows_from (ms ∷ cs) (b ∷ bs) [] = []
 rows_from (ms ∷ cs) (b ∷ bs) (k ∷ ks) = with_row (eqb k 0) (row_of ms b k) (rows_from cs bs ks)
 
--- the rows of a loaded table's checks, and those from check j on
-abbrev pub rows_on : List ℕ → List ℕ → List ℕ → List ℕ → List Row
-rows_on ss ms bs ks = rows_from (checks_from ss ms) bs ks
+-- the rows of a table's checks, and those from check j on
+abbrev pub rows_on : Table → List ℕ → List ℕ → List Row
+rows_on t bs ks = rows_from t.checks bs ks
 
-abbrev pub rows_left : List ℕ → List ℕ → List ℕ → List ℕ → ℕ → List Row
-rows_left ss ms bs ks j = rows_from (drop j (checks_from ss ms)) (drop j bs) (drop j ks)
+abbrev pub rows_left : Table → List ℕ → List ℕ → ℕ → List Row
+rows_left t bs ks j = rows_from (drop j t.checks) (drop j bs) (drop j ks)
 
 -- their bound and their gap, of the word with ones at negative spins, at scale 1
-abbrev pub bound_on : List ℤ → List ℕ → List ℕ → List ℕ → List ℕ → ℤ
-bound_on l ss ms bs ks = bound (length l) 1 l (rows_on ss ms bs ks)
+abbrev pub bound_on : List ℤ → Table → List ℕ → List ℕ → ℤ
+bound_on l t bs ks = bound (length l) 1 l (rows_on t bs ks)
 
-abbrev pub gap_on : List ℤ → List ℤ → List ℕ → List ℕ → List ℕ → List ℕ → ℤ
-gap_on l s ss ms bs ks = gap (length s) 1 l (rows_on ss ms bs ks) (negatives s)
+abbrev pub gap_on : List ℤ → List ℤ → Table → List ℕ → List ℕ → ℤ
+gap_on l s t bs ks = gap (length s) 1 l (rows_on t bs ks) (negatives s)
 
 -- every multiplier is at most 8,388,608
 abbrev pub AllUpTo : ℕ → List ℕ → Type 0
@@ -53,18 +53,17 @@ pub record RowFits (b : ℕ) (ms : List ℕ) (ls : List ℤ) : Type 0 where
   pub inside : Below (length ls) ms
   pub sizes : EachWithin size_limit ls
 
-pub record RowsFit (ss ms bs ks : List ℕ) (ls : List ℤ) : Type 0 where
-  pub holds : Holds (length ls) ss ms
-  pub multipliers_long : length bs ≡ length (checks_from ss ms)
-  pub masks_long : length ks ≡ length (checks_from ss ms)
+pub record RowsFit (t : Table) (bs ks : List ℕ) (ls : List ℤ) : Type 0 where
+  pub size : length ls ≡ t.bits
+  pub multipliers_long : length bs ≡ checks_of t
+  pub masks_long : length ks ≡ checks_of t
   pub multipliers : AllUpTo step_limit bs
   pub sizes : EachWithin scaled_limit ls
 
-pub record GapFits (n : ℕ) (l s : List ℤ) (ss ms bs ks : List ℕ) : Type 0 where
-  pub holds : Holds n ss ms
-  pub frame_long : length l ≡ n
+pub record GapFits (t : Table) (l s : List ℤ) (bs ks : List ℕ) : Type 0 where
+  pub frame_long : length l ≡ t.bits
   pub frame : AllWithin frame_limit l
-  pub spins_long : length s ≡ n
-  pub multipliers_long : length bs ≡ length (checks_from ss ms)
-  pub masks_long : length ks ≡ length (checks_from ss ms)
+  pub spins_long : length s ≡ t.bits
+  pub multipliers_long : length bs ≡ checks_of t
+  pub masks_long : length ks ≡ checks_of t
   pub multipliers : AllUpTo step_limit bs

@@ -2,13 +2,12 @@
 use Rattle.std.specs.Prelude.{◌≡◌, List, ℕ, length, ℤ}
 use Rattle.integers.specs.Sum.{AllWithin}
 use Rattle.rules.specs.Limits.{unit, offset_limit}
-use Rattle.rules.specs.Table.{edges}
+use Rattle.rules.specs.Table.{Table, edges, edges_of, checks_of}
 use Rattle.rules.specs.Step.{Step}
 use Rattle.rules.specs.Round.{Round, pass, copies_in, offsets_in, entries_in, depths_in}
 use Rattle.rules.specs.Buffers.{multipliers_of, masks_of}
 use Rattle.rules.specs.Scatter.{Room}
 use Rattle.decoder.specs.Stepped.{summed}
-use Rattle.table.specs.Layout.{checks_from, Holds}
 
 pub record Passed : Type 0 where
   pub copies : List ℤ
@@ -34,15 +33,14 @@ passed_of d = passed_to d.state.copies d.state.offsets d.sums (multipliers_of d.
 unfoldable pub passed : (ℕ → ℤ) → List (List ℕ) → List ℤ → List ℤ → Passed
 passed f cs ys xs = passed_by (edges cs) xs (pass unit f cs ys)
 
-pub record PassFits (n : ℕ) (ss ms : List ℕ) (s z y x : List ℤ) (bs ks ds : List ℕ) : Type 0 where
-  pub holds : Holds n ss ms
-  pub size : length s ≡ n
+pub record PassFits (t : Table) (s z y x : List ℤ) (bs ks ds : List ℕ) : Type 0 where
+  pub size : length s ≡ t.bits
   pub spins : AllWithin unit s
-  pub copies_long : length z ≡ length ms
-  pub offsets_long : length y ≡ length ms
+  pub copies_long : length z ≡ edges_of t
+  pub offsets_long : length y ≡ edges_of t
   pub offsets : AllWithin offset_limit y
   pub sums_long : length x ≡ length s
-  pub room : Room ms x
-  pub multipliers_long : length bs ≡ length (checks_from ss ms)
-  pub masks_long : length ks ≡ length (checks_from ss ms)
-  pub depths_long : length ds ≡ length (checks_from ss ms)
+  pub room : Room (edges t.checks) x
+  pub multipliers_long : length bs ≡ checks_of t
+  pub masks_long : length ks ≡ checks_of t
+  pub depths_long : length ds ≡ checks_of t

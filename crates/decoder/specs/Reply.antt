@@ -1,11 +1,11 @@
--- Document 01's number and value for each case of a call's answer. Definitions only. Assumes nothing.
-use Rattle.rules.specs.Refusal.{Answer, refused, gives}
+-- Document 01's answer for each answer of a call. Definitions only. Assumes nothing.
+use Rattle.std.specs.Prelude.{Result}
+use Rattle.rules.specs.Refusal.{Answer}
 use Rattle.rules.specs.Run as run
-use Rattle.decoder.specs.declared.Outcome.{Outcome}
-use Rattle.decoder.specs.declared.Outcome.TheVariants.{Refused, Running, Certified, Spent}
+use Rattle.limits.specs.declared.refusals.Refusal.{Refusal}
+use Rattle.limits.specs.Numbers.{answer_by}
+use Rattle.run.specs.declared.Status.{Status}
+use Rattle.run.specs.Reply.{status_of}
 
-abbrev pub outcome_of : Outcome → Answer run.Status
-outcome_of (Refused k) = refused k
-outcome_of Running = gives run.running
-outcome_of Certified = gives run.certified
-outcome_of Spent = gives run.spent
+abbrev pub outcome_of : Result Status Refusal → Answer run.Status
+outcome_of = answer_by status_of

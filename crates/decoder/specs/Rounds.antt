@@ -1,20 +1,18 @@
 -- The rounds of a call as the loop does them: on buffers of exactly the stated lengths, without word and certificate, which are written at the end of
 -- the call that certifies. Definitions only. Assumes nothing.
-use Rattle.std.specs.Prelude.{◌≡◌, cond, List, [], ℕ, ◌-◌, ◌≤◌, ◌<◌, length, get_or, replicate, ℤ}
+use Rattle.std.specs.Prelude.{◌≡◌, cond, List, [], ℕ, ◌≤◌, ◌<◌, length, get_or, replicate, ℤ, ◌-◌}
 use Rattle.integers.specs.Sum.{AllWithin}
 use Rattle.rules.specs.Limits.{frame_limit}
-use Rattle.rules.specs.Table.{Table, degree_of}
+use Rattle.rules.specs.Table.{Table, edges, degree_of}
 use Rattle.rules.specs.Buffers.{the, each, nought, lengths_of, needs, at_end}
-use Rattle.rules.specs.Run.{Status, running, certified, spent, Run, iterate, Safe}
-use Rattle.table.specs.Layout.{table_of, Holds}
+use Rattle.rules.specs.Run.{running, Run, iterate, Safe, Status, certified, spent}
 
--- a table in starts and members, a frame for it, and its bits' degrees
-pub record Given (n : ℕ) (l : List ℤ) (ss ms ds : List ℕ) : Type 0 where
-  pub holds : Holds n ss ms
-  pub size : length l ≡ n
+-- a frame for the table, and its bits' degrees
+pub record Given (t : Table) (l : List ℤ) (ds : List ℕ) : Type 0 where
+  pub size : length l ≡ t.bits
   pub frame : AllWithin frame_limit l
-  pub room : n ≤ length ds
-  pub degrees : (i : ℕ) → i < n → get_or ds i 0 ≡ degree_of i ms
+  pub room : t.bits ≤ length ds
+  pub degrees : (i : ℕ) → i < t.bits → get_or ds i 0 ≡ degree_of i (edges t.checks)
 
 -- a run's own, and with blank others as long as the table needs
 abbrev pub looped : Run → Run
@@ -23,9 +21,9 @@ looped r = record { progress = r.progress; buffers = each (λ x. cond (at_end x)
 abbrev pub filled : Table → Run → Run
 filled t r = record { progress = r.progress; buffers = each (λ x. cond (at_end x) (replicate (needs t x) (nought x)) (the x r.buffers)) }
 
--- k rounds on the frame l, with the table in starts ss and members ms
-unfoldable pub rounds_from : ℕ → List ℤ → List ℕ → List ℕ → Run → Run
-rounds_from k l ss ms r = looped (iterate (table_of (length l) ss ms) l k (filled (table_of (length l) ss ms) r))
+-- k rounds on the frame l
+unfoldable pub rounds_from : ℕ → List ℤ → Table → Run → Run
+rounds_from k l t r = looped (iterate t l k (filled t r))
 
 -- a running run on buffers of exactly the stated lengths, within 43's limits
 pub record Steady (t : Table) (r : Run) : Type 0 where
@@ -33,9 +31,7 @@ pub record Steady (t : Table) (r : Run) : Type 0 where
   pub sizes : lengths_of (filled t r).buffers ≡ needs t
   pub safe : Safe t (filled t r)
 
-abbrev pub Ready : List ℤ → List ℕ → List ℕ → Run → Type 0
-Ready l ss ms r = Steady (table_of (length l) ss ms) r
-
+-- No proof cites these any more, since the check finds what they say.
 -- the rounds still wanted where k were wanted before this one
 abbrev pub left_by : Status → ℕ → ℕ
 left_by running k = k - 1

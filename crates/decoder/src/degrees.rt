@@ -7,16 +7,14 @@ ghost use Rattle.rules.specs.Sound.{Below};
 use limits::MAX_BITS;
 
 // The degree of each bit. Every member is below 2,048, so no test is needed.
+#[tactic(auto, using(rules::proofs::Duality::below_at))]
 pub(crate) fn count_degrees(members: &[u16]) -> [u16; MAX_BITS]
     requires { (length members.now ≤ max_edges) × Below max_bits members.now }
     ensures { (i : ℕ) → i < max_bits → get_or result i 0 ≡ degree_of i members.now }
 {
     let mut degrees = [0u16; MAX_BITS];
-    let mut e: usize = 0;
-    while e < members.len() {
-        let x = members[e] as usize;
-        degrees[x] += 1;
-        e += 1;
+    for i in members {
+        degrees[*i as usize] += 1;
     }
     degrees
 }

@@ -1,4 +1,5 @@
-// The gap of a round's multipliers, scale 1 (document 01, "Certificates"): reduced numbers, bound and agreement.
+// The gap of a round's multipliers, scale 1 (document 01, "Certificates"): reduced numbers, bound and agreement. The
+// judge has such functions of its own, with a scale: what crosses a crate has no `requires` (docs/DECISIONS.md 26).
 ghost use Rattle.std.specs.Prelude.{◌≡◌, [], ◌+◌, ◌*◌, ◌≤◌, ◌%◌, eqb, length, pos, ◌+ℤ◌};
 ghost use Rattle.integers.specs.Linear.{Within};
 ghost use Rattle.integers.specs.Product.{abs};
@@ -12,6 +13,7 @@ ghost use Rattle.decoder.specs.Closing.{with_row, rows_on, bound_on, gap_on, Row
 
 use limits::MAX_BITS;
 use limits::common::DEGREE_6;
+use table::loaded::Loaded;
 
 // Codes up to this length have room of their own for the reduced numbers.
 const FEW_BITS: usize = 512;
@@ -22,36 +24,36 @@ fn weighted(x: i64, b: u32, mask: u32) -> i64
     ensures { result ≡ x +ℤ side (eqb (mask % 2) 1) (pos b) }
 {
     if mask % 2 == 1 {
-        return x + b as i64;
+        x + b as i64
+    } else {
+        x - b as i64
     }
-    x - b as i64
 }
 
 // A check's weights, scattered to its members.
+#[tactic(auto, using(rules::proofs::Duality::below_at))]
 fn add_row_of(members: &[u16], b: u32, mask: u32, numbers: &mut [i64])
     requires { RowFits b members.now numbers.old }
     ensures { numbers.new ≡ scatter_row (row_of members.now b mask) numbers.old }
 {
     let mut rest = mask;
-    let mut k: usize = 0;
-    while k < members.len() {
-        let i = members[k] as usize;
-        numbers[i] = weighted(numbers[i], b, rest);
-        rest = rest / 2;
-        k += 1;
+    for i in members {
+        let number = &mut numbers[*i as usize];
+        *number = weighted(*number, b, rest);
+        rest /= 2;
     }
 }
 
-// The same, with the common degree by itself.
+// The same, with the common degree by itself, for the same reason as in candidate.rt.
 fn add_row(members: &[u16], b: u32, mask: u32, numbers: &mut [i64])
     requires { RowFits b members.now numbers.old }
     ensures { numbers.new ≡ scatter_row (row_of members.now b mask) numbers.old }
 {
     if members.len() == DEGREE_6 {
         add_row_of(&members[..DEGREE_6], b, mask, numbers);
-        return;
+    } else {
+        add_row_of(members, b, mask, numbers);
     }
-    add_row_of(members, b, mask, numbers);
 }
 
 // A check's multiplier times (d - 2).
@@ -75,36 +77,20 @@ fn add_check(members: &[u16], b: u32, mask: u32, numbers: &mut [i64]) -> i64
 }
 
 // All rows: their weights are scattered, and the sum of their prices is returned.
-fn add_rows(
-    starts: &[u16],
-    members: &[u16],
-    multipliers: &[u32],
-    masks: &[u32],
-    numbers: &mut [i64],
-) -> i64
-    requires { RowsFit starts.now members.now multipliers.now masks.now numbers.old }
-    ensures { AllPut (rows_on starts.now members.now multipliers.now masks.now) numbers.old numbers.new result }
+fn add_rows(table: &Loaded, multipliers: &[u32], masks: &[u32], numbers: &mut [i64]) -> i64
+    requires { RowsFit table.now multipliers.now masks.now numbers.old }
+    ensures { AllPut (rows_on table.now multipliers.now masks.now) numbers.old numbers.new result }
 {
-    let mut sum: i64 = 0;
-    let mut j: usize = 0;
+    let starts = table.starts;
+    let members = table.members;
+    let mut sum = 0;
     let mut a: usize = 0;
-    while j < masks.len() {
+    for (j, mask) in masks.iter().enumerate() {
         let e = starts[j + 1] as usize;
-        sum += add_check(&members[a..e], multipliers[j], masks[j], numbers);
+        sum += add_check(&members[a..e], multipliers[j], *mask, numbers);
         a = e;
-        j += 1;
     }
     sum
-}
-
-fn size(x: i64) -> i64
-    requires { Within size_limit x }
-    ensures { (result ≡ abs x) × Within size_limit result }
-{
-    if x < 0 {
-        return -x;
-    }
-    x
 }
 
 // The sum of the sizes.
@@ -112,30 +98,20 @@ fn sum_sizes(numbers: &[i64]) -> i64
     requires { (length numbers.now ≤ max_bits) × EachWithin size_limit numbers.now }
     ensures { (result ≡ sum_to (length numbers.now) (λ i. abs (at numbers.now i))) × Within (max_bits * size_limit) result }
 {
-    let mut sum: i64 = 0;
-    let mut i: usize = 0;
-    while i < numbers.len() {
-        sum += size(numbers[i]);
-        i += 1;
+    let mut sum = 0;
+    for x in numbers {
+        sum += x.abs();
     }
     sum
 }
 
-fn wide(x: i16) -> i64
-    ensures { result ≡ x }
-{
-    x as i64
-}
-
-// The frame's numbers, to begin with.
+// The frame's numbers, to begin with. By index: of what a `zip` over `iter_mut` writes a proof knows nothing.
 fn load(frame: &[i16], numbers: &mut [i64])
     requires { length frame.now ≡ length numbers.old }
     ensures { numbers.new ≡ frame.now }
 {
-    let mut i: usize = 0;
-    while i < frame.len() {
-        numbers[i] = wide(frame[i]);
-        i += 1;
+    for (i, number) in numbers.iter_mut().enumerate() {
+        *number = frame[i] as i64;
     }
 }
 
@@ -143,10 +119,7 @@ fn load(frame: &[i16], numbers: &mut [i64])
 fn turned(x: i16, spin: i32) -> i32
     ensures { (result ≡ turn (is_neg spin) x) × Within frame_size result }
 {
-    if spin < 0 {
-        return -(x as i32);
-    }
-    x as i32
+    if spin < 0 { -(x as i32) } else { x as i32 }
 }
 
 // The agreement of the word with ones at negative spins. Its sum fits 32 bits, which takes fewer instructions than 64.
@@ -154,11 +127,9 @@ fn agreed(frame: &[i16], spins: &[i32]) -> i64
     requires { (length frame.now ≡ length spins.now) × (length spins.now ≤ max_bits) }
     ensures { (result ≡ agreement (length spins.now) frame.now (negatives spins.now)) × Within (max_bits * frame_size) result }
 {
-    let mut sum: i32 = 0;
-    let mut i: usize = 0;
-    while i < spins.len() {
-        sum += turned(frame[i], spins[i]);
-        i += 1;
+    let mut sum = 0;
+    for (x, spin) in frame.iter().zip(spins) {
+        sum += turned(*x, *spin);
     }
     sum as i64
 }
@@ -166,71 +137,56 @@ fn agreed(frame: &[i16], spins: &[i32]) -> i64
 // The bound: the sizes of the reduced numbers, which are worked out in the last slice, and the prices.
 fn bound_of(
     frame: &[i16],
-    starts: &[u16],
-    members: &[u16],
+    table: &Loaded,
     multipliers: &[u32],
     masks: &[u32],
     numbers: &mut [i64],
 ) -> i64
-    requires { RowsFit starts.now members.now multipliers.now masks.now frame.now × (length numbers.old ≡ length frame.now) }
-    ensures { (result ≡ bound_on frame.now starts.now members.now multipliers.now masks.now) × Within bound_limit result }
+    requires { RowsFit table.now multipliers.now masks.now frame.now × (length numbers.old ≡ length frame.now) × (length numbers.old ≤ max_bits) }
+    ensures { (result ≡ bound_on frame.now table.now multipliers.now masks.now) × Within bound_limit result }
 {
     load(frame, numbers);
-    let prices = add_rows(starts, members, multipliers, masks, numbers);
+    let prices = add_rows(table, multipliers, masks, numbers);
     sum_sizes(numbers) + prices
 }
 
 // The gap of the word with ones at the negative spins; the last slice is for the reduced numbers.
 fn gap_in(
     frame: &[i16],
-    starts: &[u16],
-    members: &[u16],
+    table: &Loaded,
     spins: &[i32],
     multipliers: &[u32],
     masks: &[u32],
     numbers: &mut [i64],
 ) -> i64
-    requires gap_fits { GapFits (length spins.now) frame.now spins.now starts.now members.now multipliers.now masks.now }
-    requires numbers_len { length numbers.old ≡ length frame.now }
-    ensures { result ≡ gap_on frame.now spins.now starts.now members.now multipliers.now masks.now }
+    requires gap_fits { GapFits table.now frame.now spins.now multipliers.now masks.now }
+    requires numbers_len { (length numbers.old ≡ length frame.now) × (length numbers.old ≤ max_bits) }
+    ensures { result ≡ gap_on frame.now spins.now table.now multipliers.now masks.now }
 {
-    let least = bound_of(frame, starts, members, multipliers, masks, numbers);
+    let least = bound_of(frame, table, multipliers, masks, numbers);
     least - agreed(frame, spins)
 }
 
-// The same, with room of its own: less of it for a short code, since clearing it takes time in each round with a codeword.
+// The same, with room of its own: less of it for a short code, since clearing it takes time in each round with a
+// codeword. One function with the room's size as a const parameter took 0.4 instructions per edge and round more.
 pub(crate) fn gap_of(
     frame: &[i16],
-    starts: &[u16],
-    members: &[u16],
+    table: &Loaded,
     spins: &[i32],
     multipliers: &[u32],
     masks: &[u32],
 ) -> i64
-    requires { GapFits (length spins.now) frame.now spins.now starts.now members.now multipliers.now masks.now }
-    ensures { result ≡ gap_on frame.now spins.now starts.now members.now multipliers.now masks.now }
+    requires { GapFits table.now frame.now spins.now multipliers.now masks.now }
+    ensures { result ≡ gap_on frame.now spins.now table.now multipliers.now masks.now }
 {
-    let n = frame.len();
+    let n = table.bits;
     if n <= FEW_BITS {
-        let mut few = [0i64; FEW_BITS];
-        return gap_in(
-            frame,
-            starts,
-            members,
-            spins,
-            multipliers,
-            masks,
-            &mut few[..n],
-        );
+        let mut numbers = [0i64; FEW_BITS];
+        let room = &mut numbers[..n];
+        gap_in(frame, table, spins, multipliers, masks, room)
+    } else {
+        let mut numbers = [0i64; MAX_BITS];
+        let room = &mut numbers[..n];
+        gap_in(frame, table, spins, multipliers, masks, room)
     }
-    let mut numbers = [0i64; MAX_BITS];
-    gap_in(
-        frame,
-        starts,
-        members,
-        spins,
-        multipliers,
-        masks,
-        &mut numbers[..n],
-    )
 }

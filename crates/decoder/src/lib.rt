@@ -13,33 +13,26 @@ mod perform;
 mod round;
 mod spins;
 mod step;
-mod store;
 
 ghost use Rattle.rules.specs.Run as rule;
 ghost use Rattle.run.specs.Slices.{slices};
 ghost use Rattle.decoder.specs.Lent.{CallBecomes};
 
+use limits::refusals::Refusal;
 use limits::{MAX_CHECKS, MAX_EDGES};
-use perform::{outcome_of, perform};
-use run::{Admitted, Lent, Record};
+use perform::perform;
+use run::{Lent, Record, Status};
 
-// The answer of a call for rounds: a refusal's number, or how the run stands.
-#[derive(Clone, Copy)]
-pub enum Outcome {
-    Refused(u8),
-    Running,
-    Certified,
-    Spent,
-}
-
-// A call's answer, and the run's record after it.
-#[derive(Clone, Copy)]
+// A call's answer, how the run stands or why it was refused, and the run's record after it.
+#[derive(Clone, Copy, Debug, PartialEq, Eq)]
 pub struct Called {
-    pub outcome: Outcome,
+    pub outcome: Result<Status, Refusal>,
     pub run: Record,
 }
 
-// Does at most `wanted` rounds of a run, on any code file, frame, record and lent buffers.
+// Does at most `wanted` rounds of a run, on any code file, frame, record and lent buffers. The buffers come one by
+// one, here and below, as C lends them: of a part of a slice in a struct's field the check does not know what is
+// left of it, and demand 3 (proofs/Demand3) speaks of these parameters.
 pub fn rounds(
     code: &[u8],
     frame: &[i16],
@@ -67,7 +60,7 @@ pub fn rounds(
         word: word.len(),
         certificate: certificate.len(),
     };
-    let answer = run::admit(
+    let admitted = run::admit(
         code,
         frame,
         run,
@@ -79,23 +72,17 @@ pub fn rounds(
         &mut starts,
         &mut members,
     );
-    match answer {
-        Admitted::Refused(k) => Called {
-            outcome: Outcome::Refused(k),
+    match admitted {
+        Err(refusal) => Called {
+            outcome: Err(refusal),
             run,
         },
-        Admitted::Sized {
-            bits,
-            checks,
-            edges,
-        } => {
+        Ok(sizes) => {
             let after = perform(
                 frame,
                 &starts,
                 &members,
-                bits,
-                checks,
-                edges,
+                sizes,
                 run,
                 wanted,
                 spins,
@@ -108,9 +95,8 @@ pub fn rounds(
                 word,
                 certificate,
             );
-            let status = after.status;
             Called {
-                outcome: outcome_of(status),
+                outcome: Ok(after.status),
                 run: after,
             }
         }

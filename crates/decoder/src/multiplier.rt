@@ -10,7 +10,7 @@ ghost use Rattle.multiplier_search.specs.Sums.{AllNarrow, partials, first_sums, 
 use limits::{RIGHT_SIDE, UNIT};
 
 // The sum of the heights above 0, and their number.
-#[derive(Clone, Copy)]
+#[derive(Clone, Copy, Debug, PartialEq, Eq)]
 pub struct Slope {
     pub sum: u32,
     pub count: u32,
@@ -25,10 +25,7 @@ fn share(h: i32, b: u32) -> u32
     ensures { result ≡ packed b h }
 {
     let up = b as i32;
-    if -up < h {
-        return ONE + (up + h) as u32;
-    }
-    0
+    if -up < h { ONE + (up + h) as u32 } else { 0 }
 }
 
 // At most 32 members of at most 2U: the sum stays below ONE.
@@ -37,10 +34,8 @@ fn slope_at(heights: &[i32], b: u32) -> Slope
     ensures { (result.sum ≡ sum_at heights.now b) × (result.count ≡ count_at heights.now b) }
 {
     let mut both: u32 = 0;
-    let mut i = 0;
-    while i < heights.len() {
-        both += share(heights[i], b);
-        i += 1;
+    for &h in heights {
+        both += share(h, b);
     }
     Slope {
         sum: both % ONE,
@@ -54,9 +49,7 @@ fn fall(heights: &[i32], b: u32) -> u32
     ensures { result ≡ fall_at heights.now b }
 {
     let slope = slope_at(heights, b);
-    let sum = slope.sum;
-    let count = slope.count;
-    (sum - RIGHT_SIDE) / count
+    (slope.sum - RIGHT_SIDE) / slope.count
 }
 
 fn sum_of(heights: &[i32]) -> i32
@@ -64,10 +57,8 @@ fn sum_of(heights: &[i32]) -> i32
     ensures { result ≡ sum_z heights.now }
 {
     let mut sum: i32 = 0;
-    let mut i = 0;
-    while i < heights.len() {
-        sum += heights[i];
-        i += 1;
+    for h in heights {
+        sum += h;
     }
     sum
 }
@@ -81,11 +72,9 @@ fn first_step(heights: &[i32], top: i32) -> u32
     let d = heights.len() as u32;
     let together = (2 * UNIT - sum_of(heights)) as u32;
     let alone = (2 * UNIT - top) as u32;
+    // Rounded up. div_ceil would test the remainder too.
     let level = (together + (d - 1)) / d;
-    if level < alone {
-        return level;
-    }
-    alone
+    level.min(alone)
 }
 
 // The least step at which V's inequality is met.
@@ -94,6 +83,7 @@ pub(crate) fn least_multiplier(heights: &[i32], top: i32) -> u32
     ensures { LeastAt heights.now result }
 {
     let mut b = first_step(heights, top);
+    // A loop: how often b falls is not known beforehand.
     loop {
         let d = fall(heights, b);
         if d == 0 {

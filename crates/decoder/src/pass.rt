@@ -1,13 +1,12 @@
 // The pass over all checks, in order.
 ghost use Rattle.std.specs.Prelude.{length};
 ghost use Rattle.rules.specs.Table.{at};
-ghost use Rattle.table.specs.Layout.{checks_from};
 ghost use Rattle.decoder.specs.Passed.{passed, PassFits};
 ghost use Rattle.decoder.specs.Parts.{one_passed, OneFits};
 ghost use Rattle.decoder.specs.Lent.{PassBecomes};
 
 use super::step::step;
-use super::store::store;
+use table::loaded::Loaded;
 
 // Check j, whose edges are those from a to e: its copies and offsets are handed on as that part.
 fn pass_one(
@@ -33,16 +32,15 @@ fn pass_one(
         &mut offsets[a..e],
         sums,
     );
-    store(multipliers, j, entry.multiplier);
-    store(masks, j, entry.mask);
-    store(depths, j, entry.depth);
+    multipliers[j] = entry.multiplier;
+    masks[j] = entry.mask;
+    depths[j] = entry.depth;
 }
 
 // All checks, as a loaded table has them: steps 2 and 3 of a round. Each check's edges begin where
-// those of the one before it end.
+// those of the one before it end. By index, since several slices are written at the check's place.
 pub(crate) fn pass(
-    starts: &[u16],
-    members: &[u16],
+    table: &Loaded,
     spins: &[i32],
     copies: &mut [i32],
     offsets: &mut [i32],
@@ -51,18 +49,17 @@ pub(crate) fn pass(
     masks: &mut [u32],
     depths: &mut [u32],
 )
-    requires { PassFits (length spins.now) starts.now members.now spins.now copies.old offsets.old sums.old multipliers.old masks.old depths.old }
-    ensures { PassBecomes (λ p. passed (at spins.now) (checks_from starts.now members.now) p.offsets p.sums)
+    requires { PassFits table.now spins.now copies.old offsets.old sums.old multipliers.old masks.old depths.old }
+    ensures { PassBecomes (λ p. passed (at spins.now) table.now.checks p.offsets p.sums)
         copies offsets sums multipliers masks depths }
 {
-    let mut j: usize = 0;
-    let mut a: usize = 0;
-    while j < masks.len() {
-        let e = starts[j + 1] as usize;
+    let starts = table.starts;
+    let members = table.members;
+    for j in 0..masks.len() {
         pass_one(
             j,
-            a,
-            e,
+            starts[j] as usize,
+            starts[j + 1] as usize,
             members,
             spins,
             copies,
@@ -72,7 +69,5 @@ pub(crate) fn pass(
             masks,
             depths,
         );
-        a = e;
-        j += 1;
     }
 }

@@ -1,10 +1,9 @@
 // One round of a run (document 01, "One round").
-ghost use Rattle.std.specs.Prelude.{◌≡◌, length};
+ghost use Rattle.std.specs.Prelude.{◌≡◌};
 ghost use Rattle.run.specs.Ending.{found_of};
-ghost use Rattle.table.specs.Layout.{checks_from};
 ghost use Rattle.decoder.specs.Closing.{GapFits};
 ghost use Rattle.decoder.specs.Found.{found};
-ghost use Rattle.decoder.specs.Rounds.{Given, Ready, rounds_from};
+ghost use Rattle.decoder.specs.Rounds.{Given, Steady, rounds_from};
 ghost use Rattle.decoder.specs.Lent.{loop_in, LoopBecomes};
 
 use super::candidate::meets_checks;
@@ -12,31 +11,31 @@ use super::gap::gap_of;
 use super::pass::pass;
 use super::spins::find_spins;
 use run::Record;
-use run::ending::{Found, record_after};
+use run::ending::record_after;
+use table::loaded::Loaded;
 
 // Step 4: the candidate of the spins, held to the checks and to this round's multipliers.
 pub(crate) fn find_word(
     frame: &[i16],
-    starts: &[u16],
-    members: &[u16],
+    table: &Loaded,
     spins: &[i32],
     multipliers: &[u32],
     masks: &[u32],
-) -> Found
-    requires { GapFits (length spins.now) frame.now spins.now starts.now members.now multipliers.now masks.now }
-    ensures { found_of result ≡ found frame.now (checks_from starts.now members.now) spins.now multipliers.now masks.now }
+) -> Option<i64>
+    requires { GapFits table.now frame.now spins.now multipliers.now masks.now }
+    ensures { found_of result ≡ found frame.now table.now.checks spins.now multipliers.now masks.now }
 {
-    if !meets_checks(starts, members, spins) {
-        return Found::Nothing;
+    if meets_checks(table, spins) {
+        Some(gap_of(frame, table, spins, multipliers, masks))
+    } else {
+        None
     }
-    Found::Codeword(gap_of(frame, starts, members, spins, multipliers, masks))
 }
 
 // The next round of a running run, on buffers of exactly the stated lengths.
 pub(crate) fn do_round(
     frame: &[i16],
-    starts: &[u16],
-    members: &[u16],
+    table: &Loaded,
     degrees: &[u16],
     run: Record,
     spins: &mut [i32],
@@ -47,14 +46,15 @@ pub(crate) fn do_round(
     masks: &mut [u32],
     depths: &mut [u32],
 ) -> Record
-    requires given { Given (length frame.now) frame.now starts.now members.now degrees.now }
-    requires ready { Ready frame.now starts.now members.now (loop_in run spins.old copies.old offsets.old sums.old multipliers.old masks.old depths.old) }
-    ensures { LoopBecomes (rounds_from 1 frame.now starts.now members.now) run result spins copies offsets sums multipliers masks depths }
+    requires given { Given table.now frame.now degrees.now }
+    requires ready { Steady table.now (loop_in run spins.old copies.old offsets.old sums.old multipliers.old masks.old depths.old) }
+    ensures { LoopBecomes (rounds_from 1 frame.now table.now) run result spins copies offsets sums multipliers masks depths }
 {
+    // What a table holds is known where it is read: here only the proof asks for it.
+    let _ = &table.bits;
     find_spins(frame, degrees, sums, spins);
     pass(
-        starts,
-        members,
+        table,
         spins,
         copies,
         offsets,
@@ -63,6 +63,6 @@ pub(crate) fn do_round(
         masks,
         depths,
     );
-    let what = find_word(frame, starts, members, spins, multipliers, masks);
-    record_after(run, what)
+    let gap = find_word(frame, table, spins, multipliers, masks);
+    record_after(run, gap)
 }

@@ -1,6 +1,5 @@
 // The spins of a round (document 01, "One round", step 1).
-ghost use Rattle.std.specs.Prelude.{◌≡◌, length, ◌+ℤ◌};
-ghost use Rattle.integers.specs.Linear.{Within};
+ghost use Rattle.std.specs.Prelude.{◌≡◌, length};
 ghost use Rattle.integers.specs.Sum.{AllWithin};
 ghost use Rattle.rules.specs.Limits.{frame_limit, sum_limit};
 ghost use Rattle.decoder.specs.Spins.{SpinsFit, totals_of, Spun};
@@ -9,22 +8,14 @@ use super::divide::divide_totals;
 use run::clear::clear;
 use spin::clip_all;
 
-fn total(number: i16, sum: i32) -> i32
-    requires { Within frame_limit number × Within sum_limit sum }
-    ensures { result ≡ number +ℤ sum }
-{
-    number as i32 + sum
-}
-
-// "Each bit's total is its frame number plus the sum of z - y over its edges": in the spin's place.
+// "Each bit's total is its frame number plus the sum of z - y over its edges": in the spin's place. By
+// index: of what a `zip` over `iter_mut` writes a proof knows nothing.
 pub(crate) fn add_frame(frame: &[i16], sums: &[i32], spins: &mut [i32])
     requires { (length frame.now ≡ length spins.old) × (length sums.now ≡ length spins.old) × AllWithin frame_limit frame.now × AllWithin sum_limit sums.now }
     ensures { spins.new ≡ totals_of frame.now sums.now }
 {
-    let mut i: usize = 0;
-    while i < frame.len() {
-        spins[i] = total(frame[i], sums[i]);
-        i += 1;
+    for (i, spin) in spins.iter_mut().enumerate() {
+        *spin = frame[i] as i32 + sums[i];
     }
 }
 

@@ -1,7 +1,5 @@
 // One check in a round: its cut, its multiplier, its new copies and its new offsets.
-ghost use Rattle.std.specs.Prelude.{◌≡◌, ◌≤◌, ◌<◌, length, set, ◌+ℤ◌};
-ghost use Rattle.std.specs.Int.{w32};
-ghost use Rattle.std.proofs.Common.{SFits};
+ghost use Rattle.std.specs.Prelude.{◌≡◌, ◌≤◌, length};
 ghost use Rattle.integers.specs.Linear.{Within};
 ghost use Rattle.integers.specs.Sum.{AllWithin};
 ghost use Rattle.rules.specs.Limits.{unit, offset_limit, step_limit, value_limit};
@@ -14,36 +12,25 @@ ghost use Rattle.decoder.specs.Stepped.{stepped_to, stepped, StepFits, MoveFits,
 
 use super::mask::holds;
 use super::multiplier::least_multiplier;
-use super::store::store_signed;
 use limits::common::{DEGREE_6, DEGREE_8};
 use spin::clip;
 
 // What a check adds to the round's multipliers, masks and depths: zeros without a cut.
-#[derive(Clone, Copy)]
+#[derive(Clone, Copy, Debug, PartialEq, Eq)]
 pub struct Entry {
     pub multiplier: u32,
     pub mask: u32,
     pub depth: u32,
 }
 
-// "v = spin + y"
-fn value(spin: i32, offset: i32) -> i32
-    requires { (Within unit spin) × (Within offset_limit offset) }
-    ensures { result ≡ spin +ℤ offset }
-{
-    spin + offset
-}
-
-// The values of a check's members, in the offsets' place.
+// The values of a check's members, "v = spin + y", in the offsets' place. By index: of what a `zip` over
+// `iter_mut` writes a proof knows nothing.
 fn add_spins(spins: &[i32], members: &[u16], offsets: &mut [i32])
     requires { (length offsets.old ≡ length members.now) × Below (length spins.now) members.now × AllWithin unit spins.now × AllWithin offset_limit offsets.old }
     ensures { offsets.new ≡ values (at spins.now) members.now offsets.old }
 {
-    let mut i = 0;
-    while i < members.len() {
-        let m = members[i] as usize;
-        offsets[i] = value(spins[m], offsets[i]);
-        i += 1;
+    for (i, offset) in offsets.iter_mut().enumerate() {
+        *offset += spins[members[i] as usize];
     }
 }
 
@@ -53,9 +40,10 @@ fn multiplier_for(mask: u32, top: i32, heights: &[i32]) -> u32
     ensures { MultiplierOf mask heights.now result }
 {
     if mask == 0 {
-        return 0;
+        0
+    } else {
+        least_multiplier(heights, top)
     }
-    least_multiplier(heights, top)
 }
 
 // A member's new copy: "clip(v + b) on V, clip(v − b) elsewhere".
@@ -64,21 +52,14 @@ fn moved(v: i32, t: bool, b: u32) -> i32
     ensures { result ≡ move unit b t v }
 {
     if t {
-        return clip(v + b as i32);
+        clip(v + b as i32)
+    } else {
+        clip(v - b as i32)
     }
-    clip(v - b as i32)
 }
 
-// A member's sum with one more edge's z - y.
-fn add_at(sums: &mut [i32], member: u16, weight: i32)
-    requires { (member < length sums.old) × SFits w32 (at sums.old member +ℤ weight) }
-    ensures { sums.new ≡ set sums.old member (at sums.old member +ℤ weight) }
-{
-    let m = member as usize;
-    sums[m] += weight;
-}
-
-// The new copies z, and y = v - z in the place of v; z - y is added to the sum of the member.
+// The new copies z, and y = v - z in the place of v; z - y is added to the sum of the member. By index, for
+// the same reason.
 fn move_all(
     members: &[u16],
     mask: u32,
@@ -90,15 +71,13 @@ fn move_all(
     requires { MoveFits b members.now copies.old offsets.old sums.old }
     ensures { Moved b mask members.now offsets.old sums.old copies.new offsets.new sums.new }
 {
-    let mut i = 0;
-    while i < offsets.len() {
-        let v = offsets[i];
+    for (i, offset) in offsets.iter_mut().enumerate() {
+        let v = *offset;
         let z = moved(v, holds(mask, i), b);
         let y = v - z;
-        store_signed(copies, i, z);
-        store_signed(offsets, i, y);
-        add_at(sums, members[i], z - y);
-        i += 1;
+        copies[i] = z;
+        *offset = y;
+        sums[members[i] as usize] += z - y;
     }
 }
 
@@ -116,7 +95,8 @@ fn step_of(
         ≡ stepped (at spins.now) members.now offsets.old sums.old }
 {
     add_spins(spins, members, offsets);
-    let found = cut::see(offsets, copies);
+    // As many heights as values, and at most 32: no refusal.
+    let found = cut::see(offsets, copies).unwrap();
     let mask = found.mask;
     let b = multiplier_for(mask, found.top, copies);
     move_all(members, mask, b, copies, offsets, sums);
@@ -127,7 +107,7 @@ fn step_of(
     }
 }
 
-// The same, with the common degrees by themselves.
+// The same, with the common degrees by themselves: a call of known length needs no loop (docs/DECISIONS.md 33).
 pub(crate) fn step(
     spins: &[i32],
     members: &[u16],
@@ -139,23 +119,21 @@ pub(crate) fn step(
     ensures { stepped_to copies.new offsets.new sums.new result.multiplier result.mask result.depth
         ≡ stepped (at spins.now) members.now offsets.old sums.old }
 {
-    if members.len() == DEGREE_6 {
-        return step_of(
+    match members.len() {
+        DEGREE_6 => step_of(
             spins,
             &members[..DEGREE_6],
             &mut copies[..DEGREE_6],
             &mut offsets[..DEGREE_6],
             sums,
-        );
-    }
-    if members.len() == DEGREE_8 {
-        return step_of(
+        ),
+        DEGREE_8 => step_of(
             spins,
             &members[..DEGREE_8],
             &mut copies[..DEGREE_8],
             &mut offsets[..DEGREE_8],
             sums,
-        );
+        ),
+        _ => step_of(spins, members, copies, offsets, sums),
     }
-    step_of(spins, members, copies, offsets, sums)
 }

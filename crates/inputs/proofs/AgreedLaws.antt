@@ -4,11 +4,12 @@ use mathlib.Core.List.{List, [], ◌∷◌}
 use Prim.Native.Nat.{ℕ, zero, suc, ◌+◌, ◌*◌, ◌≤◌, ◌<◌, min}
 use native.Mathlib.Omega.{arith}
 use native.Mathlib.Numerals.{add-one}
-use lib.ListN.{length, get_or}
+use lib.ListN.{length, get_or, take}
 use lib.IntN.{pos, ℤ, ◌+ℤ◌}
 use mir.Syntax.{w64}
 use mir.Val.{SFits, to_z, of_z}
 use mir.Facts.{to_z-of_z}
+use Rattle.std.proofs.lemmas.List.{get_or-take, length-take}
 use Rattle.integers.specs.Linear.{lin, arith_z, Within}
 use Rattle.integers.specs.Machine.{reads}
 use Rattle.integers.specs.Order.{within-zero, within_wider}
@@ -58,6 +59,20 @@ module _ {l : List ℤ} {w : List ℕ} {i : ℕ} {t r : ℤ} (h : Added l w i t)
         value = sum ∙ ap₂ ◌+ℤ◌ h.value e ∙ sym (agreement-next l w i);
         size = subst (Within (frame_size * (i + 1))) (sym sum) (sum-within i t r h.size small);
       }
+
+-- ---- over the first n numbers and the word, until one of them ends
+module _ (l : List ℤ) (w : List ℕ) (n k : ℕ) where
+  pub turned-is : (x : ℤ) (b : ℕ) → k < length (take n l) → ((d : ℤ) → x ≡ get_or (take n l) k d) → ((d : ℕ) → b ≡ get_or w k d)
+      → turn (bit_of_byte b) x ≡ number_under l w k
+  turned-is x b h e f =
+      let inside : k < n = omega (arith, length-take n l) in
+      ap₂ (λ b x. turn (bit_of_byte b) x) (f 0) (e (pos 0) ∙ get_or-take n l k (pos 0) inside)
+
+  pub turned-few : n ≡ min (length l) max_bits → k < length (take n l) → k < max_bits
+  turned-few e h = omega (arith, length-take n l)
+
+  pub turned-all : n ≡ min (length l) max_bits → k ≡ min (length (take n l)) (length w) → k ≡ shared_bits l w
+  turned-all e h = omega (arith, length-take n l)
 
 -- of all bits that both have
 pub added-all : {l : List ℤ} {w : List ℕ} {i : ℕ} {t : ℤ} → Added l w i t → i ≡ shared_bits l w → (t ≡ agreed l w) × Within agreement_limit t

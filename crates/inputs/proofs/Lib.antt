@@ -1,5 +1,5 @@
 pub mod RefusalLaws
 pub mod InputLaws
-pub mod EachLaws
 pub mod RangeLaws
+pub mod EachLaws
 pub mod AgreedLaws

@@ -8,6 +8,7 @@ use mathlib.Core.List.{List}
 use Prim.Native.Nat.{ℕ}
 use lib.IntN.{ℤ, pos}
 use lib.Signed.{◌<ℤ◌}
+use Rattle.std.specs.Prelude.{Ok}
 use Rattle.rules.specs.Refusal.{gives}
 use Rattle.rules.specs.Table.{Table}
 use Rattle.rules.specs.CodeFile.{code_file}
@@ -36,13 +37,13 @@ module _ (file : List ℕ) (l : List ℤ) (w bs : List ℕ) where
         (λ e. both.0 (verdict-says v h ∙ e), λ p. sym (verdict-says v h) ∙ both.1 p)
 
     -- a word that the code marks certified is best
-    pub certified-best : (m : Bool) → verdict_of (Certified m) ≡ judge file l w bs → Best t l (bits_of w)
+    pub certified-best : (m : Bool) → verdict_of (Ok (Certified m)) ≡ judge file l w bs → Best t l (bits_of w)
     certified-best m h = judge-best file l w bs t is_file m (sym h)
 
     -- and alone where it is marked
-    pub certified-sole : verdict_of (Certified true) ≡ judge file l w bs → SoleWinner t l (bits_of w)
+    pub certified-sole : verdict_of (Ok (Certified true)) ≡ judge file l w bs → SoleWinner t l (bits_of w)
     certified-sole h = judge-sole file l w bs t is_file (sym h)
 
   -- "else the gap, which is then positive"
-  pub gap-positive : (g : ℤ) → verdict_of (Gap g) ≡ judge file l w bs → pos 0 <ℤ g
+  pub gap-positive : (g : ℤ) → verdict_of (Ok (Gap g)) ≡ judge file l w bs → pos 0 <ℤ g
   gap-positive g h = judge-positive file l w bs g (sym h)

@@ -1,52 +1,37 @@
--- A certificate's rows as the code reads them (document 01, "Certificates"). Definitions only. Assumes nothing.
-use Rattle.std.specs.Prelude.{◌≡◌, Bool, List, [], ◌∷◌, ℕ, ◌-◌, ◌≤◌, ◌<◌, length, ℤ}
-use Rattle.std.proofs.Math.Option.{none}
-use Rattle.rules.specs.Limits.{max_bits, max_scale, max_multiplier}
+-- What the code relies on at a certificate that is not refused, and its gap and its mark (document 01, "Certificates"). Definitions only. Assumes nothing.
+use Rattle.std.specs.Prelude.{◌≡◌, Bool, List, ℕ, ◌-◌, ◌≤◌, ◌<◌, length, ℤ}
+use Rattle.rules.specs.Limits.{max_multiplier}
+use Rattle.rules.specs.Table.{Table, checks_of}
 use Rattle.rules.specs.Input.{bits_of}
-use Rattle.rules.specs.Bound.{Row, bound, gap}
-use Rattle.rules.specs.Scatter.{row_of}
-use Rattle.rules.specs.Certificate.{Item, item_at, items_at, entries_of, scale_of, items_of}
+use Rattle.rules.specs.Bound.{Row, gap}
+use Rattle.rules.specs.Certificate.{Item, item_at, items_at, entries_of, scale_of, items_of, rows_at}
 use Rattle.rules.specs.Sole.{sole}
-use Rattle.rules.specs.Judge.{Verdict, weigh}
-use Rattle.table.specs.Layout.{part_at, Part}
-use Rattle.judge.specs.Refusals.{Long}
 
--- ---- the rows
-abbrev pub row_in : List ℕ → List ℕ → Item → Row
-row_in starts members i = row_of (part_at starts members i.check) i.multiplier i.mask
+-- an entry of one of m checks, with a multiplier within its limit
+pub record InRange (m : ℕ) (i : Item) : Type 0 where
+  pub check : i.check < m
+  pub multiplier : i.multiplier ≤ max_multiplier
 
-abbrev pub rows_in : List ℕ → List ℕ → List Item → List Row
-rows_in starts members [] = []
-rows_in starts members (i ∷ is) = row_in starts members i ∷ rows_in starts members is
+-- so is each entry of a certificate
+abbrev pub EachInRange : ℕ → List ℕ → Type 0
+EachInRange m bs = (k : ℕ) → k < entries_of bs → InRange m (item_at bs (entries_of bs) k)
 
--- the rows of the entries from entry k on, of q
-abbrev pub rows_left : List ℕ → List ℕ → List ℕ → ℕ → ℕ → List Row
-rows_left starts members bs q k = rows_in starts members (items_at bs q k (q - k))
+-- frame, word and certificate, none of them refused
+pub record Unrefused (t : Table) (l : List ℤ) (w bs : List ℕ) : Type 0 where
+  pub frame : length l ≡ t.bits
+  pub word : length w ≡ t.bits
+  pub entries : EachInRange (checks_of t) bs
 
--- ---- what the code relies on at an entry that is not refused, and at all q
-pub record Placed (n : ℕ) (starts members : List ℕ) (i : Item) : Type 0 where
-  pub part : Part n starts members i.check
-  pub small : i.multiplier ≤ max_multiplier
+-- the entries from entry k on, and their rows
+abbrev pub items_from : List ℕ → ℕ → List Item
+items_from bs k = items_at bs (entries_of bs) k (entries_of bs - k)
 
-pub record AllPlaced (n : ℕ) (starts members bs : List ℕ) (q : ℕ) : Type 0 where
-  pub long : Long bs q
-  pub each : (k : ℕ) → k < q → Placed n starts members (item_at bs q k)
+abbrev pub rows_from : Table → List ℕ → ℕ → List Row
+rows_from t bs k = rows_at t (items_from bs k)
 
--- ---- the bound and the gap of a certificate's rows
-abbrev pub bound_in : List ℕ → List ℕ → List ℤ → List ℕ → ℕ → ℕ → ℤ
-bound_in starts members l bs q scale = bound (length l) scale l (rows_in starts members (items_at bs q 0 q))
+-- a certificate's gap, and its mark
+abbrev pub gap_on : Table → List ℤ → List ℕ → List ℕ → ℤ
+gap_on t l w bs = gap t.bits (scale_of bs) l (rows_at t (items_of bs)) (bits_of w)
 
-abbrev pub gap_in : List ℕ → List ℕ → List ℤ → List ℕ → List ℕ → ℤ
-gap_in starts members l w bs = gap (length l) (scale_of bs) l (rows_in starts members (items_of bs)) (bits_of w)
-
--- and its mark
-abbrev pub sole_in : List ℕ → List ℕ → List ℤ → List ℕ → Bool
-sole_in starts members l bs = sole (length l) (scale_of bs) l (rows_in starts members (items_of bs))
-
--- what is answered to a word that breaks no check
-abbrev pub weighed_in : List ℕ → List ℕ → List ℤ → List ℕ → List ℕ → Verdict
-weighed_in starts members l w bs = weigh none (gap_in starts members l w bs) (sole_in starts members l bs)
-
-abbrev pub Weighable : List ℕ → List ℕ → List ℤ → List ℕ → List ℕ → Type 0
-Weighable starts members l w bs =
-    (length w ≡ length l) × (length l ≤ max_bits) × (scale_of bs ≤ max_scale) × AllPlaced (length l) starts members bs (entries_of bs)
+abbrev pub sole_on : Table → List ℤ → List ℕ → Bool
+sole_on t l bs = sole t.bits (scale_of bs) l (rows_at t (items_of bs))

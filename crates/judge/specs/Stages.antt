@@ -7,9 +7,7 @@ use Rattle.rules.specs.Parity.{first_broken, agreement}
 use Rattle.rules.specs.Input.{on_frame, on_word, bits_of}
 use Rattle.rules.specs.Certificate.{on_certificate, scale_of, items_of, rows_at}
 use Rattle.rules.specs.Judge.{Verdict, verdict}
-use Rattle.inputs.specs.Refusals.{frame_refusal, word_refusal, or_else, turned_down}
-use Rattle.table.specs.Layout.{degree_at}
-use Rattle.judge.specs.Refusals.{certificate_refusal}
+use Rattle.inputs.specs.Refusals.{frame_refusal, word_refusal, turned_down}
 
 abbrev pub verdict_on : Table → List ℤ → List ℕ → List ℕ → Verdict
 verdict_on t l w bs = verdict t (scale_of bs) l (rows_at t (items_of bs)) (bits_of w)
@@ -23,7 +21,3 @@ syndrome_on t w = on_word t w (gives (first_broken 0 (bits_of w) t.checks))
 -- of a table, only n counts
 abbrev pub agreement_on : ℕ → List ℤ → List ℕ → Answer ℤ
 agreement_on n l w = turned_down (frame_refusal n l) (turned_down (word_refusal n w) (gives (agreement n l (bits_of w))))
-
--- "8, 9, 15, 10, 11, entry by entry 12, 13, 14", or 0: starts ss of m checks on n bits
-unfoldable pub judge_refusal : ℕ → ℕ → List ℕ → List ℤ → List ℕ → List ℕ → ℕ
-judge_refusal n m ss l w bs = or_else (frame_refusal n l) (or_else (word_refusal n w) (certificate_refusal m (degree_at ss) bs))

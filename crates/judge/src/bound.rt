@@ -5,24 +5,19 @@ ghost use Rattle.integers.specs.Linear.{Within};
 ghost use Rattle.integers.specs.Product.{abs};
 ghost use Rattle.integers.specs.Sum.{sum_to};
 ghost use Rattle.rules.specs.Limits.{max_bits, max_degree, max_scale, max_multiplier, frame_size, scaled_limit, size_limit, bound_limit};
-ghost use Rattle.rules.specs.Table.{at};
+ghost use Rattle.rules.specs.Table.{at, checks_of};
 ghost use Rattle.rules.specs.Sound.{Below};
 ghost use Rattle.rules.specs.Parity.{side};
-ghost use Rattle.rules.specs.Scatter.{scatter_row, row_of, price_of, EachWithin, Scaled, Reduces, Put, AllPut};
-ghost use Rattle.rules.specs.Certificate.{item_at, items_at, scale_of, items_of};
+ghost use Rattle.rules.specs.Scatter.{scatter_row, row_of, price_of, EachWithin, Scaled, Put, Adds, AllPut};
+ghost use Rattle.rules.specs.Certificate.{items_of, row_at, rows_at};
 ghost use Rattle.rules.specs.Sole.{none_zero};
-ghost use Rattle.judge.specs.Refusals.{Listed};
-ghost use Rattle.judge.specs.Rows.{row_in, rows_in, Placed, AllPlaced, bound_in, gap_in, Weighable};
+ghost use Rattle.judge.specs.Items.{item_of};
+ghost use Rattle.judge.specs.Rows.{InRange, EachInRange};
+ghost use Rattle.judge.specs.Claims.{ReducedIn, bound_in, gap_in};
 
-use super::entries::{check_at, mask_at, multiplier_at};
-use super::numbers::u16_at;
-use super::starts::start_at;
-
-pub(crate) fn wide(x: i16) -> i64
-    ensures { (result ≡ x) × Within frame_size result }
-{
-    x as i64
-}
+use super::claim::Claim;
+use super::entries::{Certificate, Entry};
+use table::loaded::Loaded;
 
 // "S times l."
 pub(crate) fn times(scale: usize, x: i64) -> i64
@@ -37,10 +32,9 @@ pub(crate) fn scale_frame(reduced: &mut [i64], frame: &[i16], scale: usize)
     requires { (length reduced.old ≡ length frame.now) × (scale ≤ max_scale) }
     ensures { (i : ℕ) → i < length frame.now → Scaled scale frame.now i (at reduced.new i) }
 {
-    let mut i: usize = 0;
-    while i < frame.len() {
-        reduced[i] = times(scale, wide(frame[i]));
-        i += 1;
+    // By an index, since nothing is known of what a zip over `iter_mut` has written.
+    for (i, x) in frame.iter().enumerate() {
+        reduced[i] = times(scale, i64::from(*x));
     }
 }
 
@@ -63,13 +57,9 @@ pub(crate) fn put_on(reduced: &mut [i64], members: &[u16], multiplier: u32, mask
     ensures { reduced.new ≡ scatter_row (row_of members.now multiplier mask) reduced.old }
 {
     let mut left = mask;
-    let mut k: usize = 0;
-    while k < members.len() {
-        let i = members[k] as usize;
-        let w = weight(multiplier, left);
-        reduced[i] = reduced[i] + w;
-        left = left / 2;
-        k += 1;
+    for i in members {
+        reduced[*i as usize] += weight(multiplier, left);
+        left /= 2;
     }
 }
 
@@ -81,54 +71,26 @@ pub(crate) fn entry_price(multiplier: u32, d: usize) -> i64
     (multiplier as i64) * (d as i64 - 2)
 }
 
-// Entry k put on its check's members. The answer is its price, the multiplier times (d − 2).
-pub(crate) fn put_entry(
-    reduced: &mut [i64],
-    starts: &[u16],
-    members: &[u16],
-    bytes: &[u8],
-    q: usize,
-    k: usize,
-) -> i64
-    requires { Listed bytes.now q k × Placed (length reduced.old) starts.now members.now (item_at bytes.now q k)
-        × EachWithin size_limit reduced.old }
-    ensures { Put (row_in starts.now members.now (item_at bytes.now q k) ∷ []) reduced.old reduced.new result }
+// An entry put on its check's members. The answer is its price, the multiplier times (d − 2).
+pub(crate) fn put_entry(reduced: &mut [i64], table: &Loaded, entry: Entry) -> i64
+    requires { InRange (checks_of table.now) (item_of entry) × (length reduced.old ≡ table.now.bits) × EachWithin size_limit reduced.old }
+    ensures { Put (row_at table.now (item_of entry) ∷ []) reduced.old reduced.new result × Adds (row_at table.now (item_of entry) ∷ []) }
 {
-    let check = check_at(bytes, q, k);
-    let multiplier = multiplier_at(bytes, q, k);
-    let mask = mask_at(bytes, q, k);
-    let a = start_at(starts, check);
-    let e = start_at(starts, check + 1);
-    put_on(reduced, &members[a..e], multiplier, mask);
-    entry_price(multiplier, e - a)
+    let members = table.members(entry.check);
+    put_on(reduced, members, entry.multiplier, entry.mask);
+    entry_price(entry.multiplier, members.len())
 }
 
-// All q entries put on. The answer is the sum of their prices.
-pub(crate) fn put_entries(
-    reduced: &mut [i64],
-    starts: &[u16],
-    members: &[u16],
-    bytes: &[u8],
-    q: usize,
-) -> i64
-    requires { AllPlaced (length reduced.old) starts.now members.now bytes.now q × EachWithin scaled_limit reduced.old }
-    ensures { AllPut (rows_in starts.now members.now (items_at bytes.now q 0 q)) reduced.old reduced.new result }
+// All entries put on. The answer is the sum of their prices.
+pub(crate) fn put_entries(reduced: &mut [i64], table: &Loaded, certificate: &Certificate) -> i64
+    requires { EachInRange (checks_of table.now) certificate.now × (length reduced.old ≡ table.now.bits) × EachWithin scaled_limit reduced.old }
+    ensures { AllPut (rows_at table.now (items_of certificate.now)) reduced.old reduced.new result }
 {
-    let mut total: i64 = 0;
-    let mut k: usize = 0;
-    while k < q {
-        total += put_entry(reduced, starts, members, bytes, q, k);
-        k += 1;
+    let mut total = 0;
+    for k in 0..certificate.entries() {
+        total += put_entry(reduced, table, certificate.entry(k));
     }
     total
-}
-
-// "Absolute r."
-pub(crate) fn size(x: i64) -> i64
-    requires { Within size_limit x }
-    ensures { (result ≡ abs x) × Within size_limit result }
-{
-    if x < 0 { -x } else { x }
 }
 
 // "Sum of absolute r."
@@ -136,53 +98,32 @@ pub(crate) fn sizes(reduced: &[i64]) -> i64
     requires { (length reduced.now ≤ max_bits) × EachWithin size_limit reduced.now }
     ensures { (result ≡ sum_to (length reduced.now) (λ i. abs (at reduced.now i))) × Within (max_bits * size_limit) result }
 {
-    let mut total: i64 = 0;
-    let mut i: usize = 0;
-    while i < reduced.len() {
-        total += size(reduced[i]);
-        i += 1;
+    let mut total = 0;
+    for r in reduced {
+        total += r.abs();
     }
     total
 }
 
 // "Bound B: sum of absolute r, plus each multiplier times (d − 2)." The reduced numbers are left in
 // the slice.
-pub(crate) fn bound_of(
-    reduced: &mut [i64],
-    starts: &[u16],
-    members: &[u16],
-    frame: &[i16],
-    bytes: &[u8],
-    q: usize,
-    scale: usize,
-) -> i64
-    requires { (length reduced.old ≡ length frame.now) × (length frame.now ≤ max_bits) × (scale ≤ max_scale)
-        × AllPlaced (length frame.now) starts.now members.now bytes.now q }
-    ensures { (result ≡ bound_in starts.now members.now frame.now bytes.now q scale) × Within bound_limit result
-        × Reduces scale frame.now (rows_in starts.now members.now (items_at bytes.now q 0 q)) reduced.new }
+pub(crate) fn bound_of(reduced: &mut [i64], claim: &Claim) -> i64
+    requires { length reduced.old ≡ claim.now.table.now.bits }
+    ensures { (result ≡ bound_in claim.now) × Within bound_limit result × ReducedIn claim.now reduced.new }
 {
-    scale_frame(reduced, frame, scale);
-    let price = put_entries(reduced, starts, members, bytes, q);
+    scale_frame(reduced, claim.frame, claim.certificate.scale());
+    let price = put_entries(reduced, claim.table, claim.certificate);
     sizes(reduced) + price
 }
 
 // "Gap: B − S × agreement." The reduced numbers are left in the slice.
-pub(crate) fn gap_of(
-    reduced: &mut [i64],
-    starts: &[u16],
-    members: &[u16],
-    frame: &[i16],
-    word: &[u8],
-    bytes: &[u8],
-) -> i64
-    requires { (length reduced.old ≡ length frame.now) × Weighable starts.now members.now frame.now word.now bytes.now }
-    ensures { (result ≡ gap_in starts.now members.now frame.now word.now bytes.now)
-        × Reduces (scale_of bytes.now) frame.now (rows_in starts.now members.now (items_of bytes.now)) reduced.new }
+pub(crate) fn gap_of(reduced: &mut [i64], claim: &Claim) -> i64
+    requires { length reduced.old ≡ claim.now.table.now.bits }
+    ensures { (result ≡ gap_in claim.now) × ReducedIn claim.now reduced.new }
 {
-    let q = u16_at(bytes, 0);
-    let scale = u16_at(bytes, 2);
-    let bound = bound_of(reduced, starts, members, frame, bytes, q, scale);
-    bound - times(scale, inputs::agreement(frame, word))
+    let bound = bound_of(reduced, claim);
+    let agreed = inputs::agreement(claim.frame, claim.word);
+    bound - times(claim.certificate.scale(), agreed)
 }
 
 // "Every reduced number differs from 0." The loop goes to the end, so that it can be done in wide
@@ -191,12 +132,8 @@ pub(crate) fn none_zero(reduced: &[i64]) -> bool
     ensures { result ≡ none_zero (length reduced.now) (at reduced.now) }
 {
     let mut none = true;
-    let mut bit: usize = 0;
-    while bit < reduced.len() {
-        if reduced[bit] == 0 {
-            none = false;
-        }
-        bit += 1;
+    for r in reduced {
+        none &= *r != 0;
     }
     none
 }

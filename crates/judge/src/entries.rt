@@ -1,40 +1,100 @@
 // A certificate's entries, and refusals 10 to 14.
 ghost use Rattle.std.specs.Prelude.{◌≡◌, ◌≤◌, ◌<◌};
-ghost use Rattle.rules.specs.Limits.{max_degree};
-ghost use Rattle.rules.specs.Bytes.{u16_limit};
+ghost use Rattle.rules.specs.Limits.{max_degree, max_scale, max_entries};
+ghost use Rattle.rules.specs.Table.{checks_of};
 ghost use Rattle.rules.specs.Mask.{mask_right};
-ghost use Rattle.rules.specs.Certificate.{item_at, items_at, follows};
-ghost use Rattle.table.specs.Layout.{degree_at};
-ghost use Rattle.judge.specs.Refusals.{Ordered, Long, Listed, before_at, item_refusal, items_refusal, certificate_refusal};
+ghost use Rattle.rules.specs.Certificate.{item_at, follows, entries_of, scale_of, items_of};
+ghost use Rattle.std.proofs.Math.Option.{none};
+ghost use Rattle.limits.specs.Numbers.{refusal_of, answer_by};
+ghost use Rattle.judge.specs.Refusals.{degrees_of, item_refusal, items_refusal, certificate_read};
+ghost use Rattle.judge.specs.Items.{item_of, item_before};
 
 use super::numbers::{u16_at, u32_at};
-use super::starts::degree;
-use limits::refusals::{CERTIFICATE_WRONG, ENTRY_ORDER, ENTRY_RANGE, MASK_WRONG, SCALE_RANGE};
+use limits::refusals::Refusal;
 use limits::{MAX_ENTRIES, MAX_MULTIPLIER, MAX_SCALE};
+use std::marker::Model;
+use table::loaded::Loaded;
 use table::numbers::in_range;
 
-// Entry k's check number.
-pub(crate) fn check_at(bytes: &[u8], q: usize, k: usize) -> usize
-    requires { Listed bytes.now q k }
-    ensures { (result ≡ (item_at bytes.now q k).check) × (result < u16_limit) }
-{
-    u16_at(bytes, 4 + 6 * k)
+#[derive(Clone, Copy, Debug, PartialEq, Eq)]
+pub(crate) struct Entry {
+    pub(crate) check: usize,
+    pub(crate) multiplier: u32,
+    pub(crate) mask: u32,
 }
 
-// Entry k's multiplier.
-pub(crate) fn multiplier_at(bytes: &[u8], q: usize, k: usize) -> u32
-    requires { Listed bytes.now q k }
-    ensures { result ≡ (item_at bytes.now q k).multiplier }
-{
-    u32_at(bytes, 6 + 6 * k)
+// A certificate as long as its entries ask, with a scale in its range. A clause sees the bytes.
+#[derive(Drop)]
+pub(crate) struct Certificate<'a> {
+    bytes: &'a [u8],
+    entries: usize,
+    scale: usize,
 }
 
-// Entry k's mask.
-pub(crate) fn mask_at(bytes: &[u8], q: usize, k: usize) -> u32
-    requires { Listed bytes.now q k }
-    ensures { result ≡ (item_at bytes.now q k).mask }
-{
-    u32_at(bytes, 4 + 6 * q + 4 * k)
+impl<'a> Model for Certificate<'a> {
+    ghost use Rattle.std.specs.Prelude.{◌≡◌, ◌≤◌, List, ℕ};
+    ghost use Rattle.rules.specs.Limits.{max_scale};
+    ghost use Rattle.rules.specs.Certificate.{entries_of, scale_of};
+    ghost use Rattle.judge.specs.Refusals.{Long};
+
+    ghost Value = { List ℕ };
+
+    ghost view = { λ c. c.bytes.now };
+
+    ghost invariant = { λ c. (c.entries ≡ entries_of c.bytes.now) × Long c.bytes.now c.entries
+        × (c.scale ≡ scale_of c.bytes.now) × (c.scale ≤ max_scale) };
+}
+
+impl<'a> Certificate<'a> {
+    // "10 certificate length wrong or q too large. 11 scale".
+    pub(crate) fn read(bytes: &'a [u8]) -> Result<Certificate<'a>, Refusal>
+        ensures { answer_by (λ c. c) result ≡ certificate_read bytes.now }
+    {
+        if bytes.len() < 4 {
+            return Err(Refusal::CertificateWrong);
+        }
+        let entries = u16_at(bytes, 0);
+        if MAX_ENTRIES < entries {
+            return Err(Refusal::CertificateWrong);
+        }
+        if bytes.len() != 4 + 10 * entries {
+            return Err(Refusal::CertificateWrong);
+        }
+        let scale = u16_at(bytes, 2);
+        if !in_range(1, MAX_SCALE, scale) {
+            return Err(Refusal::ScaleRange);
+        }
+        Ok(Certificate {
+            bytes,
+            entries,
+            scale,
+        })
+    }
+
+    // q
+    pub(crate) fn entries(&self) -> usize
+        ensures { (result ≡ entries_of self.now) × (result ≤ max_entries) }
+    {
+        self.entries
+    }
+
+    // S
+    pub(crate) fn scale(&self) -> usize
+        ensures { (result ≡ scale_of self.now) × (result ≤ max_scale) }
+    {
+        self.scale
+    }
+
+    pub(crate) fn entry(&self, k: usize) -> Entry
+        requires { k < entries_of self.now }
+        ensures { item_of result ≡ item_at self.now (entries_of self.now) k }
+    {
+        Entry {
+            check: u16_at(self.bytes, 4 + 6 * k),
+            multiplier: u32_at(self.bytes, 6 + 6 * k),
+            mask: u32_at(self.bytes, 4 + 6 * self.entries + 4 * k),
+        }
+    }
 }
 
 // "A mask has an odd number of ones, all below the check's degree." In 64 bits, since at degree 32
@@ -43,80 +103,51 @@ pub(crate) fn mask_right(d: usize, mask: u32) -> bool
     requires { d ≤ max_degree }
     ensures { result ≡ mask_right d mask }
 {
-    u32::count_ones(mask) % 2 == 1 && (mask as u64) < 1u64 << (d as u32)
+    mask.count_ones() % 2 == 1 && (mask as u64) < 1u64 << d
 }
 
 // "Entries ascend strictly by check, then mask."
-pub(crate) fn ordered(bytes: &[u8], q: usize, k: usize) -> bool
-    requires { Listed bytes.now q k }
-    ensures { result ≡ follows (before_at bytes.now q k) (item_at bytes.now q k) }
+pub(crate) fn follows(before: Option<Entry>, entry: Entry) -> bool
+    ensures { result ≡ follows (item_before before) (item_of entry) }
 {
-    if k == 0 {
-        return true;
+    match before {
+        None => true,
+        Some(b) => (b.check, b.mask) < (entry.check, entry.mask),
     }
-    let before = check_at(bytes, q, k - 1);
-    let check = check_at(bytes, q, k);
-    if before < check {
-        return true;
-    }
-    before == check && mask_at(bytes, q, k - 1) < mask_at(bytes, q, k)
 }
 
-// Entry k: "12 entry's check or multiplier. 13 mask. 14 entry order", or 0.
-pub(crate) fn entry_refusal(starts: &[u16], m: usize, bytes: &[u8], q: usize, k: usize) -> u8
-    requires { Ordered m starts.now × Listed bytes.now q k }
-    ensures { result ≡ item_refusal m (degree_at starts.now) (before_at bytes.now q k) (item_at bytes.now q k) }
+// "12 entry's check or multiplier. 13 mask. 14 entry order".
+pub(crate) fn entry_refusal(
+    table: &Loaded,
+    before: Option<Entry>,
+    entry: Entry,
+) -> Result<(), Refusal>
+    ensures { refusal_of result ≡ item_refusal (checks_of table.now) (degrees_of table.now) (item_before before) (item_of entry) }
 {
-    let check = check_at(bytes, q, k);
-    if m <= check {
-        return ENTRY_RANGE;
+    if table.checks() <= entry.check {
+        return Err(Refusal::EntryRange);
     }
-    let multiplier = multiplier_at(bytes, q, k);
-    if !in_range(1, MAX_MULTIPLIER, multiplier as usize) {
-        return ENTRY_RANGE;
+    if !in_range(1, MAX_MULTIPLIER, entry.multiplier as usize) {
+        return Err(Refusal::EntryRange);
     }
-    if !mask_right(degree(starts, check), mask_at(bytes, q, k)) {
-        return MASK_WRONG;
+    if !mask_right(table.members(entry.check).len(), entry.mask) {
+        return Err(Refusal::MaskWrong);
     }
-    if !ordered(bytes, q, k) {
-        return ENTRY_ORDER;
+    if !follows(before, entry) {
+        return Err(Refusal::EntryOrder);
     }
-    0
+    Ok(())
 }
 
 // "Entry by entry 12, 13, 14."
-pub(crate) fn entries_refusal(starts: &[u16], m: usize, bytes: &[u8], q: usize) -> u8
-    requires { Ordered m starts.now × Long bytes.now q }
-    ensures { result ≡ items_refusal m (degree_at starts.now) (before_at bytes.now q 0) (items_at bytes.now q 0 q) }
+pub(crate) fn entries_refusal(table: &Loaded, certificate: &Certificate) -> Result<(), Refusal>
+    ensures { refusal_of result ≡ items_refusal (checks_of table.now) (degrees_of table.now) none (items_of certificate.now) }
 {
-    let mut k: usize = 0;
-    while k < q {
-        let refusal = entry_refusal(starts, m, bytes, q, k);
-        if refusal != 0 {
-            return refusal;
-        }
-        k += 1;
+    let mut before = None;
+    for k in 0..certificate.entries() {
+        let entry = certificate.entry(k);
+        entry_refusal(table, before, entry)?;
+        before = Some(entry);
     }
-    0
-}
-
-// "10 certificate length wrong or q too large. 11 scale", then the entries; 0 for none.
-pub(crate) fn certificate_refusal(starts: &[u16], m: usize, bytes: &[u8]) -> u8
-    requires { Ordered m starts.now }
-    ensures { result ≡ certificate_refusal m (degree_at starts.now) bytes.now }
-{
-    if bytes.len() < 4 {
-        return CERTIFICATE_WRONG;
-    }
-    let q = u16_at(bytes, 0);
-    if MAX_ENTRIES < q {
-        return CERTIFICATE_WRONG;
-    }
-    if bytes.len() != 4 + 10 * q {
-        return CERTIFICATE_WRONG;
-    }
-    if !in_range(1, MAX_SCALE, u16_at(bytes, 2)) {
-        return SCALE_RANGE;
-    }
-    entries_refusal(starts, m, bytes, q)
+    Ok(())
 }

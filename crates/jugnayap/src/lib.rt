@@ -12,14 +12,15 @@ ghost use Rattle.rules.specs.Judge.{judge_reply, agreement_of, agreement_values}
 ghost use Rattle.run.specs.Slices.{slices};
 ghost use Rattle.jugnayap.specs.Numbers.{version, table_from, cut_from, verdict_from, agreement_from, start_numbers, call_numbers, StartBecomes, NumbersBecome};
 
-use cut::Found;
-use judge::{Agreed, Verdict};
+use cut::Violation;
+use judge::Verdict;
 use numbers::{called_numbers, record_of, started_numbers};
-use table::Checked;
+use table::Sizes;
 
-// `number` is 0 or the refusal's number; a refused call has zeros in the other fields.
+// Answers are numbers, as C has no Result: `number` is 0 or the refusal's number, and a refused call has zeros in
+// the other fields.
 #[repr(C)]
-#[derive(Clone, Copy)]
+#[derive(Clone, Copy, Debug, PartialEq, Eq)]
 pub struct JugnayapTable {
     pub number: u32,
     pub bits: u32,
@@ -29,7 +30,7 @@ pub struct JugnayapTable {
 
 // `mask` and `depth` are 0 for no cut.
 #[repr(C)]
-#[derive(Clone, Copy)]
+#[derive(Clone, Copy, Debug, PartialEq, Eq)]
 pub struct JugnayapCut {
     pub number: u32,
     pub mask: u32,
@@ -39,7 +40,7 @@ pub struct JugnayapCut {
 // `kind` 0: `value` is the first broken check; 1: certified, and `sole` is its mark; 2: `value` is the
 // gap.
 #[repr(C)]
-#[derive(Clone, Copy)]
+#[derive(Clone, Copy, Debug, PartialEq, Eq)]
 pub struct JugnayapVerdict {
     pub number: u32,
     pub kind: u32,
@@ -48,7 +49,7 @@ pub struct JugnayapVerdict {
 }
 
 #[repr(C)]
-#[derive(Clone, Copy)]
+#[derive(Clone, Copy, Debug, PartialEq, Eq)]
 pub struct JugnayapAgreement {
     pub number: u32,
     pub agreement: i64,
@@ -56,14 +57,14 @@ pub struct JugnayapAgreement {
 
 // The run's record: the rounds done, and 0 running, 1 certified, 2 spent.
 #[repr(C)]
-#[derive(Clone, Copy)]
+#[derive(Clone, Copy, Debug, PartialEq, Eq)]
 pub struct JugnayapRun {
     pub rounds: u32,
     pub status: u32,
 }
 
 #[repr(C)]
-#[derive(Clone, Copy)]
+#[derive(Clone, Copy, Debug, PartialEq, Eq)]
 pub struct JugnayapCalled {
     pub number: u32,
     pub run: JugnayapRun,
@@ -81,23 +82,24 @@ pub fn jugnayap_version() -> u32
 pub fn jugnayap_check_table(code: &[u8]) -> JugnayapTable
     ensures { result ≡ table_from (code_file_reply code.now) }
 {
-    let answer = table::check(code);
-    match answer {
-        Checked::Refused(k) => JugnayapTable {
-            number: k as u32,
-            bits: 0,
-            checks: 0,
-            edges: 0,
-        },
-        Checked::Accepted {
-            bits,
-            checks,
-            edges,
-        } => JugnayapTable {
+    match table::check(code) {
+        Ok(
+            Sizes {
+                bits,
+                checks,
+                edges,
+            },
+        ) => JugnayapTable {
             number: 0,
             bits: bits as u32,
             checks: checks as u32,
             edges: edges as u32,
+        },
+        Err(refusal) => JugnayapTable {
+            number: u32::from(refusal.number()),
+            bits: 0,
+            checks: 0,
+            edges: 0,
         },
     }
 }
@@ -105,22 +107,21 @@ pub fn jugnayap_check_table(code: &[u8]) -> JugnayapTable
 pub fn jugnayap_search_cut(code: &[u8], spins: &[i32], check: usize) -> JugnayapCut
     ensures { result ≡ cut_from (cut_reply code.now spins.now check) }
 {
-    let answer = cut::search(code, spins, check);
-    match answer {
-        Found::Refused(k) => JugnayapCut {
-            number: k as u32,
-            mask: 0,
-            depth: 0,
-        },
-        Found::Nothing => JugnayapCut {
-            number: 0,
-            mask: 0,
-            depth: 0,
-        },
-        Found::Violated { mask, depth } => JugnayapCut {
+    match cut::search(code, spins, check) {
+        Ok(Some(Violation { mask, depth })) => JugnayapCut {
             number: 0,
             mask,
             depth,
+        },
+        Ok(None) => JugnayapCut {
+            number: 0,
+            mask: 0,
+            depth: 0,
+        },
+        Err(refusal) => JugnayapCut {
+            number: u32::from(refusal.number()),
+            mask: 0,
+            depth: 0,
         },
     }
 }
@@ -133,30 +134,29 @@ pub fn jugnayap_judge(
 ) -> JugnayapVerdict
     ensures { result ≡ verdict_from (judge_reply code.now frame.now word.now certificate.now) }
 {
-    let answer = judge::judge(code, frame, word, certificate);
-    match answer {
-        Verdict::Refused(k) => JugnayapVerdict {
-            number: k as u32,
-            kind: 0,
-            value: 0,
-            sole: 0,
-        },
-        Verdict::Broken(check) => JugnayapVerdict {
+    match judge::judge(code, frame, word, certificate) {
+        Ok(Verdict::Broken(check)) => JugnayapVerdict {
             number: 0,
             kind: 0,
             value: check as i64,
             sole: 0,
         },
-        Verdict::Certified { sole } => JugnayapVerdict {
+        Ok(Verdict::Certified { sole }) => JugnayapVerdict {
             number: 0,
             kind: 1,
             value: 0,
-            sole: sole as u32,
+            sole: u32::from(sole),
         },
-        Verdict::Gap(gap) => JugnayapVerdict {
+        Ok(Verdict::Gap(gap)) => JugnayapVerdict {
             number: 0,
             kind: 2,
             value: gap,
+            sole: 0,
+        },
+        Err(refusal) => JugnayapVerdict {
+            number: u32::from(refusal.number()),
+            kind: 0,
+            value: 0,
             sole: 0,
         },
     }
@@ -165,15 +165,14 @@ pub fn jugnayap_judge(
 pub fn jugnayap_agreement(code: &[u8], frame: &[i16], word: &[u8]) -> JugnayapAgreement
     ensures { result ≡ agreement_from (reply_of agreement_values (agreement_of code.now frame.now word.now)) }
 {
-    let answer = judge::agreement(code, frame, word);
-    match answer {
-        Agreed::Refused(k) => JugnayapAgreement {
-            number: k as u32,
-            agreement: 0,
-        },
-        Agreed::Is(agreement) => JugnayapAgreement {
+    match judge::agreement(code, frame, word) {
+        Ok(agreement) => JugnayapAgreement {
             number: 0,
             agreement,
+        },
+        Err(refusal) => JugnayapAgreement {
+            number: u32::from(refusal.number()),
+            agreement: 0,
         },
     }
 }

@@ -7,9 +7,11 @@ ghost use Rattle.decoder.specs.Reply.{outcome_of};
 ghost use Rattle.jugnayap.specs.Numbers.{run_numbers, started_from, progress_at, called_from};
 
 use super::{JugnayapCalled, JugnayapRun};
-use decoder::{Called, Outcome};
-use run::{Record, Started, Status};
+use decoder::Called;
+use limits::refusals::Refusal;
+use run::{Record, Status};
 
+// A status as c/jugnayap.h has it.
 const RUNNING: u32 = 0;
 
 const CERTIFIED: u32 = 1;
@@ -29,10 +31,9 @@ fn status_number(status: Status) -> u32
 fn run_numbers(done: Record) -> JugnayapRun
     ensures { result ≡ run_numbers (progress_of done) }
 {
-    let status = done.status;
     JugnayapRun {
         rounds: done.rounds,
-        status: status_number(status),
+        status: status_number(done.status),
     }
 }
 
@@ -41,57 +42,50 @@ pub(crate) fn record_of(run: JugnayapRun) -> Record
     ensures { progress_of result ≡ progress_at run }
 {
     let rounds = run.rounds;
-    let status = run.status;
-    if status == RUNNING {
-        return Record {
+    match run.status {
+        RUNNING => Record {
             rounds,
             status: Status::Running,
-        };
-    }
-    if status == CERTIFIED {
-        return Record {
+        },
+        CERTIFIED => Record {
             rounds,
             status: Status::Certified,
-        };
-    }
-    if status == SPENT {
-        return Record {
+        },
+        SPENT => Record {
             rounds,
             status: Status::Spent,
-        };
-    }
-    Record {
-        rounds: Record::ROUND_LIMIT,
-        status: Status::Running,
+        },
+        _ => Record {
+            rounds: Record::ROUND_LIMIT,
+            status: Status::Running,
+        },
     }
 }
 
-pub(crate) fn started_numbers(started: Started) -> JugnayapCalled
+pub(crate) fn started_numbers(started: Result<Record, Refusal>) -> JugnayapCalled
     ensures { result ≡ started_from (reply_of progress_values (started_of started)) }
 {
     match started {
-        Started::Refused(k) => JugnayapCalled {
-            number: k as u32,
+        Ok(done) => JugnayapCalled {
+            number: 0,
+            run: run_numbers(done),
+        },
+        Err(refusal) => JugnayapCalled {
+            number: u32::from(refusal.number()),
             run: JugnayapRun {
                 rounds: 0,
                 status: RUNNING,
             },
         },
-        Started::Fresh(done) => JugnayapCalled {
-            number: 0,
-            run: run_numbers(done),
-        },
     }
 }
 
-fn refusal_number(outcome: Outcome) -> u32
+fn refusal_number(outcome: Result<Status, Refusal>) -> u32
     ensures { result ≡ (reply_of status_values (outcome_of outcome)).number }
 {
     match outcome {
-        Outcome::Refused(k) => k as u32,
-        Outcome::Running => 0,
-        Outcome::Certified => 0,
-        Outcome::Spent => 0,
+        Ok(_) => 0,
+        Err(refusal) => u32::from(refusal.number()),
     }
 }
 
@@ -99,15 +93,12 @@ fn refusal_number(outcome: Outcome) -> u32
 pub(crate) fn called_numbers(run: JugnayapRun, called: Called) -> JugnayapCalled
     ensures { result ≡ called_from run (outcome_of called.outcome) (progress_of called.run) }
 {
-    let outcome = called.outcome;
-    let number = refusal_number(outcome);
-    let status = run.status;
-    if SPENT < status {
+    let number = refusal_number(called.outcome);
+    if SPENT < run.status {
         return JugnayapCalled { number, run };
     }
-    let done = called.run;
     JugnayapCalled {
         number,
-        run: run_numbers(done),
+        run: run_numbers(called.run),
     }
 }

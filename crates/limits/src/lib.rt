@@ -1,4 +1,4 @@
-// The limits of document 01, as in rules' Limits: their one place in the code. No function runs here.
+// The limits of document 01, as in rules' Limits: their one place in the code.
 #![tactic(auto)]
 
 pub mod common;

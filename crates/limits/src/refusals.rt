@@ -1,45 +1,75 @@
-// The refusal numbers of document 01, as in rules' Refusal: their one place in the code. 44 is not
-// among them, since no call can answer it.
+// The refusals of document 01, as in rules' Refusal: their one place in the code. 44 is not among them, since
+// no call can answer it.
+ghost use Rattle.std.specs.Prelude.{◌≡◌};
+ghost use Rattle.limits.specs.Numbers.{number_of};
 
-// "Turned down because of what was handed in"
-pub const HEADER_SHORT: u8 = 1;
+use std::error::Error;
+use std::fmt;
 
-pub const SIZE_RANGE: u8 = 2;
+#[derive(Clone, Copy, Debug, PartialEq, Eq)]
+pub enum Refusal {
+    // "Turned down because of what was handed in"
+    HeaderShort,
+    SizeRange,
+    CountRange,
+    StartWrong,
+    LengthWrong,
+    MemberWrong,
+    BitDegree,
+    FrameLength,
+    FrameRange,
+    CertificateWrong,
+    ScaleRange,
+    EntryRange,
+    MaskWrong,
+    EntryOrder,
+    WordWrong,
+    PointWrong,
 
-pub const COUNT_RANGE: u8 = 3;
+    // A check number not below m, or rounds wanted above 1,024.
+    AskedTooMuch,
 
-pub const START_WRONG: u8 = 4;
+    // "Turned down because of how the run stands"
+    BufferShort,
+    RunEnded,
+    RunDamaged,
+}
 
-pub const LENGTH_WRONG: u8 = 5;
+impl Refusal {
+    // The refusal's number in document 01.
+    pub fn number(self) -> u8
+        ensures { result ≡ number_of self }
+    {
+        match self {
+            Refusal::HeaderShort => 1,
+            Refusal::SizeRange => 2,
+            Refusal::CountRange => 3,
+            Refusal::StartWrong => 4,
+            Refusal::LengthWrong => 5,
+            Refusal::MemberWrong => 6,
+            Refusal::BitDegree => 7,
+            Refusal::FrameLength => 8,
+            Refusal::FrameRange => 9,
+            Refusal::CertificateWrong => 10,
+            Refusal::ScaleRange => 11,
+            Refusal::EntryRange => 12,
+            Refusal::MaskWrong => 13,
+            Refusal::EntryOrder => 14,
+            Refusal::WordWrong => 15,
+            Refusal::PointWrong => 16,
+            Refusal::AskedTooMuch => 17,
+            Refusal::BufferShort => 41,
+            Refusal::RunEnded => 42,
+            Refusal::RunDamaged => 43,
+        }
+    }
+}
 
-pub const MEMBER_WRONG: u8 = 6;
+// The number alone, as in a report.
+impl fmt::Display for Refusal {
+    fn fmt<W: fmt::Write>(&self, f: &mut fmt::Formatter<W>) -> fmt::Result {
+        write!(f, "{}", self.number())
+    }
+}
 
-pub const BIT_DEGREE: u8 = 7;
-
-pub const FRAME_LENGTH: u8 = 8;
-
-pub const FRAME_RANGE: u8 = 9;
-
-pub const CERTIFICATE_WRONG: u8 = 10;
-
-pub const SCALE_RANGE: u8 = 11;
-
-pub const ENTRY_RANGE: u8 = 12;
-
-pub const MASK_WRONG: u8 = 13;
-
-pub const ENTRY_ORDER: u8 = 14;
-
-pub const WORD_WRONG: u8 = 15;
-
-pub const POINT_WRONG: u8 = 16;
-
-// A check number not below m, or rounds wanted above 1,024.
-pub const ASKED_TOO_MUCH: u8 = 17;
-
-// "Turned down because of how the run stands"
-pub const BUFFER_SHORT: u8 = 41;
-
-pub const RUN_ENDED: u8 = 42;
-
-pub const RUN_DAMAGED: u8 = 43;
+impl Error for Refusal {}

@@ -20,6 +20,7 @@ use Rattle.rules.specs.Run.{certified}
 use Rattle.rules.proofs.Judged.{sole_read}
 use Rattle.rules.proofs.CallPasses.{PassesIn, call_passes}
 use Rattle.judge.specs.Reply.{verdict_of}
+use Rattle.std.specs.Prelude.{Ok}
 use Rattle.judge.specs.declared.Verdict.TheVariants.{Certified}
 use Rattle.judge.proofs.ViewLaws.{verdict-inj}
 use Rattle.judge.specs.contracts.judge as jd
@@ -28,7 +29,7 @@ use Rattle.judge.proofs.judge.Reads as jd-reads
 use Rattle.judge.proofs.judge.Statement.{statement as jd-statement}
 use Rattle.judge.proofs.judge.Met.{met as judge-met}
 use Rattle.decoder.specs.Reply.{outcome_of}
-use Rattle.decoder.specs.declared.Outcome.TheVariants as out
+use Rattle.run.specs.declared.Status.TheVariants as status
 use Rattle.decoder.proofs.rounds.Statement.{statement as rd-statement}
 use Rattle.decoder.proofs.rounds.Met.{met as rounds-met}
 use Rattle.decoder.proofs.Demand3.{RoundsCall, rounds_file, rounds_frame, rounds_wanted, rounds_run, rounds_gave, rounds-says}
@@ -81,10 +82,10 @@ pub record Judges (t : Table) (x : RoundsCall) (y : JudgeCall) : Type 0 where
 
 -- where the call for rounds answers certified, so does the judge, with the mark of the certificate's reduced numbers
 abbrev pub WrittenPasses : Type 0
-WrittenPasses = (t : Table) (x : RoundsCall) (y : JudgeCall) → code_file (rounds_file x) ≡ gives t → Judges t x y → x.result.outcome ≡ out.Certified → y.result ≡ Certified (judges_mark t y)
+WrittenPasses = (t : Table) (x : RoundsCall) (y : JudgeCall) → code_file (rounds_file x) ≡ gives t → Judges t x y → x.result.outcome ≡ Ok status.Certified → y.result ≡ Ok (Certified (judges_mark t y))
 
 pub written-passes : WrittenPasses
-written-passes t x y is_file j e = verdict-inj y.result (Certified (judges_mark t y)) (judge-handed y j.file j.frame j.word j.certificate ∙ left ∙ mark)
+written-passes t x y is_file j e = verdict-inj y.result (Ok (Certified (judges_mark t y))) (judge-handed y j.file j.frame j.word j.certificate ∙ left ∙ mark)
   where
     certifies : (rounds_gave x).answer ≡ gives certified
     certifies = ap outcome_of e

@@ -17,12 +17,13 @@ use Rattle.rules.specs.Run.{call}
 use Rattle.rules.specs.Demand3.{Best}
 use Rattle.rules.proofs.Judged.{judge-marked, judge-best}
 use Rattle.rules.proofs.ScaledLaws.{scaled-judged, ScaledAfter, call-scaled}
+use Rattle.std.specs.Prelude.{Ok}
 use Rattle.judge.specs.declared.Verdict.TheVariants.{Certified}
 use Rattle.judge.proofs.ViewLaws.{verdict-inj}
 use Rattle.judge.proofs.judge.Statement.{statement as jd-statement}
 use Rattle.judge.proofs.judge.Met.{met as judge-met}
 use Rattle.decoder.specs.Reply.{outcome_of}
-use Rattle.decoder.specs.declared.Outcome.TheVariants as out
+use Rattle.run.specs.declared.Status.TheVariants as status
 use Rattle.decoder.proofs.rounds.Statement.{statement as rd-statement}
 use Rattle.decoder.proofs.rounds.Met.{met as rounds-met}
 use Rattle.decoder.proofs.Demand3.{RoundsCall, rounds_file, rounds_frame, rounds_wanted, rounds_run, rounds_gave, rounds-says}
@@ -63,16 +64,16 @@ module _ (t : Table) (k : ℕ) (x : RoundsCall) (y : JudgeCall) (h : JudgesScale
   is_file : code_file (judges_file y) ≡ gives t
   is_file = ap code_file h.file ∙ h.is_file
 
-  judged : x.result.outcome ≡ out.Certified → judges_answer y ≡ gives (passes (judges_mark t y))
+  judged : x.result.outcome ≡ Ok status.Certified → judges_answer y ≡ gives (passes (judges_mark t y))
   judged e = judge-marked (judges_file y) (judges_frame y) (judges_word y) (judges_certificate y) t is_file _ (sym (judge-says y) ∙ judge-handed y h.file refl h.word h.certificate
       ∙ subst (ScaledAfter (rounds_file x) k (judges_frame y) t) (sym ran)
       (call-scaled (rounds_file x) k (judges_frame y) (rounds_wanted x) (rounds_run x) t h.is_file h.least h.most (ap (λ d. d.answer) (sym ran) ∙ ap outcome_of e)))
 
-  pub scaled-passes : x.result.outcome ≡ out.Certified → y.result ≡ Certified (judges_mark t y)
-  scaled-passes e = verdict-inj y.result (Certified (judges_mark t y)) (judge-says y ∙ judged e)
+  pub scaled-passes : x.result.outcome ≡ Ok status.Certified → y.result ≡ Ok (Certified (judges_mark t y))
+  scaled-passes e = verdict-inj y.result (Ok (Certified (judges_mark t y))) (judge-says y ∙ judged e)
 
   -- no codeword and no point of the relaxation agrees better with the frame itself
-  pub scaled-best : x.result.outcome ≡ out.Certified → Best t (judges_frame y) (bits_of (judges_word y))
+  pub scaled-best : x.result.outcome ≡ Ok status.Certified → Best t (judges_frame y) (bits_of (judges_word y))
   scaled-best e = judge-best (judges_file y) (judges_frame y) (judges_word y) (judges_certificate y) t is_file (judges_mark t y) (judged e)
 
 -- beside the proofs of the two functions
@@ -80,8 +81,8 @@ abbrev pub SameAnswer : Type 0
 SameAnswer = (k : ℕ) (bs : List ℕ) (y z : JudgeCall) → Rescaled k bs y z → y.result ≡ z.result
 
 abbrev pub CertifiedSmall : Type 0
-CertifiedSmall = (t : Table) (k : ℕ) (x : RoundsCall) (y : JudgeCall) → JudgesScaled t k x y → x.result.outcome ≡ out.Certified
-    → (y.result ≡ Certified (judges_mark t y)) × Best t (judges_frame y) (bits_of (judges_word y))
+CertifiedSmall = (t : Table) (k : ℕ) (x : RoundsCall) (y : JudgeCall) → JudgesScaled t k x y → x.result.outcome ≡ Ok status.Certified
+    → (y.result ≡ Ok (Certified (judges_mark t y))) × Best t (judges_frame y) (bits_of (judges_word y))
 
 pub proved : {M : Type 1} → rd-statement M × (jd-statement M × (SameAnswer × CertifiedSmall))
 proved = (rounds-met, (judge-met, (scaled-same, λ t k x y h e. (scaled-passes t k x y h e, scaled-best t k x y h e))))

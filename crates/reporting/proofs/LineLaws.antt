@@ -28,12 +28,13 @@ use Rattle.rules.proofs.ReportLaws.{blank-line, refused-line, Sized, judged-size
 use Rattle.inputs.specs.Agreed.{agreed}
 use Rattle.inputs.proofs.AgreedLaws.{agreed-whole}
 use Rattle.run.specs.declared.Record.{Record}
-use Rattle.run.specs.declared.Started.{Started}
-use Rattle.run.specs.declared.Started.TheVariants.{Refused, Fresh}
+use Rattle.std.specs.Prelude.{Result, Ok, Err}
+use Rattle.limits.specs.Numbers.{number_of}
+use Rattle.limits.specs.declared.refusals.Refusal.{Refusal}
+use Rattle.run.specs.declared.Status as declared
+use Rattle.run.specs.declared.Status.TheVariants as status
 use Rattle.run.specs.Reply.{progress_of, started_of}
 use Rattle.decoder.specs.declared.Called as code
-use Rattle.decoder.specs.declared.Outcome.{Outcome}
-use Rattle.decoder.specs.declared.Outcome.TheVariants as out
 use Rattle.decoder.specs.Reply.{outcome_of}
 use Rattle.reporting.specs.Ran.{greatest, blank_word, blank_certificate, lent_with, ran_of, ran_as, fresh_ran, line_from}
 
@@ -97,21 +98,22 @@ module _ (file : List ℕ) (l : List ℤ) (b : Buffers) (h : max_edges ≤ lengt
       go (gives t) p = ap (λ x. with_started b x.buffers) (began file lends h k i t p) ∙ ap (λ x. x.buffers) (sym (began file b h k i t p))
 
   -- s is what a start answered, d what it left of them
-  module _ (s : Started) (d : Buffers) (e : record { answer = started_of s; buffers = d } ≡ start file (start_lent b.copies b.offsets b.sums)) where
+  module _ (s : Result Record Refusal) (d : Buffers) (e : record { answer = started_of s; buffers = d } ≡ start file (start_lent b.copies b.offsets b.sums)) where
     answered : (a : Answer Progress) → started_of s ≡ a → (start file lends).answer ≡ a
     unfolding lends
     answered a p = ap (λ x. x.answer) (sym e) ∙ p
 
-    pub ran-refused : (j : ℕ) (r : Record) → s ≡ Refused j → progress_of r ≡ fresh
-        → record { answer = refused j; rounds = r.rounds; word = b.word; certificate = b.certificate } ≡ fresh_ran file l b
+    pub ran-refused : (j : Refusal) (r : Record) → s ≡ Err j → progress_of r ≡ fresh
+        → record { answer = refused (number_of j); rounds = r.rounds; word = b.word; certificate = b.certificate } ≡ fresh_ran file l b
     unfolding fresh_ran call lends
     ran-refused j r p q =
-        let bad = start-refused file lends h k i j (answered (refused j) (ap started_of p)) in
-        ap (λ n. record { answer = refused j; rounds = n.rounds; word = b.word; certificate = b.certificate }) q
-        ∙ ap (λ x. record { answer = refused j; rounds = 0; word = x.buffers.word; certificate = x.buffers.certificate }) (sym (stayed file b h k i j bad))
+        let n : ℕ = number_of j in
+        let bad = start-refused file lends h k i n (answered (refused n) (ap started_of p)) in
+        ap (λ x. record { answer = refused n; rounds = x.rounds; word = b.word; certificate = b.certificate }) q
+        ∙ ap (λ x. record { answer = refused n; rounds = 0; word = x.buffers.word; certificate = x.buffers.certificate }) (sym (stayed file b h k i n bad))
         ∙ ap (λ a. ran_of (call_by l round_limit (started_run file b) a)) (sym bad)
 
-    pub ran-started : (r : Record) (c : Called) → s ≡ Fresh r → c ≡ call file l round_limit (record { progress = progress_of r; buffers = with_started b d })
+    pub ran-started : (r : Record) (c : Called) → s ≡ Ok r → c ≡ call file l round_limit (record { progress = progress_of r; buffers = with_started b d })
         → ran_of c ≡ fresh_ran file l b
     unfolding fresh_ran lends
     ran-started r c p q =
@@ -161,11 +163,11 @@ module _ (file : List ℕ) (l : List ℤ) where
 
 -- ---- of what the code's run comes to: what it answered, the word and the certificate
 module _ (file : List ℕ) (l : List ℤ) (d : code.Called) (w c : List ℕ) (e : ran_as d w c ≡ fresh_ran file l (lent_with blank_word blank_certificate)) where
-  pub line_of : (o : Outcome) → d.outcome ≡ o → line_from l (outcome_of o) (ran_as d w c) ≡ frame_line file l
+  pub line_of : (o : Result declared.Status Refusal) → d.outcome ≡ o → line_from l (outcome_of o) (ran_as d w c) ≡ frame_line file l
   unfolding fresh_ran lent_with run
   line_of o q = ap (λ x. line_from l (outcome_of x) (ran_as d w c)) (sym q) ∙ ap (λ r. line_from l r.answer r) e ∙ line-run file l
 
-  pub certified-short : d.outcome ≡ out.Certified → length l ≤ max_bits
+  pub certified-short : d.outcome ≡ Ok status.Certified → length l ≤ max_bits
   unfolding fresh_ran lent_with run
   certified-short q = go (code_file file) refl
     where

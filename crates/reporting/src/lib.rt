@@ -3,7 +3,6 @@
 #![tactic(auto)]
 
 pub mod code;
-mod print;
 
 ghost use Rattle.std.specs.Prelude.{◌≡◌, ◌≤◌, length};
 ghost use Rattle.rules.specs.Limits.{max_bits};
@@ -14,22 +13,22 @@ ghost use Rattle.reporting.specs.View.{line_of};
 ghost use Rattle.reporting.specs.Ran.{lent_with, ran_as, fresh_ran};
 
 use code::{FILE_LIMIT, read_code};
-use decoder::{Called, Outcome};
+use decoder::Called;
 use file_numbers::u16_of;
+use limits::refusals::Refusal;
 use limits::{MAX_BITS, MAX_CHECKS, MAX_EDGES};
-use print::{print_code, print_frame, print_refused};
-use run::{Record, Started};
+use run::{Record, Status};
+use std::fmt;
 use std::io::{self, Read};
-use table::Checked;
+use table::Sizes;
 
 // "certificate 4 + 10m"
 const CERTIFICATE_LIMIT: usize = 4 + 10 * MAX_CHECKS;
 
-// What is said of a frame: a refusal's number, or the rounds and how the run stands. "After certified:
-// rounds, agreement, cuts."
-#[derive(Clone, Copy)]
+// What is said of a frame that is not refused: the rounds and how the run stands. "After certified: rounds,
+// agreement, cuts."
+#[derive(Clone, Copy, Debug, PartialEq, Eq)]
 pub enum Line {
-    Refused(u8),
     Running(u32),
     Certified {
         rounds: u32,
@@ -37,6 +36,20 @@ pub enum Line {
         cuts: usize,
     },
     Spent(u32),
+}
+
+impl fmt::Display for Line {
+    fn fmt<W: fmt::Write>(&self, f: &mut fmt::Formatter<W>) -> fmt::Result {
+        match self {
+            Line::Running(rounds) => write!(f, "running {rounds}"),
+            Line::Certified {
+                rounds,
+                agreement,
+                cuts,
+            } => write!(f, "certified {rounds} {agreement} {cuts}"),
+            Line::Spent(rounds) => write!(f, "spent {rounds}"),
+        }
+    }
 }
 
 // "each frame gets a fresh run of 1,024 rounds"
@@ -50,13 +63,12 @@ fn decode(code: &[u8], frame: &[i16], word: &mut [u8], certificate: &mut [u8]) -
     let mut multipliers = [0u32; MAX_CHECKS];
     let mut masks = [0u32; MAX_CHECKS];
     let mut depths = [0u32; MAX_CHECKS];
-    let started = run::start(code, &mut copies, &mut offsets, &mut sums);
-    match started {
-        Started::Refused(k) => Called {
-            outcome: Outcome::Refused(k),
+    match run::start(code, &mut copies, &mut offsets, &mut sums) {
+        Err(refusal) => Called {
+            outcome: Err(refusal),
             run: Record::fresh(),
         },
-        Started::Fresh(run) => decoder::rounds(
+        Ok(run) => decoder::rounds(
             code,
             frame,
             run,
@@ -77,7 +89,7 @@ fn decode(code: &[u8], frame: &[i16], word: &mut [u8], certificate: &mut [u8]) -
 // The cuts are the certificate's q.
 fn certified_line(frame: &[i16], rounds: u32, word: &[u8], certificate: &[u8]) -> Line
     requires { 4 ≤ length certificate.now }
-    ensures { line_of result ≡ certified_line rounds (agreed frame.now word.now) (u16_at certificate.now 0) }
+    ensures { line_of (Ok result) ≡ certified_line rounds (agreed frame.now word.now) (u16_at certificate.now 0) }
 {
     Line::Certified {
         rounds,
@@ -87,23 +99,22 @@ fn certified_line(frame: &[i16], rounds: u32, word: &[u8], certificate: &[u8]) -
 }
 
 // The line of a frame, any numbers, on a code file, any bytes.
-pub fn frame_line(code: &[u8], frame: &[i16]) -> Line
+pub fn frame_line(code: &[u8], frame: &[i16]) -> Result<Line, Refusal>
     ensures { line_of result ≡ frame_line code.now frame.now }
 {
     let mut word = [0u8; MAX_BITS];
     let mut certificate = [0u8; CERTIFICATE_LIMIT];
     let called = decode(code, frame, &mut word, &mut certificate);
-    let outcome = called.outcome;
     let rounds = called.run.rounds;
-    match outcome {
-        Outcome::Refused(k) => Line::Refused(k),
-        Outcome::Running => Line::Running(rounds),
-        Outcome::Certified => {
+    let status = called.outcome?;
+    Ok(match status {
+        Status::Running => Line::Running(rounds),
+        Status::Certified => {
             let bits = frame.len();
             certified_line(frame, rounds, &word[..bits], &certificate)
         }
-        Outcome::Spent => Line::Spent(rounds),
-    }
+        Status::Spent => Line::Spent(rounds),
+    })
 }
 
 // A short last frame goes on as it is: the decoder refuses it. No input uses the count up.
@@ -113,41 +124,38 @@ fn report_frames<R: Read>(
     code: &[u8],
     frame: &mut [i16],
 ) -> io::Result<()> {
-    for k in 0..0x1_0000_0000_0000u64 {
+    for k in 0..u64::MAX {
         let got = stream::read_i16(input, frame)?;
         if got == 0 {
             break;
         }
         let count = got / 2;
-        print_frame(rt, k, frame_line(code, &frame[..count]))?;
+        match frame_line(code, &frame[..count]) {
+            Ok(line) => println!(rt; "frame {k} {line}")?,
+            Err(refusal) => println!(rt; "frame {k} refused {refusal}")?,
+        }
     }
     Ok(())
 }
 
-fn report_code<R: Read>(
-    rt: &impl Print,
-    input: &mut R,
-    code: &[u8],
-    bits: usize,
-    checks: usize,
-    edges: usize,
-) -> io::Result<()>
-    requires { bits ≤ max_bits }
+fn report_code<R: Read>(rt: &impl Print, input: &mut R, code: &[u8], sizes: Sizes) -> io::Result<()>
+    requires { sizes.bits ≤ max_bits }
 {
+    let Sizes {
+        bits,
+        checks,
+        edges,
+    } = sizes;
     let mut frame = [0i16; MAX_BITS];
-    print_code(rt, bits, checks, edges)?;
+    println!(rt; "bits {bits} checks {checks} edges {edges}")?;
     report_frames(rt, input, code, &mut frame[..bits])
 }
 
+// "A bad code file prints refused N alone."
 fn report<R: Read>(rt: &impl Print, input: &mut R, code: &[u8]) -> io::Result<()> {
-    let answer = table::check(code);
-    match answer {
-        Checked::Refused(k) => print_refused(rt, k),
-        Checked::Accepted {
-            bits,
-            checks,
-            edges,
-        } => report_code(rt, input, code, bits, checks, edges),
+    match table::check(code) {
+        Ok(sizes) => report_code(rt, input, code, sizes),
+        Err(refusal) => println!(rt; "refused {refusal}"),
     }
 }
 

@@ -14,82 +14,41 @@ use Rattle.rules.specs.Table.{Table, edges, edges_of, checks_of}
 use Rattle.rules.specs.CodeFile.{code_file, table_values}
 use Rattle.rules.specs.Sound.{Sound}
 use Rattle.rules.specs.Input.{each_within, on_frame}
-use Rattle.rules.specs.Round.{State}
-use Rattle.rules.specs.Buffers.{Each, by_name, each, Lengths, needs, fits, over}
-use Rattle.rules.specs.Run.{Progress, Run, is_running, sound, sound_run, state_in, sums_in, admits}
+use Rattle.rules.specs.Buffers.{Each, by_name, each, Lengths, needs, fits, over, Part}
+use Rattle.rules.specs.Run.{Progress, Run, is_running, sound_run, state_in, sums_in, admits}
 use Rattle.rules.proofs.BufferLaws.{take-over, fits-part, part-fits}
 use Rattle.rules.proofs.Tables.{file-sound}
 use Rattle.rules.proofs.AnswerLaws.{refused≢gives, gives-inj, must-gives, must-true, then-gives}
 use Rattle.table.specs.Loaded.{with_room, loaded_as, laid, loaded}
-use Rattle.table.specs.declared.Checked.TheVariants.{Refused, Accepted}
+use Rattle.std.specs.Prelude.{Ok, Err}
+use Rattle.limits.specs.declared.refusals.Refusal.{Refusal}
+use Rattle.limits.specs.Numbers.{number_of}
+use Rattle.table.specs.declared.Sizes as table
 use Rattle.table.specs.Reply.{numbered}
 use Rattle.table.proofs.AnswerLaws.{and-holds}
 use Rattle.table.proofs.AcceptedLaws.{readable-table}
 use Rattle.table.proofs.LoadedLaws.{laid-reply}
 use Rattle.table.proofs.LayoutLaws.{below-edges}
-use Rattle.inputs.specs.Refusals.{frame_refusal, or_else, turned_down}
-use Rattle.inputs.proofs.RefusalLaws.{turned-refused, turned_none}
+use Rattle.inputs.specs.Refusals.{frame_refusal, turned_down}
+use Rattle.inputs.proofs.RefusalLaws.{cond-none, turned-refused}
 use Rattle.inputs.proofs.InputLaws.{frame-law}
 use Rattle.run.specs.Sums.{EdgesOf}
-use Rattle.run.specs.Admitted.{Sizes, sizes_as, sizes_of, needs_of, ended_refusal, damaged_refusal, admits_by, first_state, admission_as, admission_by, admission}
+use Rattle.run.specs.Admitted.{Sizes, sizes_by, sizes_of, admits_by, first_state, admission_as, admission_by, admission}
 
 -- ---- 41
 module _ (a b : Lengths) where
-  pub short : (Each (λ x. a x ≤ b x) → ⊥) → false ≡ fits a b
+  pub short : (Each (λ x. a x ≤ b x) → ⊥) → buffer_short ≡ cond (fits a b) 0 buffer_short
   short h = go (fits a b) refl
     where
-      go : (x : Bool) → fits a b ≡ x → false ≡ x
+      go : (x : Bool) → fits a b ≡ x → buffer_short ≡ cond x 0 buffer_short
       go true e = absurd (h (each (fits-part a b e)))
       go false e = refl
 
-  pub long : Each (λ x. a x ≤ b x) → true ≡ fits a b
-  long h = sym (part-fits a b (by_name h))
+  pub long : Each (λ x. a x ≤ b x) → 0 ≡ cond (fits a b) 0 buffer_short
+  long h = ap (λ x. cond x 0 buffer_short) (sym (part-fits a b (by_name h)))
 
--- ---- 8, 9
-pub turned_down_lem : {A : Type 0} (j k : ℕ) (a : Answer A) → (k ≡ 0 → ⊥) → k ≡ j → refused k ≡ turned_down j a
-turned_down_lem j k a h e = turned-refused k a h ∙ ap (λ x. turned_down x a) e
-
--- ---- each answer on an accepted code file
--- 8 or 9 as k, then 17, 41, 42 and 43 by their tests
-abbrev tested : {A : Type 0} → ℕ → Bool → Bool → Bool → Bool → A → Answer A
-tested k asked room runs sounds a = turned_down k (must asked asked_too_much (must room buffer_short (must runs run_ended (must sounds run_damaged (gives a)))))
-
-module _ (z : Sizes) (es : List ℕ) (l : List ℤ) (wanted : ℕ) (lent : Lengths) (p : Progress) (s : State) (xs : List ℤ) where
-  -- with these answers to the tests of what is handed in
-  answered : ℕ → Bool → Bool → Answer Sizes
-  answered k asked room = tested k asked room (is_running p.status) (sound z.bits es p.rounds s xs) z
-
-  answered-is : (k : ℕ) (asked room : Bool) → frame_refusal z.bits l ≡ k → leb wanted round_limit ≡ asked → fits (needs_of z) lent ≡ room → answered k asked room ≡ admits_by z es l wanted lent p s xs
-  unfolding admits_by answered
-  answered-is k asked room e f g = sym (ap₂ (λ x y. answered x y (fits (needs_of z) lent)) e f ∙ ap (answered k asked) g)
-
-  module _ (framed : frame_refusal z.bits l ≡ 0) where
-    pub answers-asked : leb wanted round_limit ≡ false → refused asked_too_much ≡ admits_by z es l wanted lent p s xs
-    unfolding answered turned_down must
-    answers-asked f = answered-is 0 false _ framed f refl
-
-    module _ (asked : leb wanted round_limit ≡ true) where
-      pub answers-short : fits (needs_of z) lent ≡ false → refused buffer_short ≡ admits_by z es l wanted lent p s xs
-      unfolding answered turned_down must
-      answers-short g = answered-is 0 true false framed asked g
-
-      module _ (room : fits (needs_of z) lent ≡ true) where
-        -- 42, then 43: k is the first of them
-        module _ (k : ℕ) (first : k ≡ or_else (ended_refusal p.status) (damaged_refusal z.bits es p.rounds s xs)) where
-          pub answers-standing : turned_down k (gives z) ≡ admits_by z es l wanted lent p s xs
-          unfolding answered turned_down must
-          answers-standing = ap (λ x. turned_down x (gives z)) first ∙ go (is_running p.status) (sound z.bits es p.rounds s xs) ∙ answered-is 0 true true framed asked room
-            where
-              go : (runs sounds : Bool) → turned_down (or_else (cond runs 0 run_ended) (cond sounds 0 run_damaged)) (gives z) ≡ tested 0 true true runs sounds z
-              go false sounds = refl
-              go true false = refl
-              go true true = refl
-
-          pub answers-refused : (k ≡ 0 → ⊥) → refused k ≡ admits_by z es l wanted lent p s xs
-          answers-refused h = turned-refused k (gives z) h ∙ answers-standing
-
-          pub answers-admitted : k ≡ 0 → gives z ≡ admits_by z es l wanted lent p s xs
-          answers-admitted e = turned_none k (gives z) e ∙ answers-standing
+  pub long-part : 0 ≡ cond (fits a b) 0 buffer_short → Part a b
+  long-part e = fits-part a b (cond-none (fits a b) 0 _ (sym e)).0
 
 -- ---- what a load tells of the code file, and what admitting the call then leaves
 -- the table, once there is room for it
@@ -139,43 +98,43 @@ module _ (file s ms : List ℕ) (q : Reply) (s' ms' : List ℕ) (h : loaded_as q
   unfolding loaded
   laid-is = h
 
-  pub checks-few : (n m e : ℕ) → q ≡ numbered (Accepted n m e) → m ≤ max_checks
+  pub checks-few : (v : table.Sizes) → q ≡ numbered (Ok v) → v.checks ≤ max_checks
   unfolding reply_of
-  checks-few n m e g = go (roomy file s ms) refl (ap (λ r. r.values) (sym g ∙ ap (λ r. r.reply) laid-is ∙ laid-reply (roomy file s ms) s ms))
+  checks-few v g = go (roomy file s ms) refl (ap (λ r. r.values) (sym g ∙ ap (λ r. r.reply) laid-is ∙ laid-reply (roomy file s ms) s ms))
     where
-      go : (a : Answer Table) → roomy file s ms ≡ a → pos n ∷ pos m ∷ pos e ∷ [] ≡ (reply_of table_values a).values → m ≤ max_checks
-      go (refused x) f v = absurd (let z : ◌≡◌ {A = ℕ} 0 1 = cc in omega arith)
-      go (gives t) f v = (readable-table file n m e t (roomy-file file s ms t f) (cc) (cc) (cc)).many
+      go : (a : Answer Table) → roomy file s ms ≡ a → pos v.bits ∷ pos v.checks ∷ pos v.edges ∷ [] ≡ (reply_of table_values a).values → v.checks ≤ max_checks
+      go (refused x) f g = absurd (let z : ◌≡◌ {A = ℕ} 0 1 = cc in omega arith)
+      go (gives t) f g = (readable-table file v.bits v.checks v.edges t (roomy-file file s ms t f) (cc) (cc) (cc)).many
 
   -- the table's edges are at the front of the members
-  pub edges-loaded : (n m e : ℕ) → q ≡ numbered (Accepted n m e) → (e ≤ length ms') × EdgesOf n (take e ms')
+  pub edges-loaded : (v : table.Sizes) → q ≡ numbered (Ok v) → (v.edges ≤ length ms') × EdgesOf v.bits (take v.edges ms')
   unfolding laid reply_of
-  edges-loaded n m e g = go (roomy file s ms) refl laid-is
+  edges-loaded v g = go (roomy file s ms) refl laid-is
     where
-      go : (a : Answer Table) → roomy file s ms ≡ a → loaded_as q s' ms' ≡ laid a s ms → (e ≤ length ms') × EdgesOf n (take e ms')
+      go : (a : Answer Table) → roomy file s ms ≡ a → loaded_as q s' ms' ≡ laid a s ms → (v.edges ≤ length ms') × EdgesOf v.bits (take v.edges ms')
       go (refused j) f h = absurd (let z : ◌≡◌ {A = ℕ} 0 1 = cc (ap (λ r. r.values) (sym g ∙ ap (λ r. r.reply) h)) in omega arith)
       go (gives t) f h =
-          let values : pos n ∷ pos m ∷ pos e ∷ [] ≡ table_values t = ap (λ r. r.values) (sym g ∙ ap (λ r. r.reply) h) in
-          let bits : t.bits ≡ n = cc in
-          let many : edges_of t ≡ e = cc in
+          let values : pos v.bits ∷ pos v.checks ∷ pos v.edges ∷ [] ≡ table_values t = ap (λ r. r.values) (sym g ∙ ap (λ r. r.reply) h) in
+          let bits : t.bits ≡ v.bits = cc in
+          let many : edges_of t ≡ v.edges = cc in
           let members = ap (λ r. r.members) h in
-          subst (λ k. (k ≤ length ms') × EdgesOf n (take k ms')) many (subst (λ k. (edges_of t ≤ length ms') × EdgesOf k (take (edges_of t) ms')) bits (in-front file s ms t f members))
+          subst (λ k. (k ≤ length ms') × EdgesOf v.bits (take k ms')) many (subst (λ k. (edges_of t ≤ length ms') × EdgesOf k (take (edges_of t) ms')) bits (in-front file s ms t f members))
 
   module _ (l : List ℤ) (wanted : ℕ) (lent : Lengths) (p : Progress) (z y x : List ℤ) where
-    pub admission-refused : (k : ℕ) → q ≡ numbered (Refused k) → admission_as (refused k) s' ms' ≡ admission file l wanted lent p z y x s ms
+    pub admission-refused : (k : Refusal) → q ≡ numbered (Err k) → admission_as (refused (number_of k)) s' ms' ≡ admission file l wanted lent p z y x s ms
     unfolding laid reply_of admission
     admission-refused k g = go (roomy file s ms) laid-is
       where
-        go : (b : Answer Table) → loaded_as q s' ms' ≡ laid b s ms → admission_as (refused k) s' ms' ≡ admission_by b l wanted lent p z y x s ms
+        go : (b : Answer Table) → loaded_as q s' ms' ≡ laid b s ms → admission_as (refused (number_of k)) s' ms' ≡ admission_by b l wanted lent p z y x s ms
         go (refused j) f =
-            let number : k ≡ j = ap (λ r. r.number) (sym g ∙ ap (λ r. r.reply) f) in
+            let number : number_of k ≡ j = ap (λ r. r.number) (sym g ∙ ap (λ r. r.reply) f) in
             let starts : s' ≡ s = ap (λ r. r.starts) f in
             let members : ms' ≡ ms = ap (λ r. r.members) f in
             cc
         go (gives t) f = absurd (let z : ◌≡◌ {A = ℕ} 0 1 = cc (ap (λ r. r.values) (sym g ∙ ap (λ r. r.reply) f)) in omega arith)
 
-    module _ (n m e : ℕ) (g : q ≡ numbered (Accepted n m e)) where
-      pub admission-sized : (a : Answer Sizes) → a ≡ admits_by (sizes_as n m e) (take e ms') l wanted lent p (first_state e z y) (take n x)
+    module _ (v : table.Sizes) (g : q ≡ numbered (Ok v)) where
+      pub admission-sized : (a : Answer Sizes) → a ≡ admits_by (sizes_by v) (take v.edges ms') l wanted lent p (first_state v.edges z y) (take v.bits x)
           → admission_as a s' ms' ≡ admission file l wanted lent p z y x s ms
       unfolding laid reply_of admission
       admission-sized a w = go (roomy file s ms) laid-is
@@ -183,16 +142,20 @@ module _ (file s ms : List ℕ) (q : Reply) (s' ms' : List ℕ) (h : loaded_as q
           go : (b : Answer Table) → loaded_as q s' ms' ≡ laid b s ms → admission_as a s' ms' ≡ admission_by b l wanted lent p z y x s ms
           go (refused j) f = absurd (let z : ◌≡◌ {A = ℕ} 0 1 = cc (ap (λ r. r.values) (sym g ∙ ap (λ r. r.reply) f)) in omega arith)
           go (gives t) f =
-              let values : pos n ∷ pos m ∷ pos e ∷ [] ≡ table_values t = ap (λ r. r.values) (sym g ∙ ap (λ r. r.reply) f) in
-              let bits : n ≡ t.bits = cc in
-              let checks : m ≡ checks_of t = cc in
-              let many : e ≡ edges_of t = cc in
+              let values : pos v.bits ∷ pos v.checks ∷ pos v.edges ∷ [] ≡ table_values t = ap (λ r. r.values) (sym g ∙ ap (λ r. r.reply) f) in
+              let bits : v.bits ≡ t.bits = cc in
+              let checks : v.checks ≡ checks_of t = cc in
+              let many : v.edges ≡ edges_of t = cc in
               let starts = ap (λ r. r.starts) f in
               let members = ap (λ r. r.members) f in
-              let front : take e ms' ≡ edges t.checks = ap₂ take many members ∙ take-over (edges_of t) (edges t.checks) ms refl in
+              let front : take v.edges ms' ≡ edges t.checks = ap₂ take many members ∙ take-over (edges_of t) (edges t.checks) ms refl in
               cc
 
 -- ---- rules' own tests
+-- 8 or 9 as k, then 17, 41, 42 and 43 by their tests
+abbrev tested : {A : Type 0} → ℕ → Bool → Bool → Bool → Bool → A → Answer A
+tested k asked room runs sounds a = turned_down k (must asked asked_too_much (must room buffer_short (must runs run_ended (must sounds run_damaged (gives a)))))
+
 module _ (z : Sizes) where
   then-must : (k : ℕ) (a b c d : Bool) → then (tested k a b c d (tt {0})) (λ u. gives z) ≡ tested k a b c d z
   unfolding then turned_down must
@@ -254,3 +217,7 @@ module _ (t : Table) (l : List ℤ) (wanted : ℕ) (lent : Lengths) (r : Run) wh
         running = p5.0;
         sound = p6.0;
       }
+
+-- No proof cites these any more, since the check finds what they say.
+pub turned_down_lem : {A : Type 0} (j k : ℕ) (a : Answer A) → (k ≡ 0 → ⊥) → k ≡ j → refused k ≡ turned_down j a
+turned_down_lem j k a h e = turned-refused k a h ∙ ap (λ x. turned_down x a) e

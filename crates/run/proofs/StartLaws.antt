@@ -2,11 +2,11 @@
 use mathlib.Core.Path.{◌≡◌, refl, sym, ◌∙◌, ap, ap₂}
 use mathlib.Core.Bool.{Bool, true, false, ◌&&◌}
 use mathlib.Core.List.{List}
-use Prim.Native.Nat.{ℕ, ◌≤◌, ◌<◌}
+use Prim.Native.Nat.{ℕ, ◌≤◌}
 use lib.Dec.{leb}
 use lib.ListN.{length}
 use lib.IntN.{ℤ}
-use borrow.Author.Tests.{le-leb, lt-leb}
+use borrow.Author.Tests.{le-leb, leb-true}
 use Rattle.rules.specs.Refusal.{refused, gives, must, then, buffer_short}
 use Rattle.rules.specs.CodeFile.{table_at, code_file}
 use Rattle.rules.specs.Buffers.{lengths_of, over, zeros, start_lent, fits_start}
@@ -31,23 +31,21 @@ module _ (file : List ℕ) (z y x : List ℤ) where
         ∙ ap (λ k. start_if (leb k (length z)) (leb k (length y)) (leb n (length x))) (sym (edges_are file n m e r))
         ∙ ap (λ a. start_by (start_lent z y x) (then a (λ t. must (fits_start t (lengths_of (start_lent z y x))) buffer_short (gives t)))) (sym r.table)
 
-    pub start-few-copies : length z < e → started_as (refused buffer_short) z y x ≡ start file (start_lent z y x)
+    -- not all three have room
+    pub start-short : (e ≤ length z → e ≤ length y → n ≤ length x → ⊥) → started_as (refused buffer_short) z y x ≡ start file (start_lent z y x)
     unfolding must start_if
-    start-few-copies h = tested false _ _ (lt-leb e (length z) h) refl refl
+    start-short h = go _ _ _ refl refl refl
+      where
+        go : (a b c : Bool) → leb e (length z) ≡ a → leb e (length y) ≡ b → leb n (length x) ≡ c → started_as (refused buffer_short) z y x ≡ start file (start_lent z y x)
+        go false b c p q s = tested false b c p q s
+        go true false c p q s = tested true false c p q s
+        go true true false p q s = tested true true false p q s
+        go true true true p q s = absurd (h (leb-true _ _ p) (leb-true _ _ q) (leb-true _ _ s))
 
-    module _ (g : e ≤ length z) where
-      pub start-few-offsets : length y < e → started_as (refused buffer_short) z y x ≡ start file (start_lent z y x)
-      unfolding must start_if
-      start-few-offsets h = tested true false _ (le-leb e (length z) g) (lt-leb e (length y) h) refl
-
-      module _ (h : e ≤ length y) where
-        pub start-few-sums : length x < n → started_as (refused buffer_short) z y x ≡ start file (start_lent z y x)
-        unfolding must start_if
-        start-few-sums i = tested true true false (le-leb e (length z) g) (le-leb e (length y) h) (lt-leb n (length x) i)
-
-        pub start-fresh : (p : Progress) (z' y' x' : List ℤ) → n ≤ length x → p ≡ fresh → z' ≡ over (zeros e) z → y' ≡ over (zeros e) y → x' ≡ over (zeros n) x
-            → started_as (gives p) z' y' x' ≡ start file (start_lent z y x)
-        unfolding must start_if
-        start-fresh p z' y' x' i k a b c = ap₂ (λ q u. started_as (gives q) u y' x') k a ∙ ap₂ (started_as (gives fresh) (over (zeros e) z)) b c
-            ∙ ap (λ k. started_as (gives fresh) (over (zeros k) z) (over (zeros k) y) (over (zeros n) x)) (sym (edges_are file n m e r))
-            ∙ tested true true true (le-leb e (length z) g) (le-leb e (length y) h) (le-leb n (length x) i)
+    pub start-fresh : e ≤ length z → e ≤ length y → n ≤ length x → (p : Progress) (z' y' x' : List ℤ)
+        → p ≡ fresh → z' ≡ over (zeros e) z → y' ≡ over (zeros e) y → x' ≡ over (zeros n) x
+        → started_as (gives p) z' y' x' ≡ start file (start_lent z y x)
+    unfolding must start_if
+    start-fresh g h i p z' y' x' k a b c = ap₂ (λ q u. started_as (gives q) u y' x') k a ∙ ap₂ (started_as (gives fresh) (over (zeros e) z)) b c
+        ∙ ap (λ k. started_as (gives fresh) (over (zeros k) z) (over (zeros k) y) (over (zeros n) x)) (sym (edges_are file n m e r))
+        ∙ tested true true true (le-leb e (length z) g) (le-leb e (length y) h) (le-leb n (length x) i)

@@ -1,17 +1,16 @@
 -- The contracts tell any two records and any two answers apart: each is read back from its view. Assumes nothing.
 use mathlib.Core.Path.{◌≡◌, refl, ap}
 use mathlib.Mathlib.Logic.Function.Defs.{LeftInverse-Injective}
-use Rattle.rules.specs.Refusal.{Answer, refused, gives}
+use Rattle.std.specs.Prelude.{Result}
 use Rattle.rules.specs.Run as rule
+use Rattle.limits.specs.declared.refusals.Refusal.{Refusal}
+use Rattle.limits.proofs.NumberLaws.{answer-inj}
+use Rattle.table.specs.declared.Sizes as table
 use Rattle.run.specs.declared.Status.{Status}
 use Rattle.run.specs.declared.Status.TheVariants.{Running, Certified, Spent}
 use Rattle.run.specs.declared.Record.{Record}
-use Rattle.run.specs.declared.Started.{Started}
-use Rattle.run.specs.declared.Started.TheVariants.{Refused, Fresh}
-use Rattle.run.specs.declared.Admitted.{Admitted}
-use Rattle.run.specs.declared.Admitted.TheVariants as admitted
 use Rattle.run.specs.Reply.{status_of, progress_of, started_of}
-use Rattle.run.specs.Admitted.{Sizes, admitted_of}
+use Rattle.run.specs.Admitted.{sizes_by, admitted_of}
 
 -- ---- the run's record
 status-back : rule.Status → Status
@@ -39,24 +38,11 @@ pub progress-inj : (a b : Record) → progress_of a ≡ progress_of b → a ≡ 
 progress-inj = LeftInverse-Injective record-back progress_of record-again
 
 -- ---- the answers of a start and of admission
-pub started-inj : (a b : Started) → started_of a ≡ started_of b → a ≡ b
-started-inj = LeftInverse-Injective back started_of again
-  where
-    back : Answer rule.Progress → Started
-    back (refused k) = Refused k
-    back (gives p) = Fresh (record-back p)
+pub started-inj : (a b : Result Record Refusal) → started_of a ≡ started_of b → a ≡ b
+started-inj = answer-inj progress_of progress-inj
 
-    again : (a : Started) → back (started_of a) ≡ a
-    again (Refused k) = refl
-    again (Fresh r) = ap Fresh (record-again r)
+sizes-inj : (a b : table.Sizes) → sizes_by a ≡ sizes_by b → a ≡ b
+sizes-inj = LeftInverse-Injective (λ z. record { bits = z.bits; checks = z.checks; edges = z.edges }) sizes_by (λ z. refl)
 
-pub admitted-inj : (a b : Admitted) → admitted_of a ≡ admitted_of b → a ≡ b
-admitted-inj = LeftInverse-Injective back admitted_of again
-  where
-    back : Answer Sizes → Admitted
-    back (refused k) = admitted.Refused k
-    back (gives z) = admitted.Sized z.bits z.checks z.edges
-
-    again : (a : Admitted) → back (admitted_of a) ≡ a
-    again (admitted.Refused k) = refl
-    again (admitted.Sized n m e) = refl
+pub admitted-inj : (a b : Result table.Sizes Refusal) → admitted_of a ≡ admitted_of b → a ≡ b
+admitted-inj = answer-inj sizes_by sizes-inj

@@ -1,19 +1,20 @@
 -- The refusals of a call for rounds in the code's own numbers, and what admitting a call leaves. Definitions only. Assumes nothing.
-use Rattle.std.specs.Prelude.{◌≡◌, cond, List, ℕ, leb, take, ℤ}
+use Rattle.std.specs.Prelude.{◌≡◌, List, ℕ, leb, take, ℤ, Result}
 use Rattle.rules.specs.Limits.{round_limit}
 use Rattle.rules.specs.Refusal.{Answer, refused, gives, must, then, asked_too_much, buffer_short, run_ended, run_damaged}
 use Rattle.rules.specs.Table.{Table, edges, edges_of, checks_of}
 use Rattle.rules.specs.Round.{State}
 use Rattle.rules.specs.Buffers.{Lengths, needs_by, fits, over}
-use Rattle.rules.specs.Run.{Status, Progress, is_running, sound}
+use Rattle.rules.specs.Run.{Progress, is_running, sound}
 use Rattle.rules.specs.CodeFile.{code_file}
+use Rattle.limits.specs.declared.refusals.Refusal.{Refusal}
+use Rattle.limits.specs.Numbers.{answer_by}
+use Rattle.table.specs.declared.Sizes as table
 use Rattle.table.specs.Starts.{starts_of}
 use Rattle.table.specs.Loaded.{with_room}
 use Rattle.inputs.specs.Refusals.{frame_refusal, turned_down}
 use Rattle.run.specs.Slices.{Slice, came, left, lent_of}
 use Rattle.run.specs.declared.Lent.{Lent}
-use Rattle.run.specs.declared.Admitted.{Admitted}
-use Rattle.run.specs.declared.Admitted.TheVariants.{Refused, Sized}
 
 -- n, m and E
 pub record Sizes : Type 0 where
@@ -31,16 +32,12 @@ sizes_of t = sizes_as t.bits (checks_of t) (edges_of t)
 abbrev pub needs_of : Sizes → Lengths
 needs_of z = needs_by z.bits z.checks z.edges
 
-abbrev pub admitted_of : Admitted → Answer Sizes
-admitted_of (Refused k) = refused k
-admitted_of (Sized n m e) = gives (sizes_as n m e)
+-- those of the code
+abbrev pub sizes_by : table.Sizes → Sizes
+sizes_by z = sizes_as z.bits z.checks z.edges
 
--- 42 and 43 by their numbers, 0 for none
-abbrev pub ended_refusal : Status → ℕ
-ended_refusal x = cond (is_running x) 0 run_ended
-
-abbrev pub damaged_refusal : ℕ → List ℕ → ℕ → State → List ℤ → ℕ
-damaged_refusal n es k s xs = cond (sound n es k s xs) 0 run_damaged
+abbrev pub admitted_of : Result table.Sizes Refusal → Answer Sizes
+admitted_of = answer_by sizes_by
 
 -- 8, 9, 17, 41, 42, 43, of a table with the edges es
 unfoldable pub admits_by : Sizes → List ℕ → List ℤ → ℕ → Lengths → Progress → State → List ℤ → Answer Sizes
@@ -55,10 +52,6 @@ admits_by z es l wanted lent p s xs =
 -- the first e copies and offsets
 abbrev pub first_state : ℕ → List ℤ → List ℤ → State
 first_state e z y = record { copies = take e z; offsets = take e y }
-
--- the same of a call that tells what it lends
-abbrev pub admits_lent : Sizes → List ℕ → List ℤ → ℕ → Lent → Progress → List ℤ → List ℤ → List ℤ → Answer Sizes
-admits_lent s es l wanted lent p z y x = admits_by s es l wanted (lent_of lent z y x) p (first_state s.edges z y) (take s.bits x)
 
 -- the answer, and what is left in starts and members
 pub record Admission : Type 0 where
@@ -87,5 +80,5 @@ abbrev pub admission_lent : List ℕ → List ℤ → ℕ → Lent → Progress 
 admission_lent file l wanted lent p z y x ss ms = admission file l wanted (lent_of lent z y x) p z y x ss ms
 
 -- f makes the answer, and what is left in the two slices, of what came in them
-abbrev pub AdmitBecomes : (List ℕ → List ℕ → Admission) → Admitted → Slice ℕ → Slice ℕ → Type 0
+abbrev pub AdmitBecomes : (List ℕ → List ℕ → Admission) → Result table.Sizes Refusal → Slice ℕ → Slice ℕ → Type 0
 AdmitBecomes f r ss ms = admission_as (admitted_of r) (left ss) (left ms) ≡ f (came ss) (came ms)

@@ -1,16 +1,15 @@
 -- What step 4 of a round finds, and what becomes of the run's record (document 01, "One round"). Definitions only. Assumes nothing.
 use Rattle.std.specs.Prelude.{Bool, true, false, cond, ℕ, suc, leb, ltb, ℤ}
+use Rattle.std.specs.Prelude as code
 use Rattle.std.proofs.Math.Option.{Option, some, none}
 use Rattle.rules.specs.Limits.{round_limit}
 use Rattle.rules.specs.Round.{is_zero}
 use Rattle.rules.specs.Run.{Status, running, certified, spent, Progress}
-use Rattle.run.specs.declared.ending.Found.{Found}
-use Rattle.run.specs.declared.ending.Found.TheVariants.{Nothing, Codeword}
 
 -- the gap of a candidate that meets all checks
-abbrev pub found_of : Found → Option ℤ
-found_of Nothing = none
-found_of (Codeword g) = some g
+abbrev pub found_of : code.Option ℤ → Option ℤ
+found_of code.None = none
+found_of (code.Some g) = some g
 
 -- "gap 0 with this round's multipliers"
 abbrev pub closing : Option ℤ → Bool

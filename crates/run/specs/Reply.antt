@@ -1,11 +1,12 @@
 -- Document 01's words for the run's record and for the answer of a start. Definitions only. Assumes nothing.
-use Rattle.rules.specs.Refusal.{Answer, refused, gives}
+use Rattle.std.specs.Prelude.{Result}
+use Rattle.rules.specs.Refusal.{Answer}
 use Rattle.rules.specs.Run as run
 use Rattle.run.specs.declared.Status.{Status}
 use Rattle.run.specs.declared.Status.TheVariants.{Running, Certified, Spent}
 use Rattle.run.specs.declared.Record.{Record}
-use Rattle.run.specs.declared.Started.{Started}
-use Rattle.run.specs.declared.Started.TheVariants.{Refused, Fresh}
+use Rattle.limits.specs.declared.refusals.Refusal.{Refusal}
+use Rattle.limits.specs.Numbers.{answer_by}
 
 abbrev pub status_of : Status → run.Status
 status_of Running = run.running
@@ -15,6 +16,5 @@ status_of Spent = run.spent
 abbrev pub progress_of : Record → run.Progress
 progress_of r = record { rounds = r.rounds; status = status_of r.status }
 
-abbrev pub started_of : Started → Answer run.Progress
-started_of (Refused k) = refused k
-started_of (Fresh r) = gives (progress_of r)
+abbrev pub started_of : Result Record Refusal → Answer run.Progress
+started_of = answer_by progress_of

@@ -1,18 +1,17 @@
 -- The parts of a division as the code forms them: each fits 32 bits, and which number each is. Assumes nothing.
 use mathlib.Core.Path.{◌≡◌, sym, ◌∙◌, ap, ap₂, subst}
-use Prim.Native.Nat.{◌*◌, ◌/◌, ◌%◌, ◌≤◌}
-use native.Mathlib.Nat.{mod-le, mul-div-le}
-use lib.IntN.{ℤ, pos, neg_ℤ, nat_abs, ◌+ℤ◌, ◌-ℤ◌, ◌*ℤ◌}
-use lib.Signed.{quot_z}
+use Prim.Native.Nat.{◌≤◌}
+use lib.IntN.{ℤ, pos, neg_ℤ, nat_abs, ◌+ℤ◌, ◌-ℤ◌}
+use lib.Signed.{quot_z, rem_z}
 use mir.Syntax.{w32}
 use mir.Val.{SFits, to_z, of_z}
 use mir.Facts.{to_z-of_z}
 use Rattle.integers.specs.Linear.{lin, arith_z, Within}
-use Rattle.integers.specs.Division.{div_z, signed-times, rest-is}
-use Rattle.integers.specs.Machine.{known, reads, op_fits, quot_fits, quot-div, signed-fits}
+use Rattle.integers.specs.Division.{div_z}
+use Rattle.integers.specs.Machine.{known, reads, op_fits, quot_fits, quot-div, rem-fits}
 use Rattle.rules.specs.Round.{divided}
 use Rattle.spin.specs.Spin.{Degree, Remainder, lacks}
-use Rattle.spin.proofs.SpinLaws.{degree-is, degree-some, degree-few, left, rounded, raised-fits, rounded-fits, left-small}
+use Rattle.spin.proofs.SpinLaws.{degree-is, degree-some, degree-few, left, remainder-is, rounded, raised-fits, rounded-fits, left-small}
 
 -- a number in 32 bits, read back
 abbrev pub wrap : ℤ → ℤ
@@ -34,11 +33,8 @@ module _ (t d : ℤ) (total : SFits w32 t) (degree : SFits w32 d) (g : Degree d)
   abbrev quotient : ℤ
   quotient = quot_z (wrap t) (wrap d)
 
-  abbrev product : ℤ
-  product = wrap d *ℤ wrap quotient
-
   abbrev rest : ℤ
-  rest = wrap t -ℤ wrap product
+  rest = rem_z (wrap t) (wrap d)
 
   some : 1 ≤ nat_abs d
   some = degree-some g
@@ -52,21 +48,11 @@ module _ (t d : ℤ) (total : SFits w32 t) (degree : SFits w32 d) (g : Degree d)
   quotient-is : wrap quotient ≡ div_z t (nat_abs d)
   quotient-is = reads quotient-fits (ap₂ quot_z (to_z-of_z total) (to_z-of_z degree) ∙ quot-div t d g.some)
 
-  product-fits : SFits w32 product
-  product-fits =
-      op_fits w32 ◌*ℤ◌ d-is quotient-is (subst (SFits w32) (sym (signed-times (nat_abs d) (nat_abs t / nat_abs d) t))
-      (signed-fits w32 t (nat_abs d * (nat_abs t / nat_abs d)) total (mul-div-le (nat_abs t) (nat_abs d))))
-
-  product_is : wrap product ≡ pos (nat_abs d) *ℤ div_z t (nat_abs d)
-  product_is = reads product-fits (ap₂ ◌*ℤ◌ d-is quotient-is)
-
   rest-fits : SFits w32 rest
-  rest-fits =
-      op_fits w32 ◌-ℤ◌ (to_z-of_z total) product_is (subst (SFits w32) (sym (rest-is t (nat_abs d)))
-      (signed-fits w32 t (nat_abs t % nat_abs d) total (mod-le (nat_abs t) (nat_abs d))))
+  rest-fits = rem-fits w32 (wrap t) (wrap d) (subst (SFits w32) (sym (to_z-of_z total)) total)
 
   left_is : wrap rest ≡ left t (nat_abs d)
-  left_is = reads rest-fits (ap₂ ◌-ℤ◌ (to_z-of_z total) product_is ∙ rest-is t (nat_abs d))
+  left_is = reads rest-fits (ap₂ rem_z (to_z-of_z total) (to_z-of_z degree) ∙ remainder-is t d)
 
   pub remainder : Remainder (wrap rest) (wrap d)
   remainder = record {

@@ -7,6 +7,7 @@ use lib.ListN.{length, get_or, drop, drop_of_length-le}
 use Rattle.rules.proofs.StoreLaws.{drop-next}
 use Rattle.spin.specs.Every.{every}
 
+-- No proof cites these any more, since the check finds what they say.
 module _ {A : Type 0} (test : A → Bool) (l : List A) (i : ℕ) {all : Bool} (found : Bool) (p : all ≡ (found && every test (drop i l))) where
   pub every_more : (d : A) (more : Bool) → i < length l → more ≡ (found && test (get_or l i d)) → all ≡ (more && every test (drop (i + 1) l))
   every_more d more h e =

@@ -1,29 +1,23 @@
 -- The nearest quotient from the one toward zero and its remainder, and what the code's comparisons say. Assumes nothing.
-use mathlib.Core.Path.{◌≡◌, sym, ◌∙◌, ap, ap₂, subst}
-use mathlib.Core.Bool.{true, false}
+use mathlib.Core.Path.{◌≡◌, refl, sym, ◌∙◌, ap, ap₂, subst}
+use mathlib.Core.Bool.{Bool, true, false}
 use Prim.Native.Nat.{ℕ, suc, ◌*◌, ◌/◌, ◌%◌, ◌≤◌, ◌<◌}
 use native.Mathlib.Omega.{arith}
 use native.Mathlib.Decide.{dec_le}
 use native.Mathlib.Nat.{lt_of_not-le, div-le_self, mod-lt}
 use lib.IntN.{ℤ, pos, negsuc, neg_ℤ, nat_abs, ◌+ℤ◌, ◌-ℤ◌, neg_ℤ-neg_ℤ}
-use lib.Signed.{◌≤ℤ◌, ◌<ℤ◌, le_z}
+use lib.Signed.{◌≤ℤ◌, ◌<ℤ◌, le_z, rem_z}
 use mir.Syntax.{Width}
-use mir.Val.{SFits}
-use Rattle.integers.specs.Linear.{lin, arith_z, le_out, ◌⩽◌, Within, lt-lt_z, le-lt_z}
+use mir.Val.{SFits, bool_byte}
+use Rattle.std.specs.Int.{int_max, int_min}
+use Rattle.integers.specs.Linear.{lin, arith_z, le_out, ◌⩽◌, Within, lt-lt_z, le-lt_z, le-le_z, lt-le_z, up_neg, dn-neg}
+use Rattle.integers.specs.Clip.{clip_z, clip-low, clip-high, clip-mid, Place, below, above, inside, place}
 use Rattle.integers.specs.Order.{le_z-le, nle_z-lt}
 use Rattle.integers.specs.Product.{abs-pos, nat_abs-is, within}
 use Rattle.integers.specs.Division.{signed, signed-size, div_z, nearest, nearest-le, nearest-up, nearest-stays}
 use Rattle.integers.specs.Machine.{signed-fits}
 use Rattle.rules.specs.Round.{divided}
 use Rattle.spin.specs.Spin.{Degree, lacks}
-
--- ---- what the code's comparisons say, of the numbers that it reads
-module _ {x x' y y' : ℤ} (e : x ≡ x') (f : y ≡ y') where
-  pub at_most : le_z x y ≡ true → x' ≤ℤ y'
-  at_most h = subst (λ z. z ≤ℤ y') e (subst (λ z. x ≤ℤ z) f (le_z-le x y h))
-
-  pub above : le_z x y ≡ false → y' <ℤ x'
-  above h = subst (λ z. y' <ℤ z) e (subst (λ z. z <ℤ x) f (nle_z-lt x y h))
 
 -- ---- a number of edges
 module _ {d : ℤ} (h : Degree d) where
@@ -39,6 +33,18 @@ module _ {d : ℤ} (h : Degree d) where
   pub degree-few : nat_abs d ≤ 65535
   degree-few = omega (arith, le_out (subst (λ z. z ≤ℤ pos 65535) degree-is h.few))
 
+-- ---- a number clipped as std clamps it
+low : (n : ℕ) (x : ℤ) → x <ℤ neg_ℤ (pos n) → x ≤ℤ pos n
+low n x = simp lin (omega (arith_z, up_neg (pos n), dn-neg (pos n)))
+
+pub clamped : (n : ℕ) (x : ℤ) → int_max (neg_ℤ (pos n)) (int_min x (pos n)) ≡ clip_z n x
+clamped n x = go (place n x)
+  where
+    go : Place n x → int_max (neg_ℤ (pos n)) (int_min x (pos n)) ≡ clip_z n x
+    go (below h) = rw (le-lt_z (pos n) x (low n x h), lt-lt_z x (neg_ℤ (pos n)) h) (sym (clip-low n x h))
+    go (above h) = rw (lt-lt_z (pos n) x h, le-lt_z (pos n) (neg_ℤ (pos n)) (simp lin (omega arith_z))) (sym (clip-high n x h))
+    go (inside h) = rw (le-lt_z (pos n) x (simp lin (omega arith_z)), le-lt_z x (neg_ℤ (pos n)) (simp lin (omega arith_z))) (sym (clip-mid n x h))
+
 -- ---- what a quotient lacks
 pub lacks-one : (r d : ℤ) → d ≤ℤ (r +ℤ r) → pos 1 ≡ lacks r d
 unfolding lacks
@@ -47,6 +53,24 @@ lacks-one r d h = rw (le-lt_z (r +ℤ r) d h)
 pub lacks-none : (r d : ℤ) → (r +ℤ r) <ℤ d → pos 0 ≡ lacks r d
 unfolding lacks
 lacks-none r d h = rw (lt-lt_z (r +ℤ r) d h)
+
+-- as the code compares, upward and downward
+pub lacks-up : (r d : ℤ) → pos (bool_byte (le_z d (r +ℤ r))) ≡ lacks r d
+lacks-up r d = go (le_z d (r +ℤ r)) refl
+  where
+    go : (b : Bool) → le_z d (r +ℤ r) ≡ b → pos (bool_byte b) ≡ lacks r d
+    go true e = lacks-one r d (le_z-le d (r +ℤ r) e)
+    go false e = lacks-none r d (nle_z-lt d (r +ℤ r) e)
+
+lacks-turned : (r d : ℤ) → le_z (r +ℤ r) (pos 0 -ℤ d) ≡ le_z d (neg_ℤ r +ℤ neg_ℤ r)
+lacks-turned r d = go (le_z d (neg_ℤ r +ℤ neg_ℤ r)) refl
+  where
+    go : (b : Bool) → le_z d (neg_ℤ r +ℤ neg_ℤ r) ≡ b → le_z (r +ℤ r) (pos 0 -ℤ d) ≡ b
+    go true e = le-le_z (r +ℤ r) (pos 0 -ℤ d) (simp lin (omega (arith_z, simp lin at e)))
+    go false e = lt-le_z (r +ℤ r) (pos 0 -ℤ d) (simp lin (omega (arith_z, simp lin at e)))
+
+pub lacks-down : (r d : ℤ) → pos (bool_byte (le_z (r +ℤ r) (pos 0 -ℤ d))) ≡ lacks (neg_ℤ r) d
+lacks-down r d = ap (λ b. pos (bool_byte b)) (lacks-turned r d) ∙ lacks-up (neg_ℤ r) d
 
 -- ---- the nearest quotient from the one toward zero
 nearest-is : (n d : ℕ) → 1 ≤ d → pos (nearest n d) ≡ pos (n / d) +ℤ lacks (pos (n % d)) (pos d)
@@ -75,6 +99,11 @@ below_none k d h = lacks-none (neg_ℤ (pos k)) (pos d) (less k d h)
 -- r is what the quotient of t toward zero leaves
 abbrev pub left : ℤ → ℕ → ℤ
 left t d = signed t (nat_abs t % d)
+
+-- as `%` answers it
+pub remainder-is : (t d : ℤ) → rem_z t d ≡ left t (nat_abs d)
+remainder-is (pos n) d = refl
+remainder-is (negsuc n) d = refl
 
 module _ (d : ℕ) (h : 1 ≤ d) where
   pub rounded : (t : ℤ) → (div_z t d +ℤ lacks (left t d) (pos d)) -ℤ lacks (neg_ℤ (left t d)) (pos d) ≡ divided t d
@@ -106,3 +135,8 @@ module _ (d : ℕ) (h : 1 ≤ d) where
 
   pub left-small : (m : ℕ) → d ≤ m → (t : ℤ) → Within m (left t d)
   left-small m k t = within m (left t d) (omega (arith, signed-size t (nat_abs t % d), mod-lt (nat_abs t) h))
+
+-- No proof cites these any more, since the check finds what they say.
+module _ {x x' y y' : ℤ} (e : x ≡ x') (f : y ≡ y') where
+  pub at_most : le_z x y ≡ true → x' ≤ℤ y'
+  at_most h = subst (λ z. z ≤ℤ y') e (subst (λ z. x ≤ℤ z) f (le_z-le x y h))

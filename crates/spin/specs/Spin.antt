@@ -2,9 +2,9 @@
 -- Assumes nothing.
 use Rattle.std.specs.Prelude.{Bool, cond, not, List, ℤ, pos, ◌+ℤ◌, ◌≤ℤ◌}
 use Rattle.std.specs.Int.Signed.{lt_z}
+use Rattle.std.specs.List.{list_all}
 use Rattle.integers.specs.Linear.{Within}
 use Rattle.rules.specs.Round.{is_zero}
-use Rattle.spin.specs.Every.{every}
 
 -- a number of edges, as the code holds it
 pub record Degree (d : ℤ) : Type 0 where
@@ -21,4 +21,4 @@ lacks r d = cond (lt_z (r +ℤ r) d) (pos 0) (pos 1)
 
 -- "If no spin is 0"
 abbrev pub no_zero : List ℤ → Bool
-no_zero = every (λ s. not (is_zero s))
+no_zero = list_all (λ s. not (is_zero s))

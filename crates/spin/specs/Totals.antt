@@ -1,12 +1,12 @@
 -- All bits of one degree, and totals divided by their bits' degrees (document 01, "One round", step 1). Definitions only. Assumes nothing.
 use Rattle.std.specs.Prelude.{Bool, cond, List, ℕ, eqb, length, get_or, ℤ}
+use Rattle.std.specs.List.{list_all}
 use Rattle.rules.specs.Table.{at}
 use Rattle.rules.specs.Round.{divided, first_of}
-use Rattle.spin.specs.Every.{every}
 
 -- whether each degree is d
 abbrev pub all_are : ℕ → List ℕ → Bool
-all_are d = every (λ x. eqb x d)
+all_are d = list_all (λ x. eqb x d)
 
 -- the degree that all bits have; 0 if they differ, and for no bit
 unfoldable pub common_degree : List ℕ → ℕ

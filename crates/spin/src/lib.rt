@@ -4,7 +4,7 @@
 
 pub mod totals;
 
-ghost use Rattle.std.specs.Prelude.{◌≡◌, not, ◌&&◌, neg_ℤ, nat_abs};
+ghost use Rattle.std.specs.Prelude.{◌≡◌, neg_ℤ, nat_abs};
 ghost use Rattle.integers.specs.Clip.{clip_z};
 ghost use Rattle.rules.specs.Limits.{unit};
 ghost use Rattle.rules.specs.Step.{clips};
@@ -18,10 +18,7 @@ fn half_above(r: i32, d: i32) -> i32
     requires { Remainder r d }
     ensures { result ≡ lacks r d }
 {
-    if d <= r + r {
-        return 1;
-    }
-    0
+    i32::from(d <= r + r)
 }
 
 // 1 if it is half of d or more below 0, else 0.
@@ -29,10 +26,7 @@ fn half_below(r: i32, d: i32) -> i32
     requires { Remainder r d }
     ensures { result ≡ lacks (neg_ℤ r) d }
 {
-    if r + r <= -d {
-        return 1;
-    }
-    0
+    i32::from(r + r <= -d)
 }
 
 // "Divided by its number of edges", nearest, halves away from zero: the quotient toward zero and
@@ -42,7 +36,7 @@ fn divided(total: i32, d: i32) -> i32
     ensures { result ≡ rule.divided total (nat_abs d) }
 {
     let q = total / d;
-    let r = total - d * q;
+    let r = total % d;
     q + half_above(r, d) - half_below(r, d)
 }
 
@@ -54,20 +48,14 @@ pub fn quotient_of(total: i32, degree: u16) -> i32
     if degree == 0 {
         return 0;
     }
-    divided(total, degree as i32)
+    divided(total, i32::from(degree))
 }
 
 // "Clipped to -U..U."
 pub fn clip(x: i32) -> i32
     ensures { result ≡ clip_z unit x }
 {
-    if x < -UNIT {
-        return -UNIT;
-    }
-    if UNIT < x {
-        return UNIT;
-    }
-    x
+    x.clamp(-UNIT, UNIT)
 }
 
 // Each spin clipped: in a pass of its own, which tests several at once. Clipped where they are
@@ -75,21 +63,9 @@ pub fn clip(x: i32) -> i32
 pub fn clip_all(spins: &mut [i32])
     ensures { spins.new ≡ clips unit spins.old }
 {
-    let mut i: usize = 0;
-    while i < spins.len() {
-        spins[i] = clip(spins[i]);
-        i += 1;
+    for spin in spins.iter_mut() {
+        *spin = clip(*spin);
     }
-}
-
-// Whether all spins up to this one are decided.
-fn decided(all: bool, spin: i32) -> bool
-    ensures { result ≡ (all && not (rule.is_zero spin)) }
-{
-    if spin == 0 {
-        return false;
-    }
-    all
 }
 
 // "A zero spin means no candidate." Without an early end, so that several spins are tested at once.
@@ -97,10 +73,8 @@ pub fn all_decided(spins: &[i32]) -> bool
     ensures { result ≡ no_zero spins.now }
 {
     let mut all = true;
-    let mut i: usize = 0;
-    while i < spins.len() {
-        all = decided(all, spins[i]);
-        i += 1;
+    for spin in spins {
+        all &= *spin != 0;
     }
     all
 }

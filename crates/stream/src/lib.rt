@@ -1,22 +1,20 @@
-// Numbers on an input and on the output, for the programs. No contract can say what comes on standard
-// input or what is written: the readers' contracts say how much they answer and what they leave alone,
-// and read_full's which bytes of an input that is known. An error is the input's or the output's own,
-// and ends the call: nothing is tried again.
+// Numbers on an input, for the programs. No contract can say what comes on standard input: the readers'
+// contracts say how much they answer and what they leave alone, and read_full's which bytes of an input
+// that is known. An error is the input's own, and ends the call: nothing is tried again.
 #![tactic(auto)]
 
 #[cfg(test)]
 mod tests;
 
-ghost use Rattle.std.specs.Prelude.{ℕ, ◌≡◌, ◌+◌, ◌*◌, ◌≤◌, ◌<◌, pos, nat_abs, length, take, drop, ◌≤ℤ◌, IfOk, OnErr};
+ghost use Rattle.std.specs.Prelude.{ℕ, ◌≡◌, ◌+◌, ◌*◌, ◌≤◌, ◌<◌, ◌⊎◌, pos, nat_abs, length, take, drop, ◌≤ℤ◌, IfOk, OnErr};
 ghost use Rattle.std.specs.Int.{w16, w32};
 ghost use Rattle.std.specs.Io.KnownBytes.{Consumes, IsAtEnd};
 ghost use Rattle.std.proofs.Common.{to_z};
 ghost use Rattle.rules.specs.Bytes.{u16_limit};
 ghost use Rattle.rules.specs.Buffers.{over};
 ghost use Rattle.stream.specs.Numbers.{numbers_of, numbers_at_once, bytes_for, Read, ReadNumbers, ReadFront};
-ghost use Rattle.stream.specs.Parts.{stored, whole_size, PartRead};
+ghost use Rattle.stream.specs.Parts.{stored, whole_size, PartRead, FailedBy};
 
-use file_numbers::{u16_of, u32_of};
 use limits::MAX_BITS;
 use std::io::{self, Read};
 
@@ -28,16 +26,9 @@ const BYTES_AT_ONCE: usize = 2 * NUMBERS_AT_ONCE;
 // The longest code file in a record: longer than any that is accepted.
 pub const CODE_LIMIT: usize = 30000;
 
-// A 32-bit number on the input, or the input's end before its last byte.
-#[derive(Clone, Copy)]
-pub enum Number {
-    Missing,
-    Is(u32),
-}
-
 // A part of a record: a 32-bit size and as many elements. Its size is missing, or more than the
 // buffer has room for; or the elements are cut short, or all there.
-#[derive(Clone, Copy)]
+#[derive(Clone, Copy, Debug, PartialEq, Eq)]
 pub enum Part {
     Missing,
     TooLong,
@@ -45,30 +36,15 @@ pub enum Part {
     Whole(usize),
 }
 
-// Writes the text. It prints only, so there is nothing that a contract could say.
-pub fn print(rt: &impl Print, text: &[u8]) -> io::Result<()> {
-    rt.write_all(text)
-}
-
-// Writes the label, then n; it prints only, too.
-pub fn print_number(rt: &impl Print, label: &[u8], n: u64) -> io::Result<()> {
-    print(rt, label)?;
-    rt.print(n)
-}
-
-fn bare(n: i64) -> u64
-    requires { pos 0 ≤ℤ n }
-    ensures { result ≡ nat_abs n }
-{
-    n as u64
-}
-
-// Writes n. The least number has no opposite of its own type.
-pub fn print_signed(rt: &impl Print, n: i64) -> io::Result<()> {
-    if n < 0 {
-        print_number(rt, b"-", bare(-(n + 1)) + 1)
-    } else {
-        print_number(rt, b"", bare(n))
+impl Part {
+    // The size of a part that is whole, and 0 of any other.
+    pub fn whole(self) -> usize
+        ensures { result ≡ whole_size self }
+    {
+        match self {
+            Part::Missing | Part::TooLong | Part::Cut(_) => 0,
+            Part::Whole(size) => size,
+        }
     }
 }
 
@@ -81,6 +57,7 @@ pub fn read_full<R: Read>(input: &mut R, bytes: &mut [u8]) -> io::Result<usize>
     ensures err { OnErr result ((k : ℕ) × (k ≤ length bytes.new) × Consumes (R.remaining input.old) (R.remaining input.new) (take k bytes.new)) }
 {
     let mut done: usize = 0;
+    // A while: how many bytes a read brings is not known beforehand.
     while done < bytes.len() {
         let got = input.read(&mut bytes[done..])?;
         if got == 0 {
@@ -124,60 +101,41 @@ fn read_first<R: Read>(input: &mut R, bytes: &mut [u8], size: usize) -> io::Resu
 fn bytes_for(count: usize) -> usize
     ensures { result ≡ bytes_for count }
 {
-    if count < NUMBERS_AT_ONCE {
-        2 * count
-    } else {
-        BYTES_AT_ONCE
-    }
+    2 * count.min(NUMBERS_AT_ONCE)
 }
 
 fn decode(bytes: &[u8], numbers: &mut [i16], count: usize)
     requires { (2 * count ≤ length bytes.now) × (count ≤ length numbers.old) }
     ensures { numbers.new ≡ over (numbers_of bytes.now count) numbers.old }
 {
-    let mut i: usize = 0;
-    while i < count {
-        numbers[i] = signed(u16_of(bytes[2 * i], bytes[2 * i + 1]));
-        i += 1;
+    // By index: of what an `enumerate` over `iter_mut` writes a proof knows nothing (docs/DECISIONS.md 83).
+    for i in 0..count {
+        numbers[i] = i16::from_le_bytes([bytes[2 * i], bytes[2 * i + 1]]);
     }
 }
 
-// The number as a signed one: its upper half is negative.
-fn signed(n: usize) -> i16
-    requires { n < u16_limit }
-    ensures { result ≡ to_z w16 n }
-{
-    if n < 32768 {
-        return n as i16;
-    }
-    !((65535 - n) as i16)
-}
-
-// Reads a little-endian number. Any may come, so there is nothing that a contract could say.
-pub fn read_u32<R: Read>(input: &mut R) -> io::Result<Number> {
+// Reads a little-endian number, or none where the input ends before its last byte. Any may come, so there is
+// nothing that a contract could say.
+pub fn read_u32<R: Read>(input: &mut R) -> io::Result<Option<u32>> {
     let mut bytes = [0u8; 4];
-    if read_full(input, &mut bytes)? < 4 {
-        return Ok(Number::Missing);
+    if read_full(input, &mut bytes)? < bytes.len() {
+        return Ok(None);
     }
-    Ok(Number::Is(u32_of(bytes[0], bytes[1], bytes[2], bytes[3])))
+    Ok(Some(u32::from_le_bytes(bytes)))
 }
 
 // The number as a signed one: its upper half is negative.
 pub fn i32_of(n: u32) -> i32
     ensures { result ≡ to_z w32 n }
 {
-    if n < 2147483648 {
-        return n as i32;
-    }
-    !((4294967295 - n) as i32)
+    n.cast_signed()
 }
 
 // Reads the size of a part, which is whole as far as it is read where there is room for so many.
 fn read_size<R: Read>(input: &mut R, room: usize) -> io::Result<Part>
     ensures { IfOk result (λ part. stored part ≤ room) }
 {
-    let number = read_u32(input)?;
-    let Number::Is(n) = number else {
+    let Some(n) = read_u32(input)? else {
         return Ok(Part::Missing);
     };
     let size = n as usize;
@@ -197,16 +155,22 @@ fn part_of(came: usize, size: usize) -> Part
     Part::Whole(size)
 }
 
-// The size of a part that is whole, and 0 of any other.
-pub fn whole(part: Part) -> usize
-    ensures { result ≡ whole_size part }
+// Reads a part: its size, and then so many elements by `read`, which answers how many came. An error is the
+// size's, which changes nothing, or that of `read` on as many elements as the part states.
+fn read_part_by<R: Read, T, F: FnOnce(&mut R, &mut [T]) -> io::Result<usize>>(
+    input: &mut R,
+    part: &mut [T],
+    read: F,
+) -> io::Result<Part>
+    requires { F.IsAlwaysCallable read }
+    ensures read { IfOk result (λ answer. PartRead answer part.new part.old) }
+    ensures err { OnErr result ((part.new ≡ part.old) ⊎ FailedBy F.FnOnce read part.new part.old) }
 {
-    match part {
-        Part::Missing => 0,
-        Part::TooLong => 0,
-        Part::Cut(_) => 0,
-        Part::Whole(size) => size,
-    }
+    let stated = read_size(input, part.len())?;
+    let Part::Whole(size) = stated else {
+        return Ok(stated);
+    };
+    Ok(part_of(read(input, &mut part[..size])?, size))
 }
 
 // Reads a part of bytes. How much of the buffer an error leaves is not known outside: the size that the
@@ -215,11 +179,7 @@ pub fn read_part<R: Read>(input: &mut R, part: &mut [u8]) -> io::Result<Part>
     ensures read { IfOk result (λ answer. PartRead answer part.new part.old) }
     ensures err { OnErr result (length part.new ≡ length part.old) }
 {
-    let stated = read_size(input, part.len())?;
-    let Part::Whole(size) = stated else {
-        return Ok(stated);
-    };
-    Ok(part_of(read_first(input, part, size)?, size))
+    read_part_by(input, part, |input, bytes| read_full(input, bytes))
 }
 
 // Reads a part of 16-bit numbers, of which at most 4,096 come.
@@ -227,11 +187,11 @@ pub fn read_i16_part<R: Read>(input: &mut R, numbers: &mut [i16]) -> io::Result<
     ensures read { IfOk result (λ answer. PartRead answer numbers.new numbers.old) }
     ensures err { OnErr result (numbers.new ≡ numbers.old) }
 {
-    let stated = read_size(input, numbers.len())?;
-    let Part::Whole(size) = stated else {
-        return Ok(stated);
-    };
-    Ok(part_of(read_i16(input, &mut numbers[..size])? / 2, size))
+    read_part_by(
+        input,
+        numbers,
+        |input, front| Ok(read_i16(input, front)? / 2),
+    )
 }
 
 // Reads a part of 32-bit numbers. Of an error as read_part.
@@ -239,28 +199,19 @@ pub fn read_i32_part<R: Read>(input: &mut R, numbers: &mut [i32]) -> io::Result<
     ensures read { IfOk result (λ answer. PartRead answer numbers.new numbers.old) }
     ensures err { OnErr result (length numbers.new ≡ length numbers.old) }
 {
-    let stated = read_size(input, numbers.len())?;
-    let Part::Whole(size) = stated else {
-        return Ok(stated);
-    };
-    Ok(part_of(read_each(input, numbers, size)?, size))
+    read_part_by(input, numbers, |input, front| read_each(input, front))
 }
 
-// Reads one number after the other, and answers how many came. An error, too, leaves what is past the
-// size.
-fn read_each<R: Read>(input: &mut R, numbers: &mut [i32], size: usize) -> io::Result<usize>
-    requires { size ≤ length numbers.old }
-    ensures read { IfOk result (λ came. Read came size numbers.new numbers.old) }
-    ensures err { OnErr result (drop size numbers.new ≡ drop size numbers.old) }
+// Reads one number after the other, and answers how many came.
+fn read_each<R: Read>(input: &mut R, numbers: &mut [i32]) -> io::Result<usize>
+    ensures { IfOk result (λ came. came ≤ length numbers.new) }
 {
-    let mut i: usize = 0;
-    while i < size {
-        let number = read_u32(input)?;
-        let Number::Is(n) = number else {
+    let size = numbers.len();
+    for (i, number) in numbers.iter_mut().enumerate() {
+        let Some(n) = read_u32(input)? else {
             return Ok(i);
         };
-        numbers[i] = i32_of(n);
-        i += 1;
+        *number = i32_of(n);
     }
     Ok(size)
 }

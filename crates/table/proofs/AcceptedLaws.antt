@@ -13,8 +13,9 @@ use Rattle.rules.specs.Table.{Table, edges_of, checks_of}
 use Rattle.rules.specs.CodeFile.{contents, total_count, table_at, code_file, table_values, code_file_reply}
 use Rattle.rules.proofs.FileLaws.{bodies-length, edges-length}
 use Rattle.rules.proofs.Tables.{passed}
-use Rattle.table.specs.declared.Checked.{Checked}
-use Rattle.table.specs.declared.Checked.TheVariants.{Accepted}
+use Rattle.std.specs.Prelude.{Result, Ok}
+use Rattle.limits.specs.declared.refusals.Refusal.{Refusal}
+use Rattle.table.specs.declared.Sizes.{Sizes}
 use Rattle.table.specs.Reply.{numbered}
 use Rattle.table.proofs.StageLaws.{sizes-most, starts-few}
 
@@ -52,7 +53,7 @@ unfolding reply_of
 values-table file n m e (refused k) p v = absurd (let z : ◌≡◌ {A = ℕ} 0 1 = cc in omega arith)
 values-table file n m e (gives t) p v = readable-table file n m e t p (cc) (cc) (cc)
 
-no-values : (k : ℕ) (a : Answer Table) → k ≡ (reply_of table_values a).number → [] ≡ (reply_of table_values a).values → a ≡ refused k
+pub no-values : (k : ℕ) (a : Answer Table) → k ≡ (reply_of table_values a).number → [] ≡ (reply_of table_values a).values → a ≡ refused k
 unfolding reply_of
 no-values k (refused x) h v = ap refused (sym h)
 no-values k (gives t) h v = absurd (let z : ◌≡◌ {A = ℕ} 0 1 = cc in omega arith)
@@ -62,7 +63,7 @@ unfolding code_file_reply
 readable file n m e h = values-table file n m e (code_file file) refl (ap (λ r. r.values) h)
 
 -- the same of an answer that is known to accept
-pub accepted : (file : List ℕ) {r : Checked} {n m e : ℕ} → r ≡ Accepted n m e → numbered r ≡ code_file_reply file → Readable file n m e
+pub accepted : (file : List ℕ) {r : Result Sizes Refusal} {s : Sizes} → r ≡ Ok s → numbered r ≡ code_file_reply file → Readable file s.bits s.checks s.edges
 accepted file h k = readable file _ _ _ (ap numbered (sym h) ∙ k)
 
 pub refused-is : (file : List ℕ) (k : ℕ) → record { number = k; values = [] } ≡ code_file_reply file → code_file file ≡ refused k

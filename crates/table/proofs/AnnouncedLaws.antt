@@ -42,3 +42,6 @@ module _ (bs : List ℕ) (m : ℕ) (is_m : m ≡ u16_at bs 2) (h : 4 ≤ length 
       pub announced-whole : e ≤ max_edges → r + 2 * e ≡ announced bs
       announced-whole g = ap (λ x. x + 2 * e) is_r
           ∙ sym (by-edges ∙ simp (le-ltb (length bs) 4 h, le-ltb max_checks m k, le-ltb (length bs) (contents_end m) long, le-ltb max_edges e g))
+
+-- each of `announced`'s returns is one of these
+pub ruleset announced_cases = (announced-few, announced-many, announced-short, announced-over, announced-whole)

@@ -4,6 +4,7 @@ use mathlib.Core.Bool.{Bool, true, false, ◌&&◌}
 use mathlib.Core.List.{List, []}
 use Prim.Native.Nat.{ℕ}
 use lib.IntN.{ℤ}
+use borrow.Author.Tests.{eq-eqb, ne_eqb}
 use Rattle.rules.specs.Refusal.{Answer, must, reply_of}
 
 pub and-fails : (a b : Bool) → a ≡ false → a && b ≡ false
@@ -20,3 +21,5 @@ module _ {A : Type 0} (f : A → List ℤ) (b : Bool) (k : ℕ) (a : Answer A) w
   pub must-holds : b ≡ true → reply_of f (must b k a) ≡ reply_of f a
   unfolding must
   must-holds e = ap (λ x. reply_of f (must x k a)) e
+
+pub ruleset must_steps = (must-fails, must-holds, eq-eqb, ne_eqb)

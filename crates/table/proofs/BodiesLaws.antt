@@ -1,6 +1,6 @@
 -- The bodies as the loops go over them: what is left is a number, or a check, and what is left after it. Assumes nothing.
 use mathlib.Core.Path.{◌≡◌, refl, ◌∙◌, ap, ap₂}
-use mathlib.Core.Bool.{Bool, true, ◌&&◌}
+use mathlib.Core.Bool.{Bool, true, false, ◌&&◌}
 use mathlib.Core.List.{List, [], ◌∷◌}
 use Prim.Native.Nat.{ℕ, ◌+◌, ◌*◌, ◌-◌, ◌≤◌, ◌<◌}
 use native.Mathlib.Omega.{arith}
@@ -10,7 +10,7 @@ use Rattle.integers.specs.Count.{left-more}
 use Rattle.rules.specs.Bytes.{u16_at}
 use Rattle.rules.specs.CodeFile.{Content, content_at, numbers_at, bodies, ascends, members_right}
 use Rattle.rules.proofs.Basics.{and-more, and-end}
-use Rattle.table.proofs.ContentsLaws.{contents_from, contents-more, contents-end}
+use Rattle.table.proofs.ContentsLaws.{contents_from, contents-more, contents-end, total-more}
 
 -- ---- numbers from a byte on
 -- those of d numbers that are left from number k on
@@ -65,8 +65,18 @@ module _ (file : List ℕ) (m j a : ℕ) where
     pub bodies-more : bodies_from file m j a ≡ numbers_at file a d ∷ bodies_from file m (j + 1) (a + 2 * d)
     bodies-more = ap (bodies file a) (contents-more file m j h) ∙ bodies-cons file a (content_at file j) (contents_from file m (j + 1)) ∙ rw e refl
 
-    pub members-more : (n : ℕ) → members_right n (bodies_from file m j a) ≡ (ascends n 0 (numbers_at file a d) && members_right n (bodies_from file m (j + 1) (a + 2 * d)))
-    members-more n = ap (members_right n) bodies-more ∙ members-cons n (numbers_at file a d) (bodies_from file m (j + 1) (a + 2 * d))
+  members-first : (n : ℕ) → j < m → members_right n (bodies_from file m j a)
+      ≡ (ascends n 0 (numbers_at file a (u16_at file (6 + 4 * j))) && members_right n (bodies_from file m (j + 1) (a + 2 * u16_at file (6 + 4 * j))))
+  members-first n h =
+      ap (members_right n) (bodies-more (u16_at file (6 + 4 * j)) h refl)
+      ∙ members-cons n (numbers_at file a (u16_at file (6 + 4 * j))) (bodies_from file m (j + 1) (a + 2 * u16_at file (6 + 4 * j)))
+
+  pub members-wrong : (n : ℕ) → j < m → ascends n 0 (numbers_at file a (u16_at file (6 + 4 * j))) ≡ false → members_right n (bodies_from file m j a) ≡ false
+  members-wrong n h e = members-first n h ∙ ap (λ b. b && members_right n (bodies_from file m (j + 1) (a + 2 * u16_at file (6 + 4 * j)))) e
+
+  pub members-more : (n : ℕ) → j < m → ascends n 0 (numbers_at file a (u16_at file (6 + 4 * j))) ≡ true
+      → members_right n (bodies_from file m j a) ≡ members_right n (bodies_from file m (j + 1) (a + 2 * u16_at file (6 + 4 * j)))
+  members-more n h e = members-first n h ∙ ap (λ b. b && members_right n (bodies_from file m (j + 1) (a + 2 * u16_at file (6 + 4 * j)))) e
 
   pub bodies-end : m ≤ j → bodies_from file m j a ≡ []
   unfolding bodies
@@ -75,3 +85,7 @@ module _ (file : List ℕ) (m j a : ℕ) where
   pub members-end : (n : ℕ) → m ≤ j → members_right n (bodies_from file m j a) ≡ true
   unfolding members_right
   members-end n h = ap (members_right n) (bodies-end h)
+
+pub ruleset ascends_steps = (ascends-more, ascends-end)
+
+pub ruleset members_steps = (members-wrong, members-more, members-end, total-more)

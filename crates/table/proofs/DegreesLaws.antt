@@ -9,6 +9,7 @@ use lib.Dec.{eqb}
 use lib.ListN.{length, get_or, set, replicate, get_or-replicate, length-set}
 use lib.Seq.{get_or-set_same, get_or-set_other}
 use borrow.Author.Tests.{eqb-true, eqb-false, ne_eqb}
+use Rattle.std.proofs.lemmas.List.{get_or-take, length-take-le}
 use Rattle.integers.specs.Count.{first-in, rest_in, left-more}
 use Rattle.rules.specs.Limits.{max_bits, max_bit_degree}
 use Rattle.rules.specs.Bytes.{u16_at}
@@ -87,11 +88,14 @@ pub bits-end : (f : ℕ → ℕ) (n i : ℕ) → n ≤ i → (all : Bool) → (a
 unfolding bits_right
 bits-end f n i h all = and-end all (ap (bits_right f i) (sub-eq-zero_of_le h))
 
-pub bits-all : (f : ℕ → ℕ) (n : ℕ) → bits_right f 0 (n - 0) ≡ bits_right f 0 n
-bits-all f n = ap (bits_right f 0) (omega arith)
-
 -- only the degrees below n count
 pub bits-same : (f g : ℕ → ℕ) (n : ℕ) → ((i : ℕ) → i < n → f i ≡ g i) → (i k : ℕ) → i + k ≤ n → bits_right f i k ≡ bits_right g i k
 unfolding bits_right
 bits-same f g n e i zero h = refl
 bits-same f g n e i (suc k) h = ap₂ (λ x b. in_range 1 max_bit_degree x && b) (e i (first-in i k n h)) (bits-same f g n e (i + 1) k (rest_in i k n h))
+
+pub ruleset bits_steps = (bits-more, bits-end, get_or-take, length-take-le)
+
+pub ruleset counted_steps = (counted-end, degree-most)
+
+pub ruleset bits_same_steps = bits-same

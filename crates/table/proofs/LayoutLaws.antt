@@ -1,31 +1,40 @@
 -- A loaded table: where each check's members stand, what the code relies on there, and that a load leaves the file's table. Assumes nothing.
 use mathlib.Core.Path.{◌≡◌, refl, sym, ◌∙◌, ap, ap₂, subst}
+use mathlib.Core.Bool.{◌&&◌}
 use mathlib.Core.List.{List, [], ◌∷◌, ◌++◌}
 use Prim.Native.Nat.{ℕ, zero, suc, ◌+◌, ◌-◌, ◌≤◌, ◌<◌}
 use native.Mathlib.Nat.{add_assoc, add_comm, add-sub_cancel_left}
 use native.Mathlib.Omega.{arith}
 use native.Mathlib.Numerals.{add-one}
+use lib.Dec.{leb, ltb}
+use lib.IntN.{pos}
 use lib.ListN.{length, get_or, take, drop, replicate, length-append, length-drop, length-replicate}
 use lib.Seq.{take_at, drop_at, length-take-le}
+use borrow.Author.Tests.{lt-ltb, le-leb, ltb-true, leb-true}
+use Rattle.std.specs.Cmp.Derive.{both_true}
 use Rattle.rules.specs.Limits.{max_bits, max_checks, max_degree, max_edges}
-use Rattle.rules.specs.Refusal.{refused, gives}
+use Rattle.rules.specs.Refusal.{Answer, refused, gives, then, reply_of, buffer_short}
 use Rattle.rules.specs.Table.{Table, edges, edges_of, checks_of}
-use Rattle.rules.specs.CodeFile.{table_at, code_file, code_file_reply}
+use Rattle.rules.specs.CodeFile.{code_file, table_values}
 use Rattle.rules.specs.Sound.{Below, AllBelow, Sound}
 use Rattle.rules.specs.Buffers.{over}
+use Rattle.rules.proofs.AnswerLaws.{gives-inj, must-gives, must-true, then-gives}
+use Rattle.rules.proofs.Basics.{and_both}
 use Rattle.rules.proofs.Duality.{below_more}
 use Rattle.rules.proofs.Judged as judged
 use Rattle.rules.proofs.Tables.{degree-at, file-sound}
 use Rattle.rules.proofs.BufferLaws.{take-over, over-length}
-use Rattle.table.specs.declared.Checked.{Checked}
-use Rattle.table.specs.declared.Checked.TheVariants.{Refused, Accepted}
+use Rattle.std.specs.Prelude.{Result, Ok, Err}
+use Rattle.limits.specs.Numbers.{number_of}
+use Rattle.limits.specs.declared.refusals.Refusal.{Refusal}
+use Rattle.table.specs.declared.Sizes.{Sizes}
 use Rattle.table.specs.Reply.{numbered}
 use Rattle.table.specs.Starts.{starts_of}
-use Rattle.table.specs.Loaded.{loaded_as, laid, loaded}
-use Rattle.table.specs.Layout.{checks_from, Holds, edges_before, degree_at, part_at, Start, Part, Opened}
+use Rattle.table.specs.Loaded.{with_room, loaded_as, laid, loaded}
+use Rattle.table.specs.Layout.{checks_from, table_of, Holds, edges_before, degree_at, part_at, Start, Part, Opened}
 use Rattle.table.proofs.StartsLaws.{starts-length, starts_first, starts-next, check-part}
-use Rattle.table.proofs.AcceptedLaws.{readable, refused-is}
-use Rattle.table.proofs.LoadedLaws.{laid-reply, loaded-room, checks-are, edges_are}
+use Rattle.table.proofs.AcceptedLaws.{no-values}
+use Rattle.table.proofs.LoadedLaws.{laid-reply}
 
 -- ---- the edges before a check
 before-next : (cs : List (List ℕ)) (j : ℕ) → j < length cs → edges_before (suc j) cs ≡ edges_before j cs + length (get_or cs j [])
@@ -141,28 +150,33 @@ holds-checks t h = record {
     back : checks_from (starts_of 0 t.checks) (edges t.checks) ≡ t.checks
     back = checks-back 0 t.checks
 
--- ---- a file's table laid over slices with room for every table
-module _ (file : List ℕ) (t : Table) (is_file : code_file file ≡ gives t) (ss ms : List ℕ) (hs : max_checks < length ss) (hm : max_edges ≤ length ms) where
+-- ---- a file's table laid over slices
+module _ (file : List ℕ) (t : Table) (is_file : code_file file ≡ gives t) (ss ms : List ℕ) where
   abbrev starts : List ℕ
   starts = starts_of 0 t.checks
 
   abbrev members : List ℕ
   members = edges t.checks
 
-  pub laid-opened : Opened file t.bits (checks_of t) (edges_of t) (over (starts_of 0 t.checks) ss) (over (edges t.checks) ms)
-  laid-opened =
-      let sound = file-sound file t is_file in
+  -- with room for it
+  laid-there : checks_of t < length ss → edges_of t ≤ length ms → Opened file t.bits (checks_of t) (edges_of t) (over starts ss) (over members ms)
+  laid-there hs hm =
       let long = starts-length 0 t.checks in
-      let room : length starts ≤ length ss = omega (arith, long, sound.checks) in
-      let enough : edges_of t ≤ length ms = omega (arith, sound.few) in
+      let room : length starts ≤ length ss = omega (arith, long) in
       let starts-are = take-over (checks_of t + 1) starts ss long in
       let members-are = take-over (edges_of t) members ms refl in
       record {
         starts_room = omega (arith, long, over-length starts ss room);
-        members_room = omega (arith, over-length members ms enough);
-        holds = subst (λ x. Holds t.bits x (take (edges_of t) (over members ms))) (sym starts-are) (subst (Holds t.bits starts) (sym members-are) (holds-checks t sound));
+        members_room = omega (arith, over-length members ms hm);
+        holds = subst (λ x. Holds t.bits x (take (edges_of t) (over members ms))) (sym starts-are) (subst (Holds t.bits starts) (sym members-are) (holds-checks t (file-sound file t is_file)));
         is_file = is_file ∙ ap (λ cs. gives (record { bits = t.bits; checks = cs })) (sym (ap₂ checks_from starts-are members-are ∙ checks-back 0 t.checks));
       }
+
+  -- with room for every table
+  pub laid-opened : max_checks < length ss → max_edges ≤ length ms → Opened file t.bits (checks_of t) (edges_of t) (over (starts_of 0 t.checks) ss) (over (edges t.checks) ms)
+  laid-opened hs hm =
+      let sound = file-sound file t is_file in
+      laid-there (omega (arith, sound.checks)) (omega (arith, sound.few))
 
 module _ {file : List ℕ} {n m e : ℕ} {ss ms : List ℕ} (o : Opened file n m e ss ms) where
   pub opened-starts : length (take (m + 1) ss) ≡ m + 1
@@ -175,28 +189,67 @@ module _ {file : List ℕ} {n m e : ℕ} {ss ms : List ℕ} (o : Opened file n m
   )
 
 -- ---- what a load answers and leaves
-module _ (file s₀ ms₀ : List ℕ) (r : Checked) {s ms : List ℕ} (e : loaded_as (numbered r) s ms ≡ loaded file s₀ ms₀)
-    (hs : max_checks < length s₀) (hm : max_edges ≤ length ms₀) where
-  load-says : numbered r ≡ code_file_reply file
-  unfolding code_file_reply
-  load-says = ap (λ x. x.reply) (e ∙ loaded-room file s₀ ms₀ hs hm) ∙ laid-reply (code_file file) s₀ ms₀
+module _ (file s₀ ms₀ : List ℕ) (r : Result Sizes Refusal) {s ms : List ℕ} (e : loaded_as (numbered r) s ms ≡ loaded file s₀ ms₀) where
+  abbrev roomy : Answer Table
+  roomy = then (code_file file) (with_room s₀ ms₀)
 
-  pub load-refused : {k : ℕ} → r ≡ Refused k → code_file file ≡ refused k
-  load-refused {k} h = refused-is file k (ap numbered (sym h) ∙ load-says)
+  laid-is : loaded_as (numbered r) s ms ≡ laid roomy s₀ ms₀
+  unfolding loaded
+  laid-is = e
 
-  pub load-opened : {n m k : ℕ} → r ≡ Accepted n m k → Opened file n m k s ms
+  reply-is : numbered r ≡ reply_of table_values roomy
+  reply-is = ap (λ x. x.reply) laid-is ∙ laid-reply roomy s₀ ms₀
+
+  pub load-refused : {k : Refusal} → r ≡ Err k → then (code_file file) (with_room s₀ ms₀) ≡ refused (number_of k)
+  load-refused {k} h =
+      let q = ap numbered (sym h) ∙ reply-is in
+      no-values (number_of k) roomy (ap (λ x. x.number) q) (ap (λ x. x.values) q)
+
+  -- a table that is given is the file's, and there is room for it
+  given-file : (t : Table) → roomy ≡ gives t → (code_file file ≡ gives t) × (checks_of t < length s₀) × (edges_of t ≤ length ms₀)
+  unfolding with_room
+  given-file t f =
+      let g = then-gives (code_file file) (with_room s₀ ms₀) t f in
+      let u = g.value in
+      let p = must-gives (ltb (checks_of u) (length s₀) && leb (edges_of u) (length ms₀)) buffer_short (gives u) t g.second in
+      let b = and_both (ltb (checks_of u) (length s₀)) (leb (edges_of u) (length ms₀)) p.0 in
+      subst (λ x. (code_file file ≡ gives x) × (checks_of x < length s₀) × (edges_of x ≤ length ms₀)) (gives-inj u t p.1)
+      (g.first, ltb-true (checks_of u) (length s₀) b.0, leb-true (edges_of u) (length ms₀) b.1)
+
+  given-opened : (t : Table) → roomy ≡ gives t → Opened file t.bits (checks_of t) (edges_of t) (laid (gives t) s₀ ms₀).starts (laid (gives t) s₀ ms₀).members
   unfolding laid
-  load-opened {n} {m} {k} h =
-      let t = table_at file n m in
-      let read = readable file n m k (ap numbered (sym h) ∙ load-says) in
-      let left = laid (gives t) s₀ ms₀ in
-      let slices : loaded_as (numbered r) s ms ≡ left = e ∙ loaded-room file s₀ ms₀ hs hm ∙ ap (λ a. laid a s₀ ms₀) read.table in
-      subst (λ x. Opened file n m k x.starts x.members) (sym slices)
-      (subst (λ i. Opened file n m i left.starts left.members) (edges_are file n m k read)
-      (subst (λ i. Opened file n i (edges_of t) left.starts left.members) (checks-are file n m k read) (laid-opened file t read.table s₀ ms₀ hs hm)))
+  given-opened t f = let g = given-file t f in laid-there file t g.0 s₀ ms₀ g.1 g.2
 
--- the same, of arrays as long as the limits ask
-pub opened-whole : (file : List ℕ) {r : Checked} {s ms : List ℕ} {n m e : ℕ}
-    → loaded_as (numbered r) s ms ≡ loaded file (replicate (max_checks + 1) 0) (replicate max_edges 0) → r ≡ Accepted n m e → Opened file n m e s ms
-opened-whole file {r} e h =
-    load-opened file _ _ r e (omega (arith, length-replicate {A = ℕ} (max_checks + 1) 0)) (omega (arith, length-replicate {A = ℕ} max_edges 0)) h
+  sizes-opened : (z : Sizes) (a : Answer Table) → roomy ≡ a → pos z.bits ∷ pos z.checks ∷ pos z.edges ∷ [] ≡ (reply_of table_values a).values
+      → Opened file z.bits z.checks z.edges (laid a s₀ ms₀).starts (laid a s₀ ms₀).members
+  unfolding reply_of
+  sizes-opened z (refused k) f v = absurd (let x : ◌≡◌ {A = ℕ} 0 1 = cc in omega arith)
+  sizes-opened z (gives t) f v =
+      let bits : t.bits ≡ z.bits = cc in
+      let checks : checks_of t ≡ z.checks = cc in
+      let few : edges_of t ≡ z.edges = cc in
+      let left = laid (gives t) s₀ ms₀ in
+      subst (λ n. Opened file n z.checks z.edges left.starts left.members) bits
+      (subst (λ m. Opened file t.bits m z.edges left.starts left.members) checks
+      (subst (λ k. Opened file t.bits (checks_of t) k left.starts left.members) few (given-opened t f)))
+
+  pub load-opened : {z : Sizes} → r ≡ Ok z → Opened file z.bits z.checks z.edges s ms
+  load-opened {z} h =
+      subst (λ x. Opened file z.bits z.checks z.edges x.starts x.members) (sym laid-is) (sizes-opened z roomy refl (ap (λ x. x.values) (ap numbered (sym h) ∙ reply-is)))
+
+  given-by : (z : Sizes) (a : Answer Table) → roomy ≡ a → pos z.bits ∷ pos z.checks ∷ pos z.edges ∷ [] ≡ (reply_of table_values a).values → roomy ≡ code_file file
+  unfolding reply_of
+  given-by z (refused k) f v = absurd (let x : ◌≡◌ {A = ℕ} 0 1 = cc in omega arith)
+  given-by z (gives t) f v = f ∙ sym (given-file t f).0
+
+  pub load-gives : {z : Sizes} → r ≡ Ok z → then (code_file file) (with_room s₀ ms₀) ≡ gives (table_of z.bits (take (z.checks + 1) s) (take z.edges ms))
+  load-gives {z} h = given-by z roomy refl (ap (λ x. x.values) (ap numbered (sym h) ∙ reply-is)) ∙ (load-opened h).is_file
+
+-- slices with room for every table: the file's own answer
+pub roomy-whole : (file s ms : List ℕ) → max_checks < length s → max_edges ≤ length ms → (a : Answer Table) → code_file file ≡ a → then a (with_room s ms) ≡ a
+unfolding then with_room
+roomy-whole file s ms hs hm (refused k) e = refl
+roomy-whole file s ms hs hm (gives t) e =
+    let sound = file-sound file t e in
+    must-true (ltb (checks_of t) (length s) && leb (edges_of t) (length ms)) buffer_short (gives t)
+    (both_true (lt-ltb (checks_of t) (length s) (omega (arith, sound.checks))) (le-leb (edges_of t) (length ms) (omega (arith, sound.few))))

@@ -7,7 +7,7 @@ use native.Mathlib.Omega.{arith}
 use lib.Dec.{leb, ltb}
 use lib.ListN.{length, drop}
 use borrow.Author.Tests.{lt-ltb, le-ltb, le-leb, lt-leb}
-use Rattle.rules.specs.Limits.{max_checks, max_edges, contents_end}
+use Rattle.rules.specs.Limits.{contents_end}
 use Rattle.rules.specs.Refusal.{Answer, refused, gives, must, then, reply_of, buffer_short}
 use Rattle.rules.specs.Table.{Table, edges, edges_of, checks_of}
 use Rattle.rules.specs.CodeFile.{contents, numbers_at, table_at, code_file, table_values}
@@ -18,7 +18,7 @@ use Rattle.table.proofs.AnswerLaws.{and-fails, and-holds}
 use Rattle.rules.proofs.FileLaws.{bodies-length, edges-bodies, edges-length}
 use Rattle.table.proofs.StartsLaws.{starts-length}
 use Rattle.table.proofs.StageLaws.{table-reply}
-use Rattle.table.proofs.AcceptedLaws.{Readable, readable-table}
+use Rattle.table.proofs.AcceptedLaws.{Readable}
 
 pub laid-reply : (a : Answer Table) (s ms : List ℕ) → (laid a s ms).reply ≡ reply_of table_values a
 unfolding laid
@@ -38,20 +38,6 @@ module _ (file s ms : List ℕ) where
     pub loaded-gives : ltb (checks_of t) (length s) && leb (edges_of t) (length ms) ≡ true → laid (gives t) s ms ≡ loaded file s ms
     unfolding loaded then with_room must
     loaded-gives e = ap (λ b. laid (must b buffer_short (gives t)) s ms) (sym e) ∙ ap (λ a. laid (then a (with_room s ms)) s ms) (sym h)
-
--- Room for the largest table is room for every table: 41 never comes.
-module _ (file s ms : List ℕ) (hs : max_checks < length s) (hm : max_edges ≤ length ms) where
-  room-enough : (a : Answer Table) → code_file file ≡ a → loaded file s ms ≡ laid a s ms
-  unfolding loaded then
-  room-enough (refused k) e = ap (λ a. laid (then a (with_room s ms)) s ms) e
-  room-enough (gives t) e =
-      let r = readable-table file t.bits (checks_of t) (edges_of t) t e refl refl refl in
-      let starts : checks_of t < length s = omega (arith, r.many) in
-      let members : edges_of t ≤ length ms = omega (arith, r.few) in
-      sym (loaded-gives file s ms t e (and-holds (ltb (checks_of t) (length s)) (leb (edges_of t) (length ms)) (lt-ltb (checks_of t) (length s) starts) ∙ le-leb (edges_of t) (length ms) members))
-
-  pub loaded-room : loaded file s ms ≡ laid (code_file file) s ms
-  loaded-room = room-enough (code_file file) refl
 
 -- ---- the same in the code's numbers
 module _ (file : List ℕ) (n m e : ℕ) (r : Readable file n m e) where

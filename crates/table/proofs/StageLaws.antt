@@ -1,17 +1,19 @@
 -- The code file's answer in the code's own numbers: n, m, E and where the bodies begin, as they were read. Assumes nothing.
-use mathlib.Core.Path.{◌≡◌, sym, ◌∙◌, ap, ap₂}
-use mathlib.Core.Bool.{true, ◌&&◌}
+use mathlib.Core.Path.{◌≡◌, refl, sym, ◌∙◌, ap, ap₂}
+use mathlib.Core.Bool.{true, false, ◌&&◌}
 use mathlib.Core.List.{List, [], ◌∷◌}
-use Prim.Native.Nat.{ℕ, ◌≤◌}
+use Prim.Native.Nat.{ℕ, ◌≤◌, ◌<◌}
 use lib.Dec.{leb}
 use lib.IntN.{pos}
-use borrow.Author.Tests.{leb-true}
+use lib.ListN.{length}
+use borrow.Author.Tests.{leb-true, le-leb, lt-leb}
 use Rattle.rules.specs.Limits.{max_bits, max_checks, max_edges, contents_end}
-use Rattle.rules.specs.Refusal.{gives, reply_of}
+use Rattle.rules.specs.Refusal.{must, gives, reply_of, header_short, size_range, length_wrong}
 use Rattle.rules.specs.Bytes.{u16_at}
 use Rattle.rules.specs.Table.{edges, degree_of}
 use Rattle.rules.specs.CodeFile.{Content, in_range, contents, starts_right, total_count, numbers_at, bits_right, table_at, file_of, code_file, table_values, code_file_reply}
-use Rattle.table.specs.Stages.{header_stage}
+use Rattle.table.specs.Stages.{header_stage, contents_stage}
+use Rattle.table.proofs.AnswerLaws.{and-fails, and-holds, must-fails, must-holds}
 use Rattle.rules.proofs.Basics.{and_both}
 use Rattle.rules.proofs.AnswerLaws.{range-both}
 use Rattle.rules.proofs.FileLaws.{bodies-length, edges-bodies, edges-length}
@@ -30,6 +32,35 @@ pub first-stage : (file : List ℕ) (n m : ℕ) → n ≡ u16_at file 0 → m �
 unfolding code_file_reply code_file file_of
 first-stage file n m hn hm = ap₂ (λ x y. reply_of table_values (file_of file x y)) (sym hn) (sym hm)
 
+module _ (file : List ℕ) where
+  pub code-short : length file < 4 → code_file_reply file ≡ record { number = header_short; values = [] }
+  code-short h = first-stage file _ _ refl refl ∙ must-fails table_values _ header_short _ (lt-leb 4 (length file) h)
+
+  -- n and m are read
+  module _ (long : 4 ≤ length file) (n m : ℕ) (hn : n ≡ u16_at file 0) (hm : m ≡ u16_at file 2) where
+    sizes-read : code_file_reply file
+        ≡ reply_of table_values (must (in_range 1 max_bits n && in_range 1 max_checks m) size_range (must (leb (contents_end m) (length file)) length_wrong (contents_stage file n m)))
+    sizes-read = first-stage file n m hn hm ∙ must-holds table_values _ header_short _ (le-leb 4 (length file) long)
+
+    pub bits-out : in_range 1 max_bits n ≡ false → code_file_reply file ≡ record { number = size_range; values = [] }
+    bits-out h = sizes-read ∙ must-fails table_values _ size_range _ (and-fails (in_range 1 max_bits n) (in_range 1 max_checks m) h)
+
+    module _ (bits : in_range 1 max_bits n ≡ true) where
+      pub checks-out : in_range 1 max_checks m ≡ false → code_file_reply file ≡ record { number = size_range; values = [] }
+      checks-out h = sizes-read ∙ must-fails table_values _ size_range _ (and-holds (in_range 1 max_bits n) (in_range 1 max_checks m) bits ∙ h)
+
+      module _ (checks : in_range 1 max_checks m ≡ true) where
+        length-stage : code_file_reply file ≡ reply_of table_values (must (leb (contents_end m) (length file)) length_wrong (contents_stage file n m))
+        length-stage = sizes-read ∙ must-holds table_values _ size_range _ (and-holds (in_range 1 max_bits n) (in_range 1 max_checks m) bits ∙ checks)
+
+        pub contents-out : length file < contents_end m → code_file_reply file ≡ record { number = length_wrong; values = [] }
+        contents-out h = length-stage ∙ must-fails table_values _ length_wrong _ (lt-leb (contents_end m) (length file) h)
+
+        pub contents-in : contents_end m ≤ length file → code_file_reply file ≡ reply_of table_values (contents_stage file n m)
+        contents-in h = length-stage ∙ must-holds table_values _ length_wrong _ (le-leb (contents_end m) (length file) h)
+
+pub ruleset check_steps = (code-short, bits-out, checks-out, contents-out, contents-in, range-both)
+
 module _ (file : List ℕ) (n m e : ℕ) (he : e ≡ total_count (contents file 0 m)) where
   -- the bits' degrees, counted over the bodies in one piece
   pub bits-edges : (a : ℕ) → a ≡ contents_end m
@@ -42,3 +73,5 @@ module _ (file : List ℕ) (n m e : ℕ) (he : e ≡ total_count (contents file 
   table-reply =
       ap₂ (λ x y. record { number = 0; values = pos n ∷ pos x ∷ pos y ∷ [] })
       (sym (bodies-length file (contents_end m) m)) (he ∙ sym (edges-length file (contents_end m) (contents file 0 m)))
+
+pub ruleset bodies_steps = (must-fails, must-holds, bits-edges, table-reply)

@@ -4,3 +4,4 @@ pub mod Layout
 pub mod Stages
 pub mod Loaded
 pub mod Examples
+pub mod Entries

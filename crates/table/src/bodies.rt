@@ -1,63 +1,55 @@
 // The bodies: the members of each check, one check after the other.
 ghost use Rattle.std.specs.Prelude.{◌≡◌, ◌+◌, ◌*◌, ◌≤◌, ◌<◌, length};
-ghost use Rattle.rules.specs.Limits.{max_checks, contents_end, file_length};
 ghost use Rattle.rules.specs.Bytes.{u16_limit, u16_at};
-ghost use Rattle.rules.specs.CodeFile.{contents, total_count, numbers_at, bodies, ascends, members_right};
+ghost use Rattle.rules.specs.CodeFile.{numbers_at, ascends};
 
-use super::contents::{contents_end, count_at};
-use super::numbers::{between, both, u16_at};
+use super::numbers::u16_at;
 use limits::common::DEGREE_6;
 
-// The k-th member of the bodies from byte `at` on.
-pub(crate) fn member_at(code: &[u8], at: usize, k: usize) -> usize
-    requires { at + 2 * (k + 1) ≤ length code.now }
-    ensures { (result ≡ u16_at code.now (at + 2 * k)) × (result < u16_limit) }
-{
-    u16_at(code, at + 2 * k)
+// Members in a row, from byte `at` of the code file on: those of one check, or of all.
+#[derive(Clone, Copy)]
+pub(crate) struct Members<'a> {
+    pub(crate) code: &'a [u8],
+    pub(crate) at: usize,
+    pub(crate) count: usize,
+    ghost within: { at + 2 * count ≤ length code.now },
 }
 
-// The d members from byte `at` on are below n and "strictly ascending".
-fn ascending_of(code: &[u8], at: usize, d: usize, n: usize) -> bool
-    requires { at + 2 * d ≤ length code.now }
-    ensures { result ≡ ascends n 0 (numbers_at code.now at d) }
-{
-    let mut all = true;
-    let mut least: usize = 0;
-    let mut k: usize = 0;
-    while k < d {
-        let x = member_at(code, at, k);
-        all = both(all, between(least, n, x));
-        least = x + 1;
-        k += 1;
+impl<'a> Members<'a> {
+    ghost use Rattle.table.specs.Entries.{members_of};
+
+    // The k-th of them.
+    pub(crate) fn get(&self, k: usize) -> usize
+        requires { k < self.now.count }
+        ensures { (result ≡ u16_at self.now.code.now (self.now.at + 2 * k)) × (result < u16_limit) }
+    {
+        u16_at(self.code, self.at + 2 * k)
     }
-    all
-}
 
-// The same, the common degree being a known number where the loop is inlined.
-pub(crate) fn ascending(code: &[u8], at: usize, d: usize, n: usize) -> bool
-    requires { at + 2 * d ≤ length code.now }
-    ensures { result ≡ ascends n 0 (numbers_at code.now at d) }
-{
-    if d == DEGREE_6 {
-        return ascending_of(code, at, DEGREE_6, n);
-    }
-    ascending_of(code, at, d, n)
-}
-
-// Every check's members, where the bodies are all that follows the contents.
-pub(crate) fn members_right(code: &[u8], m: usize, n: usize) -> bool
-    requires { (length code.now ≡ file_length m (total_count (contents code.now 0 m))) × (m ≤ max_checks) }
-    ensures { result ≡ members_right n (bodies code.now (contents_end m) (contents code.now 0 m)) }
-{
-    let mut at = contents_end(m);
-    let mut j: usize = 0;
-    while j < m {
-        let d = count_at(code, j);
-        if !ascending(code, at, d, n) {
-            return false;
+    // The first `count` of them are below n and "strictly ascending". The loop goes to the end, since an early
+    // end would cost a branch for each number.
+    #[tactic(auto, using(crate::proofs::BodiesLaws::ascends_steps))]
+    fn first_ascend(&self, count: usize, n: usize) -> bool
+        requires { count ≤ self.now.count }
+        ensures { result ≡ ascends n 0 (numbers_at self.now.code.now self.now.at count) }
+    {
+        let mut all = true;
+        let mut least = 0;
+        for k in 0..count {
+            let x = self.get(k);
+            all &= (least <= x) & (x < n);
+            least = x + 1;
         }
-        at += 2 * d;
-        j += 1;
+        all
     }
-    true
+
+    // All of them are, the common degree being a known number where the loop is inlined.
+    pub(crate) fn ascend(&self, n: usize) -> bool
+        ensures { result ≡ ascends n 0 (members_of self.now) }
+    {
+        if self.count == DEGREE_6 {
+            return self.first_ascend(DEGREE_6, n);
+        }
+        self.first_ascend(self.count, n)
+    }
 }

@@ -6,6 +6,7 @@ mod bodies;
 mod contents;
 mod degrees;
 mod fill;
+pub mod loaded;
 pub mod numbers;
 mod stages;
 
@@ -15,46 +16,43 @@ ghost use Rattle.rules.specs.Report.{announced};
 ghost use Rattle.table.specs.Reply.{numbered};
 ghost use Rattle.table.specs.Loaded.{loaded};
 
-use contents::{contents_end, total_count};
+use bodies::Members;
+use contents::{Contents, contents_end};
 use fill::{write_members, write_starts};
-use limits::refusals::{BUFFER_SHORT, HEADER_SHORT, LENGTH_WRONG, SIZE_RANGE};
+use limits::refusals::Refusal;
 use limits::{MAX_BITS, MAX_CHECKS, MAX_EDGES};
 use numbers::{in_range, u16_at};
 use stages::check_contents;
 
-// The answer: a refusal's number, or n, m and E.
-#[derive(Clone, Copy)]
-pub enum Checked {
-    Refused(u8),
-    Accepted {
-        bits: usize,
-        checks: usize,
-        edges: usize,
-    },
+// A table's n, m and E.
+#[derive(Clone, Copy, Debug, PartialEq, Eq)]
+pub struct Sizes {
+    pub bits: usize,
+    pub checks: usize,
+    pub edges: usize,
 }
 
 // Checks a code file, any bytes.
-pub fn check(code: &[u8]) -> Checked
+#[tactic(auto, using(crate::proofs::StageLaws::check_steps))]
+pub fn check(code: &[u8]) -> Result<Sizes, Refusal>
     ensures { numbered result ≡ code_file_reply code.now }
 {
     if code.len() < 4 {
-        return Checked::Refused(HEADER_SHORT);
+        return Err(Refusal::HeaderShort);
     }
     let n = u16_at(code, 0);
     let m = u16_at(code, 2);
-    if !in_range(1, MAX_BITS, n) {
-        return Checked::Refused(SIZE_RANGE);
-    }
-    if !in_range(1, MAX_CHECKS, m) {
-        return Checked::Refused(SIZE_RANGE);
+    if !in_range(1, MAX_BITS, n) || !in_range(1, MAX_CHECKS, m) {
+        return Err(Refusal::SizeRange);
     }
     if code.len() < contents_end(m) {
-        return Checked::Refused(LENGTH_WRONG);
+        return Err(Refusal::LengthWrong);
     }
-    check_contents(code, n, m)
+    check_contents(&Contents { code, checks: m }, n)
 }
 
 // How long the code file is that begins with these bytes, as far as they tell: what to read next.
+#[tactic(auto, using(crate::proofs::AnnouncedLaws::announced_cases))]
 pub fn announced(bytes: &[u8]) -> usize
     ensures { result ≡ announced bytes.now }
 {
@@ -69,7 +67,11 @@ pub fn announced(bytes: &[u8]) -> usize
     if bytes.len() < bodies {
         return bodies;
     }
-    let edges = total_count(bytes, checks);
+    let edges = (Contents {
+        code: bytes,
+        checks,
+    })
+    .total_count();
     if MAX_EDGES < edges {
         return bodies;
     }
@@ -78,31 +80,27 @@ pub fn announced(bytes: &[u8]) -> usize
 
 // Checks a code file and leaves its m + 1 starts, E the last, and its E members at the front of the
 // two slices. 41 where one of them is too short; a refusal changes nothing.
-pub fn load(code: &[u8], starts: &mut [u16], members: &mut [u16]) -> Checked
+pub fn load(code: &[u8], starts: &mut [u16], members: &mut [u16]) -> Result<Sizes, Refusal>
     ensures { (record { reply = numbered result; starts = starts.new; members = members.new })
         ≡ loaded code.now starts.old members.old }
 {
-    let answer = check(code);
-    match answer {
-        Checked::Refused(k) => Checked::Refused(k),
-        Checked::Accepted {
-            bits,
-            checks,
-            edges,
-        } => {
-            if starts.len() <= checks {
-                return Checked::Refused(BUFFER_SHORT);
-            }
-            if members.len() < edges {
-                return Checked::Refused(BUFFER_SHORT);
-            }
-            write_starts(code, checks, starts);
-            write_members(code, contents_end(checks), edges, members);
-            Checked::Accepted {
-                bits,
-                checks,
-                edges,
-            }
-        }
+    let sizes = check(code)?;
+    if starts.len() <= sizes.checks {
+        return Err(Refusal::BufferShort);
     }
+    if members.len() < sizes.edges {
+        return Err(Refusal::BufferShort);
+    }
+    let entries = Contents {
+        code,
+        checks: sizes.checks,
+    };
+    write_starts(&entries, starts);
+    let edges = Members {
+        code,
+        at: entries.end(),
+        count: sizes.edges,
+    };
+    write_members(&edges, members);
+    Ok(sizes)
 }

@@ -5,29 +5,21 @@ use mathlib.Core.List.{List, [], ◌∷◌, ◌++◌}
 use Prim.Native.Nat.{ℕ, suc, ◌+◌, ◌*◌, ◌≤◌, ◌<◌, zero-le}
 use native.Mathlib.Omega.{arith}
 use native.Mathlib.Numerals.{add-one}
-use lib.Dec.{leb, eqb}
+use lib.Dec.{eqb}
 use lib.ListN.{length, get_or, drop, length-append, drop_of_length-le}
 use lib.Seq.{sets}
-use borrow.Author.Tests.{eq-eqb, ne_eqb, le-leb, lt-leb}
+use Rattle.std.proofs.Common.{◌⊎◌, inl, inr, not}
+use Rattle.std.specs.List.{count_by}
+use Rattle.std.proofs.lemmas.Bool.Decides.{nat_tests}
+use Rattle.std.proofs.lemmas.List.Recursion.{is_count_by}
 use Rattle.rules.specs.Limits.{max_checks, certificate_length}
-use Rattle.rules.specs.Refusal.{gives, must, size_range, buffer_short}
+use Rattle.rules.specs.Refusal.{must}
 use Rattle.rules.specs.Bytes.{le16, le32}
 use Rattle.rules.specs.Buffers.{over}
 use Rattle.rules.proofs.StoreLaws.{drop-next, sets-next, sets_over}
-use Rattle.writing.specs.Written.{if_cut, PutAt, cuts_from, contents_from, bodies_from, certificate_from, Written, written_by, certificate_written}
+use Rattle.writing.specs.Written.{if_cut, PutAt, cuts_from, contents_from, bodies_from, certificate_from, certificate_written}
 
 -- ---- what a check writes, if its mask is not 0
-module _ (l : List ℕ) (i k : ℕ) (xs : List ℕ) where
-  pub cut-none : k ≡ 0 → PutAt l i (if_cut k xs) l i
-  cut-none e =
-      let t : eqb k 0 ≡ true = eq-eqb k 0 e in
-      (ap (λ b. sets l i (cond b [] xs)) (sym t), sym (ap (λ b. i + length (cond b [] xs)) t ∙ omega arith))
-
-  pub cut-some : (k ≡ 0 → ⊥) → PutAt l i (if_cut k xs) (sets l i xs) (i + length xs)
-  cut-some f =
-      let t : eqb k 0 ≡ false = ne_eqb k 0 f in
-      (ap (λ b. sets l i (cond b [] xs)) (sym t), ap (λ b. i + length (cond b [] xs)) (sym t))
-
 pub if-most : (k n : ℕ) (xs : List ℕ) → length xs ≤ n → length (if_cut k xs) ≤ n
 if-most k n xs h = go (eqb k 0)
   where
@@ -36,57 +28,40 @@ if-most k n xs h = go (eqb k 0)
     go false = h
 
 -- ---- how many cuts
-cuts-cons : (k : ℕ) (ks : List ℕ) → cuts_from (k ∷ ks) ≡ cond (eqb k 0) 0 1 + cuts_from ks
+abbrev pub is_cut : ℕ → Bool
+is_cut k = not (eqb k 0)
+
+cut-counts : (b : Bool) (n : ℕ) → cond b 0 1 + n ≡ cond (not b) (1 + n) n
+cut-counts true n = omega arith
+cut-counts false n = refl
+
+pub cuts-count : (ks : List ℕ) → cuts_from ks ≡ count_by is_cut ks
 unfolding cuts_from
-cuts-cons k ks = refl
-
-cuts-nil : cuts_from [] ≡ 0
-unfolding cuts_from
-cuts-nil = refl
-
-cuts-next : (ks : List ℕ) (j : ℕ) → j < length ks → cuts_from (drop j ks) ≡ cond (eqb (get_or ks j 0) 0) 0 1 + cuts_from (drop (j + 1) ks)
-cuts-next ks j h = ap cuts_from (drop-next ks j 0 h) ∙ cuts-cons (get_or ks j 0) (drop (j + 1) ks)
-
-pub cuts-some : (ks : List ℕ) (j : ℕ) → j < length ks → (get_or ks j 0 ≡ 0 → ⊥) → cuts_from (drop j ks) ≡ 1 + cuts_from (drop (j + 1) ks)
-cuts-some ks j h f = cuts-next ks j h ∙ ap (λ b. cond b 0 1 + cuts_from (drop (j + 1) ks)) (ne_eqb (get_or ks j 0) 0 f)
-
-pub cuts-none : (ks : List ℕ) (j : ℕ) → j < length ks → get_or ks j 0 ≡ 0 → cuts_from (drop j ks) ≡ 0 + cuts_from (drop (j + 1) ks)
-cuts-none ks j h e = cuts-next ks j h ∙ ap (λ b. cond b 0 1 + cuts_from (drop (j + 1) ks)) (eq-eqb (get_or ks j 0) 0 e)
-
-pub cuts-end : (ks : List ℕ) (j : ℕ) → length ks ≤ j → cuts_from (drop j ks) ≡ 0
-cuts-end ks j h = ap cuts_from (drop_of_length-le ks h) ∙ cuts-nil
+cuts-count = is_count_by cuts_from is_cut refl (λ k ks. cut-counts (eqb k 0) (cuts_from ks))
 
 -- ---- contents
 contents-cons : (j b : ℕ) (bs : List ℕ) (k : ℕ) (ks : List ℕ) → contents_from j (b ∷ bs) (k ∷ ks) ≡ if_cut k (le16 j ++ le32 b) ++ contents_from (suc j) bs ks
 unfolding contents_from
 contents-cons j b bs k ks = refl
 
-contents-nil : (j : ℕ) (ks : List ℕ) → contents_from j [] ks ≡ []
+pub contents-next : {bs bs' ks ks' : List ℕ} {i j i' b k : ℕ} → bs ≡ b ∷ bs' → ks ≡ k ∷ ks' → j ≡ i → i' ≡ i + 1 → contents_from i bs ks ≡ if_cut k (le16 j ++ le32 b) ++ contents_from i' bs' ks'
+contents-next {bs} {bs'} {ks} {ks'} {i} {j} {i'} {b} {k} p q e g = ap₂ (contents_from i) p q ∙ contents-cons i b bs' k ks'
+    ∙ ap₂ (λ x y. if_cut k (le16 x ++ le32 b) ++ contents_from y bs' ks') (sym e) (sym (g ∙ add-one i))
+
+pub contents-end : (j : ℕ) (bs ks : List ℕ) → (length bs ≡ 0) ⊎ (length ks ≡ 0) → contents_from j bs ks ≡ []
 unfolding contents_from
-contents-nil j ks = refl
-
-abbrev pub contents_left : List ℕ → List ℕ → ℕ → List ℕ
-contents_left bs ks j = contents_from j (drop j bs) (drop j ks)
-
-pub contents-next : (bs ks : List ℕ) (j : ℕ) → j < length bs → j < length ks → contents_left bs ks j ≡ if_cut (get_or ks j 0) (le16 j ++ le32 (get_or bs j 0)) ++ contents_left bs ks (j + 1)
-contents-next bs ks j hb hk = ap₂ (contents_from j) (drop-next bs j 0 hb) (drop-next ks j 0 hk) ∙ contents-cons j (get_or bs j 0) (drop (j + 1) bs) (get_or ks j 0) (drop (j + 1) ks)
-    ∙ ap (λ n. if_cut (get_or ks j 0) (le16 j ++ le32 (get_or bs j 0)) ++ contents_from n (drop (j + 1) bs) (drop (j + 1) ks)) (sym (add-one j))
-
-pub contents-end : (bs ks : List ℕ) (j : ℕ) → length bs ≤ j → contents_left bs ks j ≡ []
-contents-end bs ks j h = ap (λ l. contents_from j l (drop j ks)) (drop_of_length-le bs h) ∙ contents-nil j (drop j ks)
+contents-end j [] ks h = refl
+contents-end j (b ∷ bs) [] h = refl
+contents-end j (b ∷ bs) (k ∷ ks) (inl e) = absurd (omega arith)
+contents-end j (b ∷ bs) (k ∷ ks) (inr e) = absurd (omega arith)
 
 contents-most : (j : ℕ) (bs ks : List ℕ) → length (contents_from j bs ks) ≤ 6 * length ks
 unfolding contents_from
 contents-most j [] ks = zero-le
 contents-most j (b ∷ bs) [] = zero-le
-contents-most j (b ∷ bs) (k ∷ ks) = more (length (if_cut k (le16 j ++ le32 b))) (length (contents_from (suc j) bs ks)) (length (if_cut k (le16 j ++ le32 b) ++ contents_from (suc j) bs ks)) (length ks)
-    (length-append (if_cut k (le16 j ++ le32 b)) (contents_from (suc j) bs ks)) (if-most k 6 (le16 j ++ le32 b) six) (contents-most (suc j) bs ks)
-  where
-    six : length (le16 j ++ le32 b) ≤ 6
-    six = omega arith
-
-    more : (x y n m : ℕ) → n ≡ x + y → x ≤ 6 → y ≤ 6 * m → n ≤ 6 * suc m
-    more x y n m e h k = omega arith
+contents-most j (b ∷ bs) (k ∷ ks) =
+    let xs = le16 j ++ le32 b in
+    omega (arith, length-append (if_cut k xs) (contents_from (suc j) bs ks), if-most k 6 xs (omega arith), contents-most (suc j) bs ks)
 
 -- ---- bodies
 bodies-cons : (k : ℕ) (ks : List ℕ) → bodies_from (k ∷ ks) ≡ if_cut k (le32 k) ++ bodies_from ks
@@ -106,14 +81,7 @@ bodies-end ks j h = ap bodies_from (drop_of_length-le ks h) ∙ bodies-nil
 bodies-most : (ks : List ℕ) → length (bodies_from ks) ≤ 4 * length ks
 unfolding bodies_from
 bodies-most [] = zero-le
-bodies-most (k ∷ ks) = more (length (if_cut k (le32 k))) (length (bodies_from ks)) (length (if_cut k (le32 k) ++ bodies_from ks)) (length ks)
-    (length-append (if_cut k (le32 k)) (bodies_from ks)) (if-most k 4 (le32 k) four) (bodies-most ks)
-  where
-    four : length (le32 k) ≤ 4
-    four = omega arith
-
-    more : (x y n m : ℕ) → n ≡ x + y → x ≤ 4 → y ≤ 4 * m → n ≤ 4 * suc m
-    more x y n m e h k = omega arith
+bodies-most (k ∷ ks) = omega (arith, length-append (if_cut k (le32 k)) (bodies_from ks), if-most k 4 (le32 k) (omega arith), bodies-most ks)
 
 -- where the bodies begin
 pub contents-stop : (bs ks : List ℕ) (r : ℕ) → r ≡ 4 + length (contents_from 0 bs ks) → r ≤ 4 + 6 * length ks
@@ -137,43 +105,8 @@ certificate-all {bs} {ks} {c} {c1} {c2} {c3} {c4} {r} h p =
     p.bodies ∙ sets-next c c3 0 r (head ++ contents_from 0 bs ks) (bodies_from ks) three (omega (arith, p.contents.1, length-append head (contents_from 0 bs ks)))
     ∙ sets_over c (head ++ contents_from 0 bs ks ++ bodies_from ks) most
 
--- ---- written, or refused
-module _ (bs ks c : List ℕ) where
-  -- with these answers to the three tests
-  tested : Bool → Bool → Bool → Written
-  tested few even room = written_by (must few size_range (must even buffer_short (must room buffer_short (gives (certificate_from bs ks))))) c
-
-  abbrev is_few : Bool
-  is_few = leb (length ks) max_checks
-
-  abbrev is_even : Bool
-  is_even = eqb (length bs) (length ks)
-
-  abbrev has_room : Bool
-  has_room = leb (certificate_length (length ks)) (length c)
-
-  tested-is : (few even room : Bool) → is_few ≡ few → is_even ≡ even → has_room ≡ room → certificate_written bs ks c ≡ tested few even room
-  unfolding certificate_written tested
-  tested-is few even room p q r = ap (λ x. tested x is_even has_room) p ∙ ap₂ (tested few) q r
-
-  pub certificate-many : max_checks < length ks → record { number = size_range; bytes = c } ≡ certificate_written bs ks c
-  unfolding tested must
-  certificate-many h = sym (tested-is false is_even has_room (lt-leb (length ks) max_checks h) refl refl)
-
-  module _ (few : length ks ≤ max_checks) where
-    pub certificate-uneven : (length bs ≡ length ks → ⊥) → record { number = buffer_short; bytes = c } ≡ certificate_written bs ks c
-    unfolding tested must
-    certificate-uneven f = sym (tested-is true false has_room (le-leb (length ks) max_checks few) (ne_eqb (length bs) (length ks) f) refl)
-
-    module _ (even : length bs ≡ length ks) where
-      pub certificate-short : length c < certificate_length (length ks) → record { number = buffer_short; bytes = c } ≡ certificate_written bs ks c
-      unfolding tested must
-      certificate-short h = sym (tested-is true true false (le-leb (length ks) max_checks few) (eq-eqb (length bs) (length ks) even) (lt-leb (certificate_length (length ks)) (length c) h))
-
-      pub certificate-whole : certificate_length (length ks) ≤ length c → certificate_written bs ks c ≡ record { number = 0; bytes = over (certificate_from bs ks) c }
-      unfolding tested must
-      certificate-whole h = tested-is true true true (le-leb (length ks) max_checks few) (eq-eqb (length bs) (length ks) even) (le-leb (certificate_length (length ks)) (length c) h)
-
-      pub certificate-written : (c' : List ℕ) → certificate_length (length ks) ≤ length c → c' ≡ over (certificate_from bs ks) c
-          → record { number = 0; bytes = c' } ≡ certificate_written bs ks c
-      certificate-written c' h e = ap (λ l. record { number = 0; bytes = l }) e ∙ sym (certificate-whole h)
+-- ---- written
+module _ (bs ks c : List ℕ) (few : length ks ≤ max_checks) (even : length bs ≡ length ks) where
+  pub certificate-whole : certificate_length (length ks) ≤ length c → certificate_written bs ks c ≡ record { number = 0; bytes = over (certificate_from bs ks) c }
+  unfolding certificate_written must
+  certificate-whole h = grind (arith, nat_tests)

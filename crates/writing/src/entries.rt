@@ -14,16 +14,11 @@ const SCALE: usize = 1;
 fn count_cuts(masks: &[u32]) -> usize
     ensures { result ≡ cuts_from masks.now }
 {
-    let mut q: usize = 0;
-    let mut j: usize = 0;
-    while j < masks.len() {
-        if masks[j] != 0 {
-            q += 1;
-        }
-        j += 1;
-    }
-    q
+    masks.iter().filter(|mask| **mask != 0).count()
 }
+
+// Each loop's step is a function, so that the branches meet in its contract. `bytes` and `at` stay two
+// parameters, as `put16` and `put32` take them: a cursor of both would state their contracts again.
 
 // Check j's entry at byte `at`, if it has a cut; then the byte after it.
 fn put_content(bytes: &mut [u8], at: usize, j: usize, b: u32, mask: u32) -> usize
@@ -56,10 +51,8 @@ fn write_contents(multipliers: &[u32], masks: &[u32], from: usize, bytes: &mut [
     ensures { PutAt bytes.old from (contents_from 0 multipliers.now masks.now) bytes.new result }
 {
     let mut at = from;
-    let mut j: usize = 0;
-    while j < masks.len() {
-        at = put_content(bytes, at, j, multipliers[j], masks[j]);
-        j += 1;
+    for (j, (b, mask)) in multipliers.iter().zip(masks).enumerate() {
+        at = put_content(bytes, at, j, *b, *mask);
     }
     at
 }
@@ -70,10 +63,8 @@ fn write_bodies(masks: &[u32], from: usize, bytes: &mut [u8])
     ensures { bytes.new ≡ sets bytes.old from (bodies_from masks.now) }
 {
     let mut at = from;
-    let mut j: usize = 0;
-    while j < masks.len() {
-        at = put_body(bytes, at, masks[j]);
-        j += 1;
+    for mask in masks {
+        at = put_body(bytes, at, *mask);
     }
 }
 

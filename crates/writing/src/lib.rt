@@ -1,57 +1,50 @@
 // What a certified run writes, as bytes: the word and the certificate (document 01, "Certificates").
-// Each answers 0, or the refusal's number of document 01 with nothing changed.
+// A refusal changes nothing.
 #![tactic(auto)]
 
 mod entries;
 
 ghost use Rattle.std.specs.Prelude.{◌≡◌};
-ghost use Rattle.rules.specs.Mask.{digit};
-ghost use Rattle.rules.specs.Cut.{is_neg};
+ghost use Rattle.limits.specs.Numbers.{refusal_of};
 ghost use Rattle.writing.specs.Written.{word_written, certificate_written};
 
 use entries::write_entries;
 use limits::MAX_CHECKS;
-use limits::refusals::{BUFFER_SHORT, SIZE_RANGE};
-
-// A 1 where the spin is negative.
-fn bit_byte(spin: i32) -> u8
-    ensures { result ≡ digit (is_neg spin) }
-{
-    if spin < 0 {
-        return 1;
-    }
-    0
-}
+use limits::refusals::Refusal;
 
 // The word with ones at negative spins.
-pub fn write_word(spins: &[i32], word: &mut [u8]) -> u8
-    ensures { (record { number = result; bytes = word.new }) ≡ word_written spins.now word.old }
+#[tactic(auto, using(crate::proofs::WordLaws::sign_byte), unfolding(crate::specs::Written::word_written, rules::specs::Refusal::must))]
+pub fn write_word(spins: &[i32], word: &mut [u8]) -> Result<(), Refusal>
+    ensures { (record { number = refusal_of result; bytes = word.new }) ≡ word_written spins.now word.old }
 {
     if word.len() < spins.len() {
-        return BUFFER_SHORT;
+        return Err(Refusal::BufferShort);
     }
-    let mut i: usize = 0;
-    while i < spins.len() {
-        word[i] = bit_byte(spins[i]);
-        i += 1;
+    for (i, spin) in spins.iter().enumerate() {
+        word[i] = u8::from(*spin < 0);
     }
-    0
+    Ok(())
 }
 
 // The certificate of a round's multipliers and masks, a pair for each check.
-pub fn write_certificate(multipliers: &[u32], masks: &[u32], certificate: &mut [u8]) -> u8
-    ensures { (record { number = result; bytes = certificate.new })
+#[tactic(auto, unfolding(crate::specs::Written::certificate_written, rules::specs::Refusal::must))]
+pub fn write_certificate(
+    multipliers: &[u32],
+    masks: &[u32],
+    certificate: &mut [u8],
+) -> Result<(), Refusal>
+    ensures { (record { number = refusal_of result; bytes = certificate.new })
         ≡ certificate_written multipliers.now masks.now certificate.old }
 {
     if MAX_CHECKS < masks.len() {
-        return SIZE_RANGE;
+        return Err(Refusal::SizeRange);
     }
     if multipliers.len() != masks.len() {
-        return BUFFER_SHORT;
+        return Err(Refusal::BufferShort);
     }
     if certificate.len() < 4 + 10 * masks.len() {
-        return BUFFER_SHORT;
+        return Err(Refusal::BufferShort);
     }
     write_entries(multipliers, masks, certificate);
-    0
+    Ok(())
 }

@@ -1,15 +1,12 @@
--- `write` meets its contract: each return has the tests that led there. Assumes nothing.
-use Rattle.code_writer.proofs.WriterLaws.{many-checks, many-edges, short, written}
+-- `write` meets its contract: the size that it answers is the file's length.
+use Rattle.std.proofs.Common.{◌∙◌, sym, ap₂, arith}
+use Rattle.rules.specs.Refusal.{gives}
+use Rattle.rules.proofs.FileBytesLaws.{file-length}
+use Rattle.code_writer.proofs.WriterLaws.{whole}
 use Rattle.code_writer.proofs.write.Goals as goal
 
-pub returns-then-counts-gt-MAX_CHECKS : goal.returns-then-counts-gt-MAX_CHECKS
-returns-then-counts-gt-MAX_CHECKS c = search many-checks
-
-pub returns-then-members-gt-MAX_EDGES : goal.returns-then-members-gt-MAX_EDGES
-returns-then-members-gt-MAX_EDGES c = search many-edges
-
-pub returns-then-file-size : goal.returns-then-file-size
-returns-then-file-size c = search short
-
 pub returns : goal.returns
-returns c = search written
+returns c =
+    let a = c.args in
+    ap₂ (λ k l. record { answer = gives k; bytes = l }) (sym (file-length a.bits a.counts.now a.members.now)) c.write_file.ensures
+    ∙ sym (whole a.bits a.counts.now a.members.now a.file.now (omega arith) (omega arith) (omega arith))

@@ -1,4 +1,5 @@
 -- `rounds` meets its contract. A refusal as `admit` gives it, or the rounds that `perform` does. Assumes nothing.
+use mathlib.Core.Path.{refl}
 use Prim.Native.Nat.{◌≤◌, ◌<◌}
 use native.Mathlib.Omega.{arith}
 use Rattle.rules.specs.Limits.{max_checks, max_edges}
@@ -14,12 +15,12 @@ members-room = omega arith
 
 pub perform-after-requires : goal.perform-after-requires
 perform-after-requires c =
-    found-fit _ _ _ _ _ _ starts-room members-room _ _ _ c.admit-answer.ensures _ _ _ c.in-Sized.is
+    found-fit _ _ _ _ _ _ starts-room members-room _ _ _ c.admit-admitted.ensures _ c.in-Ok.is
 
-pub returns-in-Refused : goal.returns-in-Refused
-returns-in-Refused c =
-    found-refused _ _ _ _ _ _ starts-room members-room _ _ _ c.admit-answer.ensures _ c.in-Refused.is
+pub returns-in-Err : goal.returns-in-Err
+returns-in-Err c =
+    found-refused _ _ _ _ _ _ starts-room members-room _ _ _ c.admit-admitted.ensures _ c.in-Err.is
 
-pub returns-in-Sized : goal.returns-in-Sized
-returns-in-Sized c =
-    found-call _ _ _ _ _ _ starts-room members-room _ _ _ c.admit-answer.ensures _ _ _ c.in-Sized.is _ _ c.perform-after.ensures c.outcome_of.ensures
+pub returns-in-Ok : goal.returns-in-Ok
+returns-in-Ok c =
+    found-call _ _ _ _ _ _ starts-room members-room _ _ _ c.admit-admitted.ensures _ c.in-Ok.is _ _ c.perform-after.ensures refl

@@ -1,36 +1,40 @@
--- `agreement` meets its contract: the sum over the first i bits. Assumes nothing.
+-- `agreement` meets its contract: the sum over the first bits. Assumes nothing.
 use mathlib.Core.Path.{◌∙◌, ap}
-use Prim.Native.Nat.{◌<◌, min}
-use native.Mathlib.Omega.{arith}
-use lib.ListN.{get_or}
+use mathlib.Core.List.{[], ◌∷◌}
+use lib.ListN.{length, take}
 use mir.Syntax.{w16, w64}
+use mir.Val.{SFits}
 use mir.Facts.{to_z-of_z}
+use Rattle.std.proofs.Common.{rules}
+use Rattle.std.proofs.lemmas.List.{length-append}
+use Rattle.std.proofs.lemmas.Slice.Zip.{zip_turn, zip_end}
 use Rattle.integers.specs.Machine.{fit}
-use Rattle.rules.specs.Limits.{max_bits}
-use Rattle.rules.specs.Table.{at}
 use Rattle.rules.specs.Parity.{turn}
 use Rattle.rules.specs.Input.{bit_of_byte}
-use Rattle.inputs.proofs.AgreedLaws.{added_none, added-fits, added_more, added-all}
+use Rattle.inputs.proofs.AgreedLaws.{added_none, added_more, turned-is, turned-few, turned-all, added-all}
 use Rattle.inputs.proofs.agreement.Goals as goal
 
-pub loop-i-init : goal.loop-i-init
-loop-i-init c = (omega arith, c.least-n.ensures ∙ ap (min max_bits) c.least.ensures, added_none _ _)
+pub loop-x-init : goal.loop-x-init
+loop-x-init c = added_none _ _
 
-pub overflow_add-total : goal.overflow_add-total
-overflow_add-total c =
-    let few : c.loop-i.i < max_bits = omega arith in
-    added-fits c.loop-i.invariant.2 few (fit w64 c.turned-total.result c.turned-total.type_inv) c.turned-total.ensures.1
-
-pub loop-i-preserved : goal.loop-i-preserved
-loop-i-preserved c =
-    let few : c.loop-i.i < max_bits = omega arith in
-    let loop = c.loop-i in
-    let args = c.args in
-    let number = to_z-of_z (fit w16 (at args.frame.now loop.i) c.turned-arg-1.given) in
-    let under = c.turned-total.ensures.0 ∙ ap (turn (bit_of_byte (get_or args.word.now loop.i 0))) number in
-    (omega arith, loop.invariant.1, added_more loop.invariant.2 few (fit w64 c.turned-total.result c.turned-total.type_inv) c.turned-total.ensures.1 under)
+pub loop-x-preserved : goal.loop-x-preserved
+loop-x-preserved c =
+    let l = c.args.frame.now in
+    let w = c.args.word.now in
+    let n = c.min.result in
+    let k = length c.loop-x.yielded in
+    let turned = c.turned-total in
+    let item = c.in-Some in
+    let at = zip_turn (take n l) w c.loop-x.yielded c.into_iter-x-iterator.result c.loop-x.x-iterator c.next.new.self _ (cc) (cc) c.loop-x.yielded_by _ item.is c.next.ensures.steps in
+    let fits : SFits w16 item.x.now = search rules in
+    let number = turned.ensures.0 ∙ ap (turn (bit_of_byte item.byte.now)) (to_z-of_z fits) ∙ turned-is l w n k item.x.now item.byte.now at.0 at.2 at.3 in
+    let few = turned-few l w n k c.min.ensures at.0 in
+    rw (length-append c.loop-x.yielded ((item.x, item.byte) ∷ [])) (added_more c.loop-x.invariant few (fit w64 turned.result turned.type_inv) turned.ensures.1 number)
 
 pub returns : goal.returns
 returns c =
-    let loop = c.loop-i in
-    added-all loop.invariant.2 (omega arith)
+    let l = c.args.frame.now in
+    let w = c.args.word.now in
+    let n = c.min.result in
+    let end = zip_end (take n l) w c.loop-x.yielded c.into_iter-x-iterator.result c.loop-x.x-iterator c.next.new.self _ (cc) (cc) c.loop-x.yielded_by c.in-None.is c.next.ensures.steps in
+    added-all c.loop-x.invariant (turned-all l w n _ c.min.ensures end)

@@ -1,18 +1,21 @@
--- `frame` meets its contract: each return has the tests that led there. Assumes nothing.
-use mathlib.Core.Path.{sym, ◌∙◌}
-use borrow.Author.Tests.{eq-eqb, ne_eqb}
+-- `frame` meets its contract: the numbers' test is the definition's. Assumes nothing.
+use mathlib.Core.Path.{◌≡◌, sym, ◌∙◌}
+use mathlib.Core.Bool.{true, false}
+use Rattle.std.proofs.Common.{rules}
+use Rattle.rules.specs.Limits.{frame_limit}
+use Rattle.rules.specs.Input.{each_within}
 use Rattle.inputs.specs.Refusals.{frame_refusal}
-use Rattle.inputs.proofs.RefusalLaws.{test-holds, test-fails}
+use Rattle.inputs.proofs.EachLaws.{each_within_is}
 use Rattle.inputs.proofs.frame.Goals as goal
 
-pub returns-then-l-n : goal.returns-then-l-n
+pub returns-then-not-all_between : goal.returns-then-not-all_between
 unfolding frame_refusal
-returns-then-l-n c = test-fails _ _ _ (ne_eqb _ _ c.if-l-n.true)
-
-pub returns-then-not-numbers_right : goal.returns-then-not-numbers_right
-unfolding frame_refusal
-returns-then-not-numbers_right c = test-fails _ _ _ (sym c.numbers_right.ensures ∙ c.if-not-numbers_right.true) ∙ test-holds _ _ _ (eq-eqb _ _ c.if-l-n.false)
+returns-then-not-all_between c =
+    let e : each_within frame_limit c.args.l.now ≡ false = sym (c.all_between.ensures ∙ each_within_is frame_limit c.args.l.now) ∙ c.if-not-all_between.true in
+    search rules
 
 pub returns : goal.returns
 unfolding frame_refusal
-returns c = test-holds _ _ _ (sym c.numbers_right.ensures ∙ c.if-not-numbers_right.false) ∙ test-holds _ _ _ (eq-eqb _ _ c.if-l-n.false)
+returns c =
+    let e : each_within frame_limit c.args.l.now ≡ true = sym (c.all_between.ensures ∙ each_within_is frame_limit c.args.l.now) ∙ c.if-not-all_between.false in
+    search rules

@@ -1,18 +1,25 @@
--- `point` meets its contract: each return has the tests that led there. Assumes nothing.
-use mathlib.Core.Path.{sym, ◌∙◌}
-use borrow.Author.Tests.{eq-eqb, ne_eqb}
+-- `point` meets its contract: the spins' test is the definition's. Assumes nothing.
+use mathlib.Core.Path.{◌≡◌, sym, ◌∙◌}
+use mathlib.Core.Bool.{true, false}
+use Rattle.std.proofs.Common.{rules}
+use Rattle.rules.specs.Limits.{unit}
+use Rattle.rules.specs.Input.{each_within}
 use Rattle.inputs.specs.Refusals.{point_refusal}
-use Rattle.inputs.proofs.RefusalLaws.{both_hold, first-fails, second-fails}
+use Rattle.inputs.proofs.EachLaws.{each_within_is}
 use Rattle.inputs.proofs.point.Goals as goal
+use Rattle.inputs.proofs.point.Goals.{then-s-n-via-then-s-n, then-s-n-via-else-s-n+then-not-all_between}
 
 pub returns-then-s-n : goal.returns-then-s-n
 unfolding point_refusal
-returns-then-s-n c = first-fails _ _ _ _ (ne_eqb _ _ c.if-s-n.true)
-
-pub returns-then-not-spins_right : goal.returns-then-not-spins_right
-unfolding point_refusal
-returns-then-not-spins_right c = second-fails _ _ _ _ (eq-eqb _ _ c.if-s-n.false) (sym c.spins_right.ensures ∙ c.if-not-spins_right.true)
+returns-then-s-n c = elim c.then-s-n.branch [
+  | then-s-n-via-then-s-n w ↦ search rules
+  | then-s-n-via-else-s-n+then-not-all_between w ↦
+      (let e : each_within unit c.args.s.now ≡ false = sym (w.all_between.ensures ∙ each_within_is unit c.args.s.now) ∙ w.if-not-all_between.true in
+      search rules)
+]
 
 pub returns : goal.returns
 unfolding point_refusal
-returns c = both_hold _ _ _ _ (eq-eqb _ _ c.if-s-n.false) (sym c.spins_right.ensures ∙ c.if-not-spins_right.false)
+returns c =
+    let e : each_within unit c.args.s.now ≡ true = sym (c.all_between.ensures ∙ each_within_is unit c.args.s.now) ∙ c.if-not-all_between.false in
+    search rules

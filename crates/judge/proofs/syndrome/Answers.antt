@@ -1,45 +1,11 @@
 -- `syndrome` meets its contract: a refused file, or the table that was loaded. Assumes nothing.
 use mathlib.Core.Path.{sym, ◌∙◌}
-use native.Mathlib.Omega.{arith}
-use lib.Seq.{length-take-le}
-use Rattle.table.proofs.LayoutLaws.{opened-starts, opened-few, load-refused, opened-whole}
+use Rattle.limits.proofs.NumberLaws.{handed-on}
 use Rattle.judge.proofs.StageLaws.{syndrome-none, syndrome-table}
 use Rattle.judge.proofs.syndrome.Goals as goal
 
-pub overflow_add-end : goal.overflow_add-end
-overflow_add-end c =
-    let o = opened-whole _ c.load-answer.ensures c.in-Accepted.is in
-    omega (arith, opened-few o)
+pub returns-in_err-table : goal.returns-in_err-table
+returns-in_err-table c = rw (handed-on _ c.from_residual.ensures) (syndrome-none _ _ (sym c.in_err-table.ensures) _)
 
-pub slice_bounds-starts-end : goal.slice_bounds-starts-end
-slice_bounds-starts-end c =
-    let o = opened-whole _ c.load-answer.ensures c.in-Accepted.is in
-    omega (arith, opened-few o)
-
-pub slice_bounds-syndrome_table-end : goal.slice_bounds-syndrome_table-end
-slice_bounds-syndrome_table-end c =
-    let o = opened-whole _ c.load-answer.ensures c.in-Accepted.is in
-    sym (opened-starts o)
-
-pub slice_bounds-members-end : goal.slice_bounds-members-end
-slice_bounds-members-end c =
-    let o = opened-whole _ c.load-answer.ensures c.in-Accepted.is in
-    omega (arith, opened-few o)
-
-pub slice_bounds-syndrome_table-end-in-Accepted : goal.slice_bounds-syndrome_table-end-in-Accepted
-slice_bounds-syndrome_table-end-in-Accepted c =
-    let o = opened-whole _ c.load-answer.ensures c.in-Accepted.is in
-    sym (length-take-le _ _ o.members_room)
-
-pub syndrome_table-requires : goal.syndrome_table-requires
-syndrome_table-requires c =
-    let o = opened-whole _ c.load-answer.ensures c.in-Accepted.is in
-    (o.holds, opened-starts o)
-
-pub returns-in-Refused : goal.returns-in-Refused
-returns-in-Refused c = syndrome-none _ _ (load-refused _ _ _ _ c.load-answer.ensures (omega arith) (omega arith) c.in-Refused.is) _
-
-pub returns-in-Accepted : goal.returns-in-Accepted
-returns-in-Accepted c =
-    let o = opened-whole _ c.load-answer.ensures c.in-Accepted.is in
-    c.syndrome_table.ensures ∙ syndrome-table _ _ o.is_file _
+pub returns : goal.returns
+returns c = c.syndrome_table.ensures ∙ syndrome-table _ _ (sym c.in_ok-table.ensures) _

@@ -4,14 +4,14 @@ use Rattle.reporting.specs.Ran.{lent_with}
 use Rattle.reporting.proofs.LineLaws.{ran-refused, ran-started}
 use Rattle.reporting.proofs.decode.Goals as goal
 
-pub returns-in-Refused : goal.returns-in-Refused
+pub returns-in-Err : goal.returns-in-Err
 unfolding lent_with
-returns-in-Refused c =
+returns-in-Err c =
     ran-refused c.args.code.now c.args.frame.now (lent_with c.args.word.now c.args.certificate.now) (omega arith) (omega arith) (omega arith)
-    c.start-started.result _ c.start-started.ensures _ c.fresh.result c.in-Refused.is c.fresh.ensures
+    c.start.result _ c.start.ensures _ c.fresh.result c.in-Err.is c.fresh.ensures
 
-pub returns-in-Fresh : goal.returns-in-Fresh
+pub returns-in-Ok : goal.returns-in-Ok
 unfolding lent_with
-returns-in-Fresh c =
+returns-in-Ok c =
     ran-started c.args.code.now c.args.frame.now (lent_with c.args.word.now c.args.certificate.now) (omega arith) (omega arith) (omega arith)
-    c.start-started.result _ c.start-started.ensures _ _ c.in-Fresh.is c.rounds.ensures
+    c.start.result _ c.start.ensures _ _ c.in-Ok.is c.rounds.ensures

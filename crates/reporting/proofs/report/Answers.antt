@@ -4,4 +4,4 @@ use Rattle.table.proofs.AcceptedLaws.{readable}
 use Rattle.reporting.proofs.report.Goals as goal
 
 pub report_code-requires : goal.report_code-requires
-report_code-requires g c = (file-sound c.args.code.now _ (readable c.args.code.now _ _ _ c.in-Accepted.ensures).table).bits.1
+report_code-requires g c = (file-sound c.args.code.now _ (readable c.args.code.now _ _ _ c.in-Ok.ensures).table).bits.1

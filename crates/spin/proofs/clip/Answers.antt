@@ -1,16 +1,16 @@
 -- `clip` meets its contract. Assumes nothing.
-use mathlib.Core.Path.{sym, ◌∙◌}
+use mathlib.Core.Path.{◌∙◌, ap}
+use lib.IntN.{pos, neg_ℤ}
+use mir.Syntax.{w32}
 use mir.Facts.{to_z-of_z}
-use Rattle.integers.specs.Linear.{lin, arith_z}
-use Rattle.integers.specs.Clip.{clip-low, clip-high, clip-mid}
+use Rattle.std.specs.Int.{int_max, int_min}
+use Rattle.integers.specs.Machine.{fit}
 use Rattle.rules.specs.Limits.{unit}
+use Rattle.spin.proofs.SpinLaws.{clamped}
 use Rattle.spin.proofs.clip.Goals as goal
 
-pub returns-then-x : goal.returns-then-x
-returns-then-x c = sym (clip-low unit c.args.x (simp lin (omega arith_z)))
-
-pub returns-then-x-gt-UNIT : goal.returns-then-x-gt-UNIT
-returns-then-x-gt-UNIT c = sym (clip-high unit c.args.x (simp lin (omega arith_z)))
-
 pub returns : goal.returns
-returns c = to_z-of_z c.ranges.x ∙ sym (clip-mid unit c.args.x (simp lin (omega arith_z)))
+returns c =
+    let clamp = c.clamp in
+    to_z-of_z (fit w32 clamp.result clamp.type_inv) ∙ clamp.ensures.value
+    ∙ ap (λ x. int_max (neg_ℤ (pos unit)) (int_min x (pos unit))) (to_z-of_z c.ranges.x) ∙ clamped unit c.args.x

@@ -1,13 +1,16 @@
 -- `half_above` meets its contract. Assumes nothing.
+use mathlib.Core.Path.{◌∙◌, ap, ap₂}
+use lib.IntN.{pos}
+use lib.Signed.{le_z}
+use mir.Syntax.{w32}
+use mir.Val.{bool_byte}
 use mir.Facts.{to_z-of_z}
-use Rattle.spin.proofs.SpinLaws.{at_most, above, lacks-one, lacks-none}
+use Rattle.integers.specs.Machine.{fit}
+use Rattle.spin.proofs.SpinLaws.{lacks-up}
 use Rattle.spin.proofs.DividedParts.{twice-reads}
 use Rattle.spin.proofs.half_above.Goals as goal
 
 pub returns : goal.returns
 returns c =
-    lacks-none c.args.r c.args.d (above (to_z-of_z c.ranges.d) (twice-reads c.requires c.ranges.r) c.if-d-r.false)
-
-pub returns-then-d-r : goal.returns-then-d-r
-returns-then-d-r c =
-    lacks-one c.args.r c.args.d (at_most (to_z-of_z c.ranges.d) (twice-reads c.requires c.ranges.r) c.if-d-r.true)
+    let read = ap₂ le_z (to_z-of_z c.ranges.d) (twice-reads c.requires c.ranges.r) in
+    to_z-of_z (fit w32 c.from.result c.from.type_inv) ∙ c.from.ensures ∙ ap (λ b. pos (bool_byte b)) read ∙ lacks-up c.args.r c.args.d

@@ -2,7 +2,7 @@
 use mathlib.Core.Path.{◌≡◌, sym, ◌∙◌, ap, ap₂, subst}
 use Prim.Native.Nat.{◌≤◌}
 use native.Mathlib.Omega.{arith}
-use lib.ListN.{length, length-set}
+use lib.ListN.{length}
 use lib.IntN.{ℤ, pos}
 use mir.Syntax.{w32}
 use mir.Val.{SFits, to_z, of_z}
@@ -22,26 +22,23 @@ sight-is y f e p = to_z-of_z f ∙ e ∙ ap own_height p
 
 pub with-s-requires : goal.with-s-requires
 with-s-requires c =
-    let value = to_z-of_z (fit w32 (at c.args.v.now c.loop-i.i) c.x-1.given) in
+    let value = to_z-of_z (fit w32 (at c.args.v.now c.loop-i.i) (search)) in
     let args = c.args in
     let loop = c.loop-i in
     let inside : loop.i ≤ length args.v.now = omega arith in (
       omega arith,
-      mask_fits args.v.now loop.i inside loop.s loop.invariant.1,
-      room_fits args.v.now loop.i inside loop.s loop.invariant.1,
+      mask_fits args.v.now loop.i inside loop.s loop.invariant.0,
+      room_fits args.v.now loop.i inside loop.s loop.invariant.0,
       subst (λ z. z ⩽ pos unit) (sym (sight-is _ (fit w32 _ c.height_of-h.type_inv) c.height_of-h.ensures value)) (height-top (at args.v.now loop.i)),
     )
 
 pub loop-i-preserved : goal.loop-i-preserved
 loop-i-preserved c =
-    let value = to_z-of_z (fit w32 (at c.args.v.now c.loop-i.i) c.x-1.given) in
-    let sight = sight-is _ (fit w32 _ c.height_of-h.type_inv) c.height_of-h.ensures value in
     let args = c.args in
     let loop = c.loop-i in
-    let read = fit w32 (at args.v.now loop.i) c.x-1.given in (
-      omega arith,
-      scanned-more args.v.now loop.i loop.s c.with-s.result (omega arith) read loop.invariant.1
-          (c.with-s.ensures ∙ ap₂ (λ x h. scanned loop.s x h loop.i) value sight),
-      length-set loop.heights loop.i _ ∙ loop.invariant.2,
-      heights-more args.v.now args.heights.now loop.heights loop.i _ (omega arith) (omega arith) sight loop.invariant.3,
+    let read = fit w32 (at args.v.now loop.i) (search) in
+    let sight = sight-is _ (fit w32 _ c.height_of-h.type_inv) c.height_of-h.ensures (to_z-of_z read) in (
+      scanned-more args.v.now loop.i loop.s c.with-s.result (omega arith) read loop.invariant.0
+          (c.with-s.ensures ∙ ap₂ (λ x h. scanned loop.s x h loop.i) (to_z-of_z read) sight),
+      heights-more args.v.now args.heights.now loop.heights loop.i _ (omega arith) (omega arith) sight loop.invariant.1,
     )

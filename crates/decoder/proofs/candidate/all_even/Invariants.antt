@@ -1,15 +1,12 @@
--- `all_even` meets its contract: the checks from j on decide, and check j's part of the members, which begins at a, is that check. Assumes nothing.
+-- `all_even` meets its contract: the checks from the loop's place on decide, and that check's part of the members begins at a. Assumes nothing.
 use mathlib.Core.Path.{◌≡◌}
-use Prim.Native.Nat.{◌-◌, ◌<◌}
-use lib.ListN.{length, get_or, drop}
+use lib.ListN.{drop}
 use Rattle.rules.specs.Parity.{meets}
 use Rattle.rules.specs.Cut.{negatives}
-use Rattle.table.specs.Layout.{checks_from}
+use Rattle.table.specs.Layout.{edges_before}
 use Rattle.decoder.proofs.candidate.all_even.Given as goal
 
-abbrev pub invariant-loop-j : goal.invariant-loop-j
-invariant-loop-j l =
-    (l.j < length l.starts) × (meets (negatives l.spins) (checks_from l.starts l.members) ≡ meets (negatives l.spins) (drop l.j (checks_from l.starts l.members))) × (l.a ≡ get_or l.starts l.j 0)
-
-abbrev pub decreases-loop-j : goal.decreases-loop-j
-decreases-loop-j l = length l.starts - l.j
+abbrev pub invariant-loop-end : goal.invariant-loop-end
+invariant-loop-end l =
+    let cs = l.table.checks in
+    (meets (negatives l.spins) cs ≡ meets (negatives l.spins) (drop l.end-index cs)) × (l.a ≡ edges_before l.end-index cs)

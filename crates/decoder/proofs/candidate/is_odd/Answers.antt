@@ -7,6 +7,6 @@ use Rattle.rules.specs.Cut.{negatives}
 use Rattle.rules.proofs.BufferLaws.{take_exact}
 use Rattle.decoder.proofs.candidate.is_odd.Goals as goal
 
-pub returns-then-members-eq-DEGREE_8 : goal.returns-then-members-eq-DEGREE_8
-returns-then-members-eq-DEGREE_8 c =
-    c.is_odd_of-then-members-eq-DEGREE_8.ensures ∙ ap (λ ms. odd (bits_at (negatives c.args.spins.now) ms)) (take_exact 8 c.args.members.now (omega arith))
+pub returns-in-8 : goal.returns-in-8
+returns-in-8 c =
+    c.is_odd_of-in-8.ensures ∙ ap (λ ms. odd (bits_at (negatives c.args.spins.now) ms)) (take_exact 8 c.args.members.now (omega arith))

@@ -4,8 +4,8 @@ use Rattle.spin.specs.Totals.{quotients}
 use Rattle.decoder.proofs.DivideLaws.{over-common}
 use Rattle.decoder.proofs.divide.divide_part.Goals as goal
 
-pub returns : goal.returns
-returns c =
+pub returns-else-d-eq0 : goal.returns-else-d-eq0
+returns-else-d-eq0 c =
     let ds = c.args.degrees.now in
     let ts = c.args.totals.now in
     let is = c.common_degree-d.ensures in

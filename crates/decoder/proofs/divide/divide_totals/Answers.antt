@@ -1,9 +1,9 @@
--- `divide_totals` meets its contract: the totals before a are divided, and the others still as they came. Assumes nothing.
+-- `divide_totals` meets its contract: the totals of the first k blocks are divided, and the others still as they came. Assumes nothing.
 use mathlib.Core.Path.{◌≡◌, sym, ◌∙◌, ap}
-use Prim.Native.Nat.{◌≤◌}
+use Prim.Native.Nat.{◌*◌, ◌≤◌, min}
 use native.Mathlib.Omega.{arith}
 use lib.ListN.{length}
-use Rattle.rules.proofs.FillLaws.{fill_none, fill-length, fill-all}
+use Rattle.rules.proofs.FillLaws.{fill, fill_none, fill-all}
 use Rattle.spin.proofs.TotalsLaws.{quotients-length}
 use Rattle.decoder.specs.Spins.{quotients_over}
 use Rattle.decoder.specs.Parts.{part, splice}
@@ -11,23 +11,28 @@ use Rattle.decoder.proofs.PartLaws.{fill-coming, fill-part}
 use Rattle.decoder.proofs.DivideLaws.{over-part}
 use Rattle.decoder.proofs.divide.divide_totals.Goals as goal
 
-pub loop-a-preserved : goal.loop-a-preserved
+pub loop-k-init : goal.loop-k-init
+loop-k-init c =
+    let ts = c.args.totals.now in
+    let qs = quotients_over c.args.degrees.now ts in
+    sym (fill_none qs ts) ∙ ap (λ n. fill n qs ts) (omega arith)
+
+pub loop-k-preserved : goal.loop-k-preserved
 unfolding part splice
-loop-a-preserved c =
+loop-k-preserved c =
     let ds = c.args.degrees.now in
     let ts = c.args.totals.now in
-    let a = c.loop-a.a in
-    let e = c.block_end-e.result in
-    let in-totals : e ≤ length ts = omega (arith, c.block_end-e.ensures) in
-    let coming = ap (part a e) c.loop-a.invariant.1 ∙ fill-coming a e (quotients_over ds ts) ts in
+    let qs = quotients_over ds ts in
+    let a = c.loop-k.k * 16 in
+    let e = c.min-e.result in
+    let in-totals : e ≤ length ts = omega arith in
+    let at-a : min (length ts) (16 * c.loop-k.k) ≡ a = omega (arith, c.div_ceil-k-end.ensures) in
+    let now : c.loop-k.totals ≡ fill a qs ts = c.loop-k.invariant ∙ ap (λ i. fill i qs ts) at-a in
+    let coming = ap (part a e) now ∙ fill-coming a e qs ts in
     let done = c.divide_block.ensures ∙ ap (quotients_over (part a e ds)) coming ∙ over-part ds ts a e in-totals in
-    let further : a ≤ e = omega (arith, c.block_end-e.ensures) in
-    (in-totals, fill-part a e (quotients_over ds ts) ts _ _ (quotients-length _ ts) further in-totals done c.loop-a.invariant.1)
+    fill-part a e qs ts _ _ (quotients-length _ ts) (omega arith) in-totals done now ∙ ap (λ i. fill i qs ts) (omega arith)
 
 pub returns : goal.returns
 returns c =
-    let long : length c.loop-a.totals ≡ length c.args.totals.now = ap length c.loop-a.invariant.1 ∙ fill-length c.loop-a.a _ _ in
-    c.loop-a.invariant.1 ∙ fill-all c.loop-a.a _ _ (quotients-length _ _) (omega (arith, long))
-
-pub loop-a-init : goal.loop-a-init
-loop-a-init c = (omega arith, sym (fill_none _ _))
+    let n : min (length c.args.totals.now) (16 * c.loop-k.k) ≡ length c.args.totals.now = omega (arith, c.div_ceil-k-end.ensures) in
+    c.loop-k.invariant ∙ fill-all _ _ _ (quotients-length _ _) n

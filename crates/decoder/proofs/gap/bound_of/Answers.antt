@@ -20,7 +20,7 @@ pub returns : goal.returns
 returns c =
     let a = c.args in
     let l = a.frame.now in
-    let rows = rows_on a.starts.now a.members.now a.multipliers.now a.masks.now in
+    let rows = rows_on a.table.now a.multipliers.now a.masks.now in
     let put = c.add_rows-prices in
     let sizes = c.sum_sizes in
     let new = put.new.numbers in

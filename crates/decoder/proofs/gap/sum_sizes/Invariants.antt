@@ -1,7 +1,6 @@
--- `sum_sizes` meets its contract: the sum over the first i numbers. Assumes nothing.
+-- `sum_sizes` meets its contract: the sum over the numbers before the loop's place. Assumes nothing.
 use mathlib.Core.Path.{◌≡◌}
-use Prim.Native.Nat.{◌*◌, ◌-◌, ◌≤◌}
-use lib.ListN.{length}
+use Prim.Native.Nat.{◌*◌}
 use Rattle.integers.specs.Linear.{Within}
 use Rattle.integers.specs.Product.{abs}
 use Rattle.integers.specs.Sum.{sum_to}
@@ -9,8 +8,5 @@ use Rattle.rules.specs.Limits.{size_limit}
 use Rattle.rules.specs.Table.{at}
 use Rattle.decoder.proofs.gap.sum_sizes.Given as goal
 
-abbrev pub invariant-loop-i : goal.invariant-loop-i
-invariant-loop-i l = (l.i ≤ length l.numbers) × (l.sum ≡ sum_to l.i (λ j. abs (at l.numbers j))) × Within (size_limit * l.i) l.sum
-
-abbrev pub decreases-loop-i : goal.decreases-loop-i
-decreases-loop-i l = length l.numbers - l.i
+abbrev pub invariant-loop-x : goal.invariant-loop-x
+invariant-loop-x l = (l.sum ≡ sum_to l.x-index (λ j. abs (at l.numbers j))) × Within (size_limit * l.x-index) l.sum

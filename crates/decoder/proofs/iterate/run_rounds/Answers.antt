@@ -1,11 +1,29 @@
 -- `run_rounds` meets its contract. The invariant: what is left of the rounds is done from where the run stands. Assumes nothing.
+use mathlib.Core.Path.{sym, ◌∙◌, ap}
 use native.Mathlib.Omega.{arith}
-use Rattle.decoder.proofs.IterateLaws.{going_next, going-last}
+use denote.Enum.Bare.{differs_true, differs_false}
+use Rattle.run.specs.contracts.Status.{the_type}
+use Rattle.run.specs.declared.Status.TheVariants.{Running}
+use Rattle.run.specs.Reply.{status_of}
+use Rattle.run.proofs.ViewLaws.{status-inj}
+use Rattle.decoder.proofs.IterateLaws.{going-first, going_next, going-ended, going-last}
 use Rattle.decoder.proofs.iterate.run_rounds.Goals as goal
 
-pub loop-k-preserved : goal.loop-k-preserved
-loop-k-preserved c =
-    going_next _ _ _ _ _ _ _ _ c.loop-k.invariant c.loop-k-test.true c.do_round-at.ensures _ c.left-k.ensures
+pub loop-init : goal.loop-init
+loop-init c = going-first _ _ (omega arith) c.requires.ready
+
+pub do_round-at-requires-clause-ready : goal.do_round-at-requires-clause-ready
+do_round-at-requires-clause-ready c = c.loop.invariant.steady
+
+pub returns-then-ne : goal.returns-then-ne
+returns-then-ne c =
+    going-ended _ _ _ _ _ _ _ c.loop.invariant (omega arith) c.do_round-at.ensures
+    (λ e. differs_true the_type _ Running (sym c.ne.ensures ∙ c.if-ne.true) (status-inj _ Running e))
+
+pub loop-preserved : goal.loop-preserved
+loop-preserved c =
+    going_next _ _ _ _ _ _ _ c.loop.invariant (omega arith) c.do_round-at.ensures _ (omega arith)
+    (ap status_of (differs_false the_type tt _ Running (sym c.ne.ensures ∙ c.if-ne.false)))
 
 pub returns : goal.returns
-returns c = going-last _ _ _ _ _ _ _ (omega arith) c.loop-k.invariant
+returns c = going-last _ _ _ _ _ _ (omega arith) c.loop.invariant

@@ -1,9 +1,7 @@
 -- `first_step` meets its contract. Assumes nothing.
-use mathlib.Core.Path.{◌≡◌, sym, ◌∙◌, ap, subst}
+use mathlib.Core.Path.{◌≡◌, sym, ◌∙◌, ap, ap₂, subst}
 use mathlib.Core.List.{List}
-use Prim.Native.Nat.{ℕ, ◌+◌, ◌-◌, ◌/◌, ◌≤◌, ◌<◌}
-use native.Mathlib.Nat.{min-eq_left, min-eq_right}
-use native.Mathlib.Omega.{arith}
+use Prim.Native.Nat.{ℕ, ◌+◌, ◌-◌, ◌/◌, min}
 use lib.IntN.{ℤ, pos, nat_abs, ◌-ℤ◌}
 use lib.Signed.{◌≤ℤ◌}
 use lib.ListN.{length}
@@ -47,15 +45,6 @@ module _ (hs : List ℤ) (top sum : ℤ) (n : AllNarrow (first_sums hs top)) (f 
     alone-is : nat_abs (wrap alone) ≡ nat_abs (pos reach -ℤ top)
     alone-is = ap nat_abs (reads (subst (SFits w32) (sym top-lacks) (narrow-fits _ (rest (partials (pos 0) hs) _ n).1.0)) top-lacks)
 
-    -- the lesser of two numbers, by the code's test
-    level_less : level < nat_abs (wrap alone) → level ≡ first_step hs top
-    unfolding first_step
-    level_less h = level-is ∙ sym (min-eq_left (omega (arith, h, level-is, alone-is)))
-
-    alone_less : nat_abs (wrap alone) ≤ level → nat_abs (wrap alone) ≡ first_step hs top
-    unfolding first_step
-    alone_less h = alone-is ∙ sym (min-eq_right (omega (arith, h, level-is, alone-is)))
-
 pub overflow_sub-together : goal.overflow_sub-together
 overflow_sub-together c =
     together-fits _ c.args.top _ c.requires.1 (fit w32 c.sum_of.result c.sum_of.type_inv) c.sum_of.ensures
@@ -67,15 +56,12 @@ overflow_cast-together c =
     to-unsigned tt (together-fits hs c.args.top _ c.requires.1 sum c.sum_of.ensures)
     (subst (λ z. pos 0 ≤ℤ z) (sym (together-is hs c.args.top _ c.requires.1 sum c.sum_of.ensures)) (lack-above hs c.requires.0.short))
 
-pub returns-then-level-alone : goal.returns-then-level-alone
-returns-then-level-alone c =
-    let sum = fit w32 c.sum_of.result c.sum_of.type_inv in
-    level_less c.args.heights.now c.args.top _ c.requires.1 sum c.sum_of.ensures c.ranges.top (omega arith)
-
 pub returns : goal.returns
+unfolding first_step
 returns c =
+    let hs = c.args.heights.now in
     let sum = fit w32 c.sum_of.result c.sum_of.type_inv in
-    alone_less c.args.heights.now c.args.top _ c.requires.1 sum c.sum_of.ensures c.ranges.top (omega arith)
+    c.min.ensures ∙ ap₂ min (level-is hs c.args.top _ c.requires.1 sum c.sum_of.ensures) (alone-is hs c.args.top _ c.requires.1 sum c.sum_of.ensures c.ranges.top)
 
 pub sum_of-requires : goal.sum_of-requires
 sum_of-requires c = front (partials (pos 0) c.args.heights.now) _ c.requires.1

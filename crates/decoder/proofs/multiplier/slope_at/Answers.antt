@@ -1,4 +1,4 @@
--- `slope_at` meets its contract: the first i members in one number. Assumes nothing.
+-- `slope_at` meets its contract: the members so far in one number. Assumes nothing.
 use mathlib.Core.Path.{◌≡◌, sym, ◌∙◌, ap, ap₂, subst}
 use mathlib.Core.List.{List}
 use Prim.Native.Nat.{ℕ, ◌+◌, ◌/◌, ◌%◌, ◌<◌}
@@ -22,31 +22,31 @@ both_is : (hs : List ℤ) (b i both share : ℕ) → i < length hs → SFits w32
     → both + share ≡ packed_first hs b (i + 1)
 both_is hs b i both share h f p q = ap₂ ◌+◌ p (q ∙ ap (packed b) (to_z-of_z f)) ∙ first_next hs b i h
 
-pub loop-i-init : goal.loop-i-init
-loop-i-init c = (omega arith, first-none _ _)
+pub loop-h-init : goal.loop-h-init
+loop-h-init c = first-none _ _
 
 pub share-both-requires : goal.share-both-requires
 share-both-requires c =
     let hs = c.args.heights.now in
-    subst (λ h. AllNarrow (share_sums c.args.b h)) (sym (to_z-of_z (fit w32 (at hs c.loop-i.i) c.share-arg-1.given)))
-    (share-at c.args.b hs c.loop-i.i (omega arith) (front (shares_sums c.args.b hs) _ c.requires.2))
+    subst (λ h. AllNarrow (share_sums c.args.b h)) (sym (to_z-of_z (fit w32 (at hs c.loop-h.h-index) c.h-1.given)))
+    (share-at c.args.b hs c.loop-h.h-index (omega arith) (front (shares_sums c.args.b hs) _ c.requires.2))
 
 pub overflow_add-both : goal.overflow_add-both
 overflow_add-both c =
     let hs = c.args.heights.now in
-    let l = c.loop-i in
-    let height = fit w32 (at hs l.i) c.share-arg-1.given in
-    let both = both_is hs c.args.b l.i l.both c.share-both.result (omega arith) height l.invariant.1 c.share-both.ensures in
-    let small = packed-narrow hs c.args.b l.i (omega arith) (rest (shares_sums c.args.b hs) _ c.requires.2) in
+    let l = c.loop-h in
+    let height = fit w32 (at hs l.h-index) c.h-1.given in
+    let both = both_is hs c.args.b l.h-index l.both c.share-both.result (omega arith) height l.invariant c.share-both.ensures in
+    let small = packed-narrow hs c.args.b l.h-index (omega arith) (rest (shares_sums c.args.b hs) _ c.requires.2) in
     omega (arith, small, both)
 
-pub loop-i-preserved : goal.loop-i-preserved
-loop-i-preserved c =
-    let height = fit w32 (at c.args.heights.now c.loop-i.i) c.share-arg-1.given in
-    (omega arith, both_is _ _ _ _ _ (omega arith) height c.loop-i.invariant.1 c.share-both.ensures)
+pub loop-h-preserved : goal.loop-h-preserved
+loop-h-preserved c =
+    let height = fit w32 (at c.args.heights.now c.loop-h.h-index) c.h-1.given in
+    both_is _ _ _ _ _ (omega arith) height c.loop-h.invariant c.share-both.ensures
 
 pub returns : goal.returns
 returns c =
-    let l = c.loop-i in
-    let e = unpacked c.args.heights.now c.args.b l.i c.requires.0 c.requires.1 (omega arith) in
-    (ap (λ n. n % one) l.invariant.1 ∙ e.0, ap (λ n. n / one) l.invariant.1 ∙ e.1)
+    let l = c.loop-h in
+    let e = unpacked c.args.heights.now c.args.b l.h-index c.requires.0 c.requires.1 (omega arith) in
+    (ap (λ n. n % one) l.invariant ∙ e.0, ap (λ n. n / one) l.invariant ∙ e.1)

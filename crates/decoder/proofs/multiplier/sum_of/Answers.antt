@@ -1,4 +1,4 @@
--- `sum_of` meets its contract: the sum of the first i heights. Assumes nothing.
+-- `sum_of` meets its contract: the sum of the heights so far. Assumes nothing.
 use mathlib.Core.Path.{◌≡◌, sym, ◌∙◌, ap₂, subst}
 use mathlib.Core.List.{List}
 use Prim.Native.Nat.{ℕ, ◌+◌, ◌<◌}
@@ -31,11 +31,11 @@ module _ (hs : List ℤ) (i : ℕ) (sum : ℤ) (n : AllNarrow (partials (pos 0) 
 pub overflow_add-sum : goal.overflow_add-sum
 overflow_add-sum c =
     let hs = c.args.heights.now in
-    let l = c.loop-i in
-    next-fits hs l.i _ c.requires (omega arith) (fit w32 (at hs l.i) c.sum-1.given) l.invariant.1
+    let l = c.loop-h in
+    next-fits hs l.h-index _ c.requires (omega arith) (fit w32 (at hs l.h-index) c.sum-1.given) l.invariant
 
-pub loop-i-preserved : goal.loop-i-preserved
-loop-i-preserved c =
+pub loop-h-preserved : goal.loop-h-preserved
+loop-h-preserved c =
     let hs = c.args.heights.now in
-    let l = c.loop-i in
-    (omega arith, next_sum hs l.i _ c.requires (omega arith) (fit w32 (at hs l.i) c.sum-1.given) l.invariant.1)
+    let l = c.loop-h in
+    next_sum hs l.h-index _ c.requires (omega arith) (fit w32 (at hs l.h-index) c.sum-1.given) l.invariant

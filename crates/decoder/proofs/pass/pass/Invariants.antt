@@ -1,7 +1,4 @@
 -- `pass` meets its contract: j checks are done, and the lists of the others are as they came. Assumes nothing.
-use mathlib.Core.Path.{◌≡◌}
-use Prim.Native.Nat.{◌-◌}
-use lib.ListN.{length, get_or}
 use Rattle.rules.specs.Table.{at}
 use Rattle.decoder.specs.Passed.{passed_to}
 use Rattle.decoder.proofs.PassLoopLaws.{Passing}
@@ -12,7 +9,4 @@ invariant-loop-j l =
     let i = l.initial in
     let before = passed_to i.copies i.offsets i.sums i.multipliers i.masks i.depths in
     let now = passed_to l.copies l.offsets l.sums l.multipliers l.masks l.depths in
-    Passing (at l.spins) l.starts l.members before now l.j × (l.a ≡ get_or l.starts l.j 0)
-
-abbrev pub decreases-loop-j : goal.decreases-loop-j
-decreases-loop-j l = length l.starts - l.j
+    Passing (at l.spins) l.starts l.members before now l.j

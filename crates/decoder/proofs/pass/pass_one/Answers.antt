@@ -1,9 +1,8 @@
 -- `pass_one` meets its contract: the check's step on its parts, put back. Assumes nothing.
-use mathlib.Core.Path.{refl, ◌∙◌, ap}
+use mathlib.Core.Path.{ap}
 use Rattle.decoder.specs.Stepped.{Stepped}
 use Rattle.decoder.specs.Passed.{passed_to}
 use Rattle.decoder.specs.Parts.{part, splice, placed, one_passed}
-use Rattle.decoder.proofs.PassLoopLaws.{passed-eq}
 use Rattle.decoder.proofs.pass.pass_one.Goals as goal
 
 pub step-entry-requires : goal.step-entry-requires
@@ -16,5 +15,4 @@ unfolding one_passed part splice
 returns c =
     let a = c.args in
     let came = passed_to a.copies.now a.offsets.now a.sums.now a.multipliers.now a.masks.now a.depths.now in
-    passed-eq refl refl refl c.store.ensures c.store-2.ensures c.store-3.ensures
-    ∙ ap (λ (t : Stepped). placed a.j a.a a.e t came) c.step-entry.ensures
+    ap (λ (t : Stepped). placed a.j a.a a.e t came) c.step-entry.ensures

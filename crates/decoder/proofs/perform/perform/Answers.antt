@@ -18,60 +18,60 @@ pub count_degrees-degrees-requires : goal.count_degrees-degrees-requires
 count_degrees-degrees-requires c =
     members-fit _ _ _ c.requires.holds
 
+pub slice_bounds-run_rounds-end-2 : goal.slice_bounds-run_rounds-end-2
+slice_bounds-run_rounds-end-2 c =
+    c.requires.room spins
+
+pub slice_bounds-run_rounds-end-3 : goal.slice_bounds-run_rounds-end-3
+slice_bounds-run_rounds-end-3 c =
+    sym (length-take-le _ _ (c.requires.room spins))
+
 pub slice_bounds-run_rounds-end-4 : goal.slice_bounds-run_rounds-end-4
 slice_bounds-run_rounds-end-4 c =
-    c.requires.room spins
+    c.requires.room copies
 
 pub slice_bounds-run_rounds-end-5 : goal.slice_bounds-run_rounds-end-5
 slice_bounds-run_rounds-end-5 c =
-    sym (length-take-le _ _ (c.requires.room spins))
+    sym (length-take-le _ _ (c.requires.room copies))
 
 pub slice_bounds-run_rounds-end-6 : goal.slice_bounds-run_rounds-end-6
 slice_bounds-run_rounds-end-6 c =
-    c.requires.room copies
+    c.requires.room offsets
 
 pub slice_bounds-run_rounds-end-7 : goal.slice_bounds-run_rounds-end-7
 slice_bounds-run_rounds-end-7 c =
-    sym (length-take-le _ _ (c.requires.room copies))
+    sym (length-take-le _ _ (c.requires.room offsets))
 
 pub slice_bounds-run_rounds-end-8 : goal.slice_bounds-run_rounds-end-8
 slice_bounds-run_rounds-end-8 c =
-    c.requires.room offsets
+    c.requires.room sums
 
 pub slice_bounds-run_rounds-end-9 : goal.slice_bounds-run_rounds-end-9
 slice_bounds-run_rounds-end-9 c =
-    sym (length-take-le _ _ (c.requires.room offsets))
+    sym (length-take-le _ _ (c.requires.room sums))
 
 pub slice_bounds-run_rounds-end-10 : goal.slice_bounds-run_rounds-end-10
 slice_bounds-run_rounds-end-10 c =
-    c.requires.room sums
+    c.requires.room multipliers
 
 pub slice_bounds-run_rounds-end-11 : goal.slice_bounds-run_rounds-end-11
 slice_bounds-run_rounds-end-11 c =
-    sym (length-take-le _ _ (c.requires.room sums))
+    sym (length-take-le _ _ (c.requires.room multipliers))
 
 pub slice_bounds-run_rounds-end-12 : goal.slice_bounds-run_rounds-end-12
 slice_bounds-run_rounds-end-12 c =
-    c.requires.room multipliers
+    c.requires.room masks
 
 pub slice_bounds-run_rounds-end-13 : goal.slice_bounds-run_rounds-end-13
 slice_bounds-run_rounds-end-13 c =
-    sym (length-take-le _ _ (c.requires.room multipliers))
+    sym (length-take-le _ _ (c.requires.room masks))
 
 pub slice_bounds-run_rounds-end-14 : goal.slice_bounds-run_rounds-end-14
 slice_bounds-run_rounds-end-14 c =
-    c.requires.room masks
+    c.requires.room depths
 
 pub slice_bounds-run_rounds-end-15 : goal.slice_bounds-run_rounds-end-15
 slice_bounds-run_rounds-end-15 c =
-    sym (length-take-le _ _ (c.requires.room masks))
-
-pub slice_bounds-run_rounds-end-16 : goal.slice_bounds-run_rounds-end-16
-slice_bounds-run_rounds-end-16 c =
-    c.requires.room depths
-
-pub slice_bounds-run_rounds-end-17 : goal.slice_bounds-run_rounds-end-17
-slice_bounds-run_rounds-end-17 c =
     sym (length-take-le _ _ (c.requires.room depths))
 
 pub run_rounds-after-requires : goal.run_rounds-after-requires

@@ -1,5 +1,5 @@
 -- `move_all` meets its contract: the first i places are done, and the others still hold the values. Assumes nothing.
-use mathlib.Core.Path.{◌≡◌, sym, ◌∙◌, ap, subst}
+use mathlib.Core.Path.{◌≡◌, refl, sym, ◌∙◌, ap, ap₂, subst}
 use mathlib.Core.Bool.{Bool}
 use mathlib.Core.List.{List}
 use Prim.Native.Nat.{ℕ, ◌+◌, ◌/◌, ◌%◌, ◌^◌, ◌<◌}
@@ -11,7 +11,7 @@ use mir.Syntax.{w32}
 use mir.Val.{SFits}
 use mir.Facts.{to_z-of_z}
 use Rattle.rules.specs.Limits.{unit, value_limit}
-use Rattle.integers.specs.Linear.{Within}
+use Rattle.integers.specs.Linear.{lin, arith_z, Within}
 use Rattle.integers.specs.Clip.{clip-within}
 use Rattle.integers.specs.Machine.{fit, reads, op_fits}
 use Rattle.rules.specs.Table.{at}
@@ -29,18 +29,21 @@ left v c = wrap v -ℤ wrap c
 abbrev weight : ℤ → ℤ → ℤ
 weight v c = wrap c -ℤ wrap (left v c)
 
-module _ {b m : ℕ} {ms : List ℕ} {z₀ v x₀ : List ℤ} (r : MoveFits b ms z₀ v x₀) {i : ℕ} {z y x : List ℤ} (g : Moving b m ms z₀ v x₀ i z y x) (f : SFits w32 (at y i)) where
-  -- the value that is moved, as it was read
-  value-is : wrap (at y i) ≡ at v i
-  value-is = reads f (moving-at r g)
+value-word : (v : ℤ) → Within value_limit v → SFits w32 v
+value-word v = simp lin (omega arith_z)
 
+module _ {b m : ℕ} {ms : List ℕ} {z₀ v x₀ : List ℤ} (r : MoveFits b ms z₀ v x₀) {i : ℕ} {z y x : List ℤ} (g : Moving b m ms z₀ v x₀ i z y x) where
   small : Within value_limit (at v i)
   small = within-at value_limit v r.small i
+
+  -- the value that is moved, as it is read
+  value-is : wrap (at y i) ≡ at v i
+  value-is = reads (subst (SFits w32) (sym (moving-at r g)) (value-word _ small)) (moving-at r g)
 
   value-small : Within value_limit (wrap (at y i))
   value-small = subst (Within value_limit) (sym value-is) small
 
-  -- where it goes to, and its offset, as they were read
+  -- where it goes to, and its offset, as they are read
   module _ {t : Bool} {c : ℤ} (d : t ≡ eqb (m / 2 ^ i % 2) 1) (k : SFits w32 c) (p : c ≡ move unit b t (wrap (at y i))) where
     copy : wrap c ≡ move unit b t (at v i)
     copy = reads k (p ∙ ap (move unit b t) value-is)
@@ -59,51 +62,53 @@ module _ {b m : ℕ} {ms : List ℕ} {z₀ v x₀ : List ℤ} (r : MoveFits b ms
       formed-fits : SFits w32 (weight (at y i) c)
       formed-fits = weight-fits r g here d copy offset
 
-      room : (get_or ms i 0 < length x) × SFits w32 (at x (get_or ms i 0) +ℤ wrap (weight (at y i) c))
-      room = (
-        inside r g here d copy offset,
-        subst (λ w. SFits w32 (at x (get_or ms i 0) +ℤ w)) (sym (to_z-of_z formed-fits)) (sum_fits r g here d copy offset),
-      )
+      -- its sum with z − y
+      module _ (f : SFits w32 (at x (get_or ms i 0))) where
+        total-is : wrap (at x (get_or ms i 0)) +ℤ wrap (weight (at y i) c) ≡ at x (get_or ms i 0) +ℤ weight (at y i) c
+        total-is = ap₂ ◌+ℤ◌ (to_z-of_z f) (to_z-of_z formed-fits)
 
-      next : {z' y' x' : List ℤ} → z' ≡ set z i (wrap c) → y' ≡ set y i (wrap (left (at y i) c)) → x' ≡ set x (get_or ms i 0) (at x (get_or ms i 0) +ℤ wrap (weight (at y i) c))
-          → Moving b m ms z₀ v x₀ (i + 1) z' y' x'
-      next zs ys xs =
-          let a = at x (get_or ms i 0) in
-          moving-next r g here d copy offset zs ys (xs ∙ ap (λ w. set x (get_or ms i 0) (a +ℤ w)) (to_z-of_z formed-fits))
+        total-fits : SFits w32 (wrap (at x (get_or ms i 0)) +ℤ wrap (weight (at y i) c))
+        total-fits = subst (SFits w32) (sym total-is) (sum_fits r g here d copy offset)
+
+        next : Moving b m ms z₀ v x₀ (i + 1) (set z i (wrap c)) (set y i (wrap (left (at y i) c)))
+            (set x (get_or ms i 0) (wrap (wrap (at x (get_or ms i 0)) +ℤ wrap (weight (at y i) c))))
+        next = moving-next r g here d copy offset refl refl (ap (set x (get_or ms i 0)) (reads total-fits total-is))
 
 pub moved-z-requires : goal.moved-z-requires
 moved-z-requires c =
-    let l = c.loop-i in
-    (value-small c.requires l.invariant (fit w32 (at l.offsets l.i) c.v-1.given), c.requires.bounded)
+    (value-small c.requires c.loop-i.invariant, c.requires.bounded)
 
 pub overflow_sub-y : goal.overflow_sub-y
 overflow_sub-y c =
-    let value = fit w32 (at c.loop-i.offsets c.loop-i.i) c.v-1.given in
-    let moved = fit w32 c.moved-z.result c.moved-z.type_inv in
-    left-fits c.requires c.loop-i.invariant value c.holds.ensures moved c.moved-z.ensures
+    left-fits c.requires c.loop-i.invariant c.holds.ensures (fit w32 c.moved-z.result c.moved-z.type_inv) c.moved-z.ensures
 
-pub overflow_sub-z : goal.overflow_sub-z
-overflow_sub-z c =
-    let value = fit w32 (at c.loop-i.offsets c.loop-i.i) c.v-1.given in
-    let moved = fit w32 c.moved-z.result c.moved-z.type_inv in
-    formed-fits c.requires c.loop-i.invariant value c.holds.ensures moved c.moved-z.ensures (omega arith)
+pub overflow_sub-sums : goal.overflow_sub-sums
+overflow_sub-sums c =
+    formed-fits c.requires c.loop-i.invariant c.holds.ensures (fit w32 c.moved-z.result c.moved-z.type_inv) c.moved-z.ensures (omega arith)
 
-pub add_at-requires : goal.add_at-requires
-add_at-requires c =
-    let value = fit w32 (at c.loop-i.offsets c.loop-i.i) c.v-1.given in
-    let moved = fit w32 c.moved-z.result c.moved-z.type_inv in
-    room c.requires c.loop-i.invariant value c.holds.ensures moved c.moved-z.ensures (omega arith)
+pub slice_copy_out-sums : goal.slice_copy_out-sums
+slice_copy_out-sums c =
+    inside c.requires c.loop-i.invariant c.loop-i-test.true
 
-pub loop-i-preserved : goal.loop-i-preserved
-loop-i-preserved c =
-    let value = fit w32 (at c.loop-i.offsets c.loop-i.i) c.v-1.given in
-    let moved = fit w32 c.moved-z.result c.moved-z.type_inv in
-    next c.requires c.loop-i.invariant value c.holds.ensures moved c.moved-z.ensures (omega arith)
-    c.store_signed.ensures c.store_signed-in-loop-i.ensures c.add_at.ensures
+pub bounds-sums-members : goal.bounds-sums-members
+bounds-sums-members c =
+    inside c.requires c.loop-i.invariant c.loop-i-test.true
 
-pub returns : goal.returns
-returns c =
-    moving-last c.requires c.loop-i.invariant (omega (arith, (moving-long c.requires c.loop-i.invariant).1, c.loop-i-test))
+pub overflow_add-sums : goal.overflow_add-sums
+overflow_add-sums c =
+    let moved = fit w32 c.moved-z.result c.moved-z.type_inv in
+    let sum = fit w32 (at c.loop-i.sums (get_or c.args.members.now c.loop-i.i 0)) search in
+    total-fits c.requires c.loop-i.invariant c.holds.ensures moved c.moved-z.ensures (omega arith) sum
 
 pub loop-i-init : goal.loop-i-init
 loop-i-init c = moving-first c.requires
+
+pub loop-i-preserved : goal.loop-i-preserved
+loop-i-preserved c =
+    let moved = fit w32 c.moved-z.result c.moved-z.type_inv in
+    let sum = fit w32 (at c.loop-i.sums (get_or c.args.members.now c.loop-i.i 0)) search in
+    next c.requires c.loop-i.invariant c.holds.ensures moved c.moved-z.ensures (omega arith) sum
+
+pub returns : goal.returns
+returns c =
+    moving-last c.requires c.loop-i.invariant (omega (arith, (moving-long c.requires c.loop-i.invariant).1))

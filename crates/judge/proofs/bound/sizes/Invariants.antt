@@ -1,7 +1,6 @@
 -- `sizes` meets its contract: the sum over the first i numbers. Assumes nothing.
 use mathlib.Core.Path.{◌≡◌}
-use Prim.Native.Nat.{◌*◌, ◌-◌, ◌≤◌}
-use lib.ListN.{length}
+use Prim.Native.Nat.{◌*◌}
 use Rattle.integers.specs.Linear.{Within}
 use Rattle.integers.specs.Product.{abs}
 use Rattle.integers.specs.Sum.{sum_to}
@@ -9,8 +8,5 @@ use Rattle.rules.specs.Limits.{size_limit}
 use Rattle.rules.specs.Table.{at}
 use Rattle.judge.proofs.bound.sizes.Given as goal
 
-abbrev pub invariant-loop-i : goal.invariant-loop-i
-invariant-loop-i l = (l.i ≤ length l.reduced) × (l.total ≡ sum_to l.i (λ j. abs (at l.reduced j))) × Within (size_limit * l.i) l.total
-
-abbrev pub decreases-loop-i : goal.decreases-loop-i
-decreases-loop-i l = length l.reduced - l.i
+abbrev pub invariant-loop-r : goal.invariant-loop-r
+invariant-loop-r l = (l.total ≡ sum_to l.r-index (λ j. abs (at l.reduced j))) × Within (size_limit * l.r-index) l.total

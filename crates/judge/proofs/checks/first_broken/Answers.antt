@@ -1,60 +1,47 @@
--- `first_broken` meets its contract: the checks from j on decide, and check j's part of the members is that check. Assumes nothing.
-use mathlib.Core.Path.{◌≡◌, sym, ◌∙◌, subst}
-use mathlib.Core.List.{List}
-use Prim.Native.Nat.{ℕ, ◌+◌, ◌≤◌, ◌<◌}
+-- `first_broken` meets its contract: the check that is found is broken, and those before it are met. Assumes nothing.
+use mathlib.Core.Path.{◌≡◌, refl, ◌∙◌, ap}
+use mathlib.Core.Bool.{Bool, true, false, cond}
+use mathlib.Core.List.{List, [], ◌∷◌}
+use mathlib.Core.Option.{some, none}
+use Prim.Native.Nat.{ℕ, zero, suc, ◌+◌, ◌≤◌, ◌<◌}
 use native.Mathlib.Omega.{arith}
 use lib.ListN.{length, get_or}
-use Rattle.rules.specs.Sound.{Below}
+use Rattle.std.proofs.Common.{rules}
+use Rattle.std.proofs.lemmas.Iterator.{first_from_Range}
+use Rattle.std.specs.Option.{MatchOption}
+use Rattle.std.specs.Prelude.{Option, Some, None}
+use Rattle.rules.specs.Table.{bits_at}
+use Rattle.rules.specs.Parity.{odd, first_broken}
 use Rattle.rules.specs.Input.{bits_of}
-use Rattle.table.specs.Layout.{checks_from, Holds}
-use Rattle.table.proofs.LayoutLaws.{starts-long, part-lent, part-below, part_in_lem}
-use Rattle.judge.proofs.CheckLaws.{broken-here, broken-later, broken-none}
+use Rattle.judge.specs.Reply.{found_in}
 use Rattle.judge.proofs.checks.first_broken.Goals as goal
 
--- check j is one of the table's, and its part lies in the members
-check_in : {n m : ℕ} (j : ℕ) (starts members : List ℕ) → Holds n starts members → length starts ≡ m + 1 → j < m → j < length (checks_from starts members)
-check_in j starts members holds long h = omega (arith, h, long, starts-long _ _ _ holds)
+module _ (w : List Bool) where
+  -- check k of these is met for false, broken for true
+  abbrev Is : Bool → List (List ℕ) → ℕ → Type 0
+  Is b cs k = b ≡ odd (bits_at w (get_or cs k []))
 
-inside : {n m a e : ℕ} (j : ℕ) (starts members : List ℕ) → Holds n starts members → length starts ≡ m + 1 → j < m
-    → a ≡ get_or starts j 0 → e ≡ get_or starts (j + 1) 0 → (a ≤ e) × (e ≤ length members)
-inside j starts members holds long h p q = omega (arith, p, q, part_in_lem _ _ _ holds _ (check_in j starts members holds long h))
+  met : (j : ℕ) (cs : List (List ℕ)) → ((k : ℕ) → k < length cs → Is false cs k) → none ≡ first_broken j w cs
+  met j [] f = refl
+  met j (ms ∷ cs) f =
+      met (suc j) cs (λ k h. f (suc k) (omega (arith, h))) ∙ ap (λ b. cond b (some j) (first_broken (suc j) w cs)) (f 0 (omega arith))
 
-pub slice_bounds-odd_check-count : goal.slice_bounds-odd_check-count
-slice_bounds-odd_check-count c =
-    (inside _ _ _ c.requires.0 c.requires.1 c.loop-j-test.true c.start_at-a.ensures.0 c.start_at-e.ensures.0).0
+  broken : (j k : ℕ) {i : ℕ} (cs : List (List ℕ)) → i ≡ j + k → k < length cs → Is true cs k → ((l : ℕ) → l < k → Is false cs l) → some i ≡ first_broken j w cs
+  broken j k [] e h y f = absurd (omega (arith, h))
+  broken j zero (ms ∷ cs) e h y f = ap some (omega (arith, e)) ∙ ap (λ b. cond b (some j) (first_broken (suc j) w cs)) y
+  broken j (suc k) (ms ∷ cs) e h y f =
+      broken (suc j) k cs (omega (arith, e)) (omega (arith, h)) y (λ l b. f (suc l) (omega (arith, b)))
+      ∙ ap (λ b. cond b (some j) (first_broken (suc j) w cs)) (f 0 (omega arith))
 
-pub slice_bounds-odd_check-start : goal.slice_bounds-odd_check-start
-slice_bounds-odd_check-start c =
-    (inside _ _ _ c.requires.0 c.requires.1 c.loop-j-test.true c.start_at-a.ensures.0 c.start_at-e.ensures.0).0
-
-pub slice_bounds-odd_check-end : goal.slice_bounds-odd_check-end
-slice_bounds-odd_check-end c =
-    (inside _ _ _ c.requires.0 c.requires.1 c.loop-j-test.true c.start_at-a.ensures.0 c.start_at-e.ensures.0).1
-
-pub odd_check-requires : goal.odd_check-requires
-odd_check-requires c =
-    let check = check_in _ _ _ c.requires.0 c.requires.1 c.loop-j-test.true in
-    subst (Below (length c.args.word.now)) (sym (part-lent _ _ _ c.requires.0 _ check c.start_at-a.ensures.0 c.start_at-e.ensures.0))
-    (part-below _ _ _ c.requires.0 _ check)
-
-pub returns-then-odd_check : goal.returns-then-odd_check
-returns-then-odd_check c =
-    let check = check_in _ _ _ c.requires.0 c.requires.1 c.loop-j-test.true in
-    sym (c.loop-j.invariant.1
-    ∙ broken-here (bits_of c.args.word.now) _ _ _ check (part-lent _ _ _ c.requires.0 _ check c.start_at-a.ensures.0 c.start_at-e.ensures.0)
-    (sym c.odd_check.ensures ∙ c.if-odd_check.true))
-
-pub loop-j-preserved : goal.loop-j-preserved
-loop-j-preserved c =
-    let check = check_in _ _ _ c.requires.0 c.requires.1 c.loop-j-test.true in (
-      omega arith,
-      c.loop-j.invariant.1
-          ∙ broken-later (bits_of c.args.word.now) _ _ _ check (part-lent _ _ _ c.requires.0 _ check c.start_at-a.ensures.0 c.start_at-e.ensures.0)
-          (sym c.odd_check.ensures ∙ c.if-odd_check.false),
-    )
+  found : (n : ℕ) (cs : List (List ℕ)) → n ≡ length cs → (r : Option ℕ)
+      → MatchOption r ((k : ℕ) → 0 ≤ k → k < n → Is false cs k) (λ i. (0 ≤ i) × (i < n) × Is true cs i × ((k : ℕ) → 0 ≤ k → k < i → Is false cs k))
+      → found_in r ≡ first_broken 0 w cs
+  found n cs e None f = met 0 cs (λ k h. f k (omega arith) (omega (arith, e, h)))
+  found n cs e (Some i) f = broken 0 i cs (omega arith) (omega (arith, e, f.1)) f.2 (λ k h. f.3 k (omega arith) h)
 
 pub returns : goal.returns
 returns c =
-    let checks = checks_from c.args.starts.now c.args.members.now in
-    let done : length checks ≤ c.loop-j.j = omega (arith, c.loop-j-test.false, c.requires.1, starts-long _ _ _ c.requires.0) in
-    sym (c.loop-j.invariant.1 ∙ broken-none (bits_of c.args.word.now) _ _ done)
+    let w = bits_of c.args.word.now in
+    let cs = c.args.table.now.checks in
+    found w _ cs c.checks.ensures _
+    (first_from_Range _ _ _ _ (Is w true cs) (Is w false cs) c.find.ensures.ran (λ j q k. search rules) (λ j q k. (search rules, search rules)))

@@ -1,32 +1,24 @@
 -- `entries_refusal` meets its contract: the entries from k on decide. Assumes nothing.
 use mathlib.Core.Path.{sym, ◌∙◌}
 use native.Mathlib.Omega.{arith}
-use Rattle.table.specs.Layout.{degree_at}
-use Rattle.judge.proofs.RefusalLaws.{items-stop, items-next, items-end, items-all}
+use Rattle.limits.proofs.NumberLaws.{handed-on}
+use Rattle.rules.specs.Table.{checks_of}
+use Rattle.judge.specs.Refusals.{degrees_of}
+use Rattle.judge.proofs.RefusalLaws.{items-stop, items-next, items-end}
 use Rattle.judge.proofs.entries.entries_refusal.Goals as goal
 
-pub loop-k-init : goal.loop-k-init
-loop-k-init c =
-    let args = c.args in
-    (omega arith, sym (items-all args.m (degree_at args.starts.now) args.bytes.now args.q))
-
-pub returns-then-refusal-ne0 : goal.returns-then-refusal-ne0
-returns-then-refusal-ne0 c =
-    let args = c.args in
-    let loop = c.loop-k in
-    sym (loop.invariant.1
-    ∙ items-stop args.m (degree_at args.starts.now) args.bytes.now args.q loop.k _ c.loop-k-test.true c.entry_refusal-refusal.ensures c.if-refusal-ne0.true)
+pub returns-in_err-entry_refusal : goal.returns-in_err-entry_refusal
+returns-in_err-entry_refusal c =
+    rw (handed-on _ c.from_residual.ensures)
+    (items-stop (checks_of c.args.table.now) (degrees_of c.args.table.now) c.args.certificate.now _ c.loop-k.k _ (omega (arith, c.loop-k-test.true, c.entries-k-end.ensures.0)) c.entry-entry.ensures _
+    c.in_err-entry_refusal.ensures ∙ sym c.loop-k.invariant)
 
 pub loop-k-preserved : goal.loop-k-preserved
 loop-k-preserved c =
-    let args = c.args in
-    let loop = c.loop-k in (
-      omega arith,
-      loop.invariant.1
-          ∙ items-next args.m (degree_at args.starts.now) args.bytes.now args.q loop.k _ c.loop-k-test.true c.entry_refusal-refusal.ensures c.if-refusal-ne0.false,
-    )
+    c.loop-k.invariant
+    ∙ items-next (checks_of c.args.table.now) (degrees_of c.args.table.now) c.args.certificate.now _ c.loop-k.k _ (omega (arith, c.loop-k-test.true, c.entries-k-end.ensures.0)) c.entry-entry.ensures
+    c.in_ok-entry_refusal.ensures
 
 pub returns : goal.returns
 returns c =
-    let args = c.args in
-    sym (c.loop-k.invariant.1 ∙ items-end args.m (degree_at args.starts.now) args.bytes.now args.q c.loop-k.k c.loop-k-test.false)
+    sym (c.loop-k.invariant ∙ items-end (checks_of c.args.table.now) (degrees_of c.args.table.now) c.args.certificate.now _ c.loop-k.k (omega (arith, c.loop-k-test.false, c.entries-k-end.ensures.0)))

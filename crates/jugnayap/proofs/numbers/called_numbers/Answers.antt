@@ -3,8 +3,8 @@ use mathlib.Core.Path.{◌∙◌, ap₂}
 use Rattle.jugnayap.proofs.StatusLaws.{after-known, after-unknown}
 use Rattle.jugnayap.proofs.numbers.called_numbers.Goals as goal
 
-pub returns-then-status-gt-SPENT : goal.returns-then-status-gt-SPENT
-returns-then-status-gt-SPENT c = ap₂ (λ n h. record { number = n; run = h }) c.refusal_number-number.ensures (after-unknown _ _ c.if-status-gt-SPENT.true)
+pub returns-then-run-gt-SPENT : goal.returns-then-run-gt-SPENT
+returns-then-run-gt-SPENT c = ap₂ (λ n h. record { number = n; run = h }) c.refusal_number-number.ensures (after-unknown _ _ c.if-run-gt-SPENT.true)
 
 pub returns : goal.returns
-returns c = ap₂ (λ n h. record { number = n; run = h }) c.refusal_number-number.ensures (c.run_numbers.ensures ∙ after-known _ _ c.if-status-gt-SPENT.false)
+returns c = ap₂ (λ n h. record { number = n; run = h }) c.refusal_number-number.ensures (c.run_numbers.ensures ∙ after-known _ _ c.if-run-gt-SPENT.false)

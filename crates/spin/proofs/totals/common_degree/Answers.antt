@@ -1,16 +1,16 @@
 -- `common_degree` meets its contract. Assumes nothing.
-use mathlib.Core.Path.{sym, ◌∙◌}
-use Rattle.spin.proofs.TotalsLaws.{common-none, common-is, common-differs}
+use Rattle.std.proofs.Common.{rules}
+use Rattle.spin.specs.Totals.{common_degree}
 use Rattle.spin.proofs.totals.common_degree.Goals as goal
 
-pub returns-then-degrees-eq0 : goal.returns-then-degrees-eq0
-returns-then-degrees-eq0 c =
-    sym (common-none c.args.degrees.now c.if-degrees-eq0.true)
+pub returns-in-Some : goal.returns-in-Some
+unfolding common_degree
+returns-in-Some c = search rules
 
-pub returns-then-all_are : goal.returns-then-all_are
-returns-then-all_are c =
-    sym (common-is c.args.degrees.now (sym c.all_are.ensures ∙ c.if-all_are.true))
+pub returns-in_default : goal.returns-in_default
+unfolding common_degree
+returns-in_default c = search rules
 
-pub returns : goal.returns
-returns c =
-    sym (common-differs c.args.degrees.now (sym c.all_are.ensures ∙ c.if-all_are.false))
+pub returns-in_default-2 : goal.returns-in_default-2
+unfolding common_degree
+returns-in_default-2 c = search rules

@@ -1,13 +1,8 @@
--- `divide_by` meets its contract: the first i places are divided, and the others still as they came. Assumes nothing.
-use mathlib.Core.Path.{◌≡◌}
-use Prim.Native.Nat.{◌-◌, ◌≤◌}
-use lib.ListN.{length}
+-- `divide_by` meets its contract: the totals so far are divided, and the others still as they came. Assumes nothing.
+use Rattle.std.proofs.Common.{◌≡◌}
 use Rattle.rules.proofs.FillLaws.{fill}
 use Rattle.spin.specs.Totals.{quotients}
 use Rattle.spin.proofs.totals.divide_by.Given as goal
 
-abbrev pub invariant-loop-i : goal.invariant-loop-i
-invariant-loop-i l = (l.i ≤ length l.initial.totals) × (l.totals ≡ fill l.i (quotients l.d l.initial.totals) l.initial.totals)
-
-abbrev pub decreases-loop-i : goal.decreases-loop-i
-decreases-loop-i l = length l.initial.totals - l.i
+abbrev pub invariant-loop-total : goal.invariant-loop-total
+invariant-loop-total l = l.totals ≡ fill l.total-index (quotients l.d l.initial.totals) l.initial.totals
