@@ -19,17 +19,14 @@ mod checksum;
 mod command;
 mod print;
 
-use buffers::{BITS, CERTIFICATE, CHECKS, EDGES, put};
-use checksum::{FIRST, with};
+use buffers::{BITS, Buffers, EDGES};
 use command::{Command, Operation, next};
 use print::{print_called, print_started, print_state};
 use std::io::{self, Read};
 use stream::CODE_LIMIT;
 
 // Plays the script from a set to the next one or to the end. What a start or a call leaves is printed before
-// the next record is read. The buffers are nine arrays and no struct: of parts of its
-// fields that are lent at once the check knows no borrow. A loop
-// has to end: no input uses the count up.
+// the next record is read. A loop has to end: no input uses the count up.
 fn play<R: Read>(
     rt: &impl Print,
     input: &mut R,
@@ -38,29 +35,21 @@ fn play<R: Read>(
     frame: &mut [i16],
 ) -> io::Result<Command> {
     let fill = set.fill();
-    let mut spins = [fill.spin; BITS];
-    let mut copies = [fill.copy; EDGES];
-    let mut offsets = [fill.offset; EDGES];
-    let mut sums = [fill.sum; BITS];
-    let mut multipliers = [fill.multiplier; CHECKS];
-    let mut masks = [fill.mask; CHECKS];
-    let mut depths = [fill.depth; CHECKS];
-    let mut word = [fill.word; BITS];
-    let mut certificate = [fill.certificate; CERTIFICATE];
+    let mut buffers = Buffers::filled(fill);
     let mut run = fill.run;
     let mut command = next(input, set, code, frame)?;
     for _ in 0..u64::MAX {
         match command.operation {
             Operation::Set | Operation::End => break,
             Operation::Code | Operation::Frame => {}
-            Operation::Put => put(command, &mut copies, &mut offsets, &mut sums),
+            Operation::Put => buffers.put(command),
             Operation::Start => {
                 let size = code.len().min(command.code);
                 let started = run::start(
                     &code[..size],
-                    &mut copies[..command.lent(0, EDGES)],
-                    &mut offsets[..command.lent(4, EDGES)],
-                    &mut sums[..command.lent(8, BITS)],
+                    &mut buffers.copies[..command.lent(0, EDGES)],
+                    &mut buffers.offsets[..command.lent(4, EDGES)],
+                    &mut buffers.sums[..command.lent(8, BITS)],
                 );
                 run = print_started(rt, started, run)?;
             }
@@ -71,26 +60,21 @@ fn play<R: Read>(
                     &frame[..parts.frame],
                     run,
                     parts.wanted,
-                    &mut spins[..parts.spins],
-                    &mut copies[..parts.copies],
-                    &mut offsets[..parts.offsets],
-                    &mut sums[..parts.sums],
-                    &mut multipliers[..parts.multipliers],
-                    &mut masks[..parts.masks],
-                    &mut depths[..parts.depths],
-                    &mut word[..parts.word],
-                    &mut certificate[..parts.certificate],
+                    &mut buffers.spins[..parts.spins],
+                    &mut buffers.copies[..parts.copies],
+                    &mut buffers.offsets[..parts.offsets],
+                    &mut buffers.sums[..parts.sums],
+                    &mut buffers.multipliers[..parts.multipliers],
+                    &mut buffers.masks[..parts.masks],
+                    &mut buffers.depths[..parts.depths],
+                    &mut buffers.word[..parts.word],
+                    &mut buffers.certificate[..parts.certificate],
                 );
                 run = print_called(rt, called)?;
             }
         }
         if matches!(command.operation, Operation::Start | Operation::Rounds) {
-            let edges = with(with(with(FIRST, &spins), &copies), &offsets);
-            let cuts = with(
-                with(with(with(edges, &sums), &multipliers), &masks),
-                &depths,
-            );
-            print_state(rt, run, with(with(cuts, &word), &certificate))?;
+            print_state(rt, run, buffers.checksum())?;
         }
         command = next(input, command, code, frame)?;
     }
