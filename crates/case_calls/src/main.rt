@@ -19,7 +19,7 @@ mod checksum;
 mod command;
 mod print;
 
-use buffers::{BITS, Buffers, EDGES};
+use buffers::{BITS, Buffers, CERTIFICATE, CHECKS, EDGES};
 use command::{Command, Operation, next};
 use print::{print_called, print_started, print_state};
 use std::io::{self, Read};
@@ -35,7 +35,18 @@ fn play<R: Read>(
     frame: &mut [i16],
 ) -> io::Result<Command> {
     let fill = set.fill();
-    let mut buffers = Buffers::filled(fill);
+    let mut buffers = Buffers {
+        spins: [0; BITS],
+        copies: [0; EDGES],
+        offsets: [0; EDGES],
+        sums: [0; BITS],
+        multipliers: [0; CHECKS],
+        masks: [0; CHECKS],
+        depths: [0; CHECKS],
+        word: [0; BITS],
+        certificate: [0; CERTIFICATE],
+    };
+    buffers.fill(fill);
     let mut run = fill.run;
     let mut command = next(input, set, code, frame)?;
     for _ in 0..u64::MAX {
