@@ -31,7 +31,6 @@ pub record Steady (t : Table) (r : Run) : Type 0 where
   pub sizes : lengths_of (filled t r).buffers ≡ needs t
   pub safe : Safe t (filled t r)
 
--- No proof cites these any more, since the check finds what they say.
 -- the rounds still wanted where k were wanted before this one
 abbrev pub left_by : Status → ℕ → ℕ
 left_by running k = k - 1

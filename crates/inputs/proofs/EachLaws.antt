@@ -48,7 +48,7 @@ module _ {A : Type 0} (d : A) (test : A → Bool) (each : List A → Bool) (nil 
   pub each_holds : i < length l → test (get_or l i d) ≡ true → each (drop i l) ≡ each (drop (i + 1) l)
   each_holds h e = one_more h ∙ ap (λ b. b && each (drop (i + 1) l)) e
 
-  each-end : length l ≤ i → each (drop i l) ≡ true
+  pub each-end : length l ≤ i → each (drop i l) ≡ true
   each-end h = ap each (drop_of_length-le l h) ∙ nil
 
 pub within_end : (k : ℕ) (l : List ℤ) (i : ℕ) → length l ≤ i → each_within k (drop i l) ≡ true

@@ -1,10 +1,10 @@
 -- The tests of a certificate as a refusal's number: what each answer of the code has tested, and the tests of document 01 in front of an answer.
 -- Assumes nothing.
 use mathlib.Core.Path.{◌≡◌, refl, sym, ◌∙◌, ap, ap₂, subst}
-use mathlib.Core.Bool.{Bool, true, false, cond, ◌&&◌}
+use mathlib.Core.Bool.{Bool, true, false, cond, ◌&&◌, ◌||◌}
 use mathlib.Core.List.{List, [], ◌∷◌}
 use mathlib.Core.Option.{Option, some, none}
-use Prim.Native.Nat.{ℕ, zero, suc, ◌+◌, ◌≤◌, ◌<◌}
+use Prim.Native.Nat.{ℕ, zero, suc, ◌+◌, ◌-◌, ◌≤◌, ◌<◌}
 use native.Mathlib.Omega.{arith}
 use native.Mathlib.Nat.{sub-eq-zero_of_le}
 use lib.Dec.{leb, ltb, eqb}
@@ -26,7 +26,7 @@ use Rattle.limits.proofs.NumberLaws.{number-some}
 use Rattle.inputs.specs.Refusals.{turned_down, or_else}
 use Rattle.inputs.proofs.RefusalLaws.{else-refused, else-none, cond-none, test-number, turned-else}
 use Rattle.judge.specs.Rows.{InRange, EachInRange, items_from}
-use Rattle.judge.specs.Refusals.{certificate_read, mask_refusal, item_refusal, items_refusal}
+use Rattle.judge.specs.Refusals.{Long, before_at, certificate_read, mask_refusal, item_refusal, items_refusal}
 
 -- ---- two tests, one after the other
 pub first-refused : (r : Refusal) {j : ℕ} (k : ℕ) → number_of r ≡ j → number_of r ≡ or_else j k
@@ -186,3 +186,43 @@ module _ (m : ℕ) (d : ℕ → ℕ) (bs : List ℕ) (q : ℕ) where
 
 pub each-passed : (m : ℕ) (d : ℕ → ℕ) (bs : List ℕ) → items_refusal m d none (items_of bs) ≡ 0 → EachInRange m bs
 each-passed m d bs e k h = items-passed m d bs (entries_of bs) none 0 (entries_of bs) e k (omega arith) (omega arith)
+
+-- No proof cites these any more, since the code reads its entries as one value.
+-- ---- one entry, in the numbers that the code has read
+module _ (m : ℕ) (d : ℕ → ℕ) (p : Option Item) (i : Item) (check multiplier : ℕ) (hc : check ≡ i.check) (hm : multiplier ≡ i.multiplier) where
+  module _ (h : check < m) (e : in_range 1 max_multiplier multiplier ≡ true) (mask degree : ℕ) (hk : mask ≡ i.mask) (hd : degree ≡ d check) where
+    pub mask_is : mask_right (d i.check) i.mask ≡ mask_right degree mask
+    mask_is = ap₂ mask_right (ap d (sym hc) ∙ sym hd) (sym hk)
+
+-- ---- the order of two entries
+pub follows-first : (bs : List ℕ) (q k : ℕ) (i : Item) → k ≡ 0 → true ≡ follows (before_at bs q k) i
+unfolding follows
+follows-first bs q k i e = sym (ap (λ x. follows (before_at bs q x) i) e)
+
+module _ (bs : List ℕ) (q k b c : ℕ) (i : Item) (hk : k ≡ 0 → ⊥) (hb : b ≡ (item_at bs q (k - 1)).check) (hc : c ≡ i.check) where
+  pub follows_is : follows (before_at bs q k) i ≡ (ltb b c || (eqb b c && ltb (item_at bs q (k - 1)).mask i.mask))
+  unfolding follows
+  follows_is =
+      ap (λ x. follows (before_at bs q x) i) (pred k hk)
+      ∙ ap₂ (λ x y. ltb x y || (eqb x y && ltb (item_at bs q (k - 1)).mask i.mask)) (sym hb) (sym hc)
+    where
+      pred : (k : ℕ) → (k ≡ 0 → ⊥) → k ≡ suc (k - 1)
+      pred k h = omega arith
+
+  pub follows-check : b < c → true ≡ follows (before_at bs q k) i
+  follows-check h = sym (follows_is ∙ ap (λ x. x || (eqb b c && ltb (item_at bs q (k - 1)).mask i.mask)) (lt-ltb b c h))
+
+  pub later : c ≤ b → (x : Bool) → eqb b c ≡ x → follows (before_at bs q k) i ≡ (x && ltb (item_at bs q (k - 1)).mask i.mask)
+  later h x e = follows_is ∙ ap₂ (λ y z. y || (z && ltb (item_at bs q (k - 1)).mask i.mask)) (le-ltb b c h) e
+
+  pub follows-mask : (x y : ℕ) → c ≤ b → b ≡ c → x ≡ (item_at bs q (k - 1)).mask → y ≡ i.mask → ltb x y ≡ follows (before_at bs q k) i
+  follows-mask x y h e hx hy = ap₂ ltb hx hy ∙ sym (later h true (eq-eqb b c e))
+
+  pub follows-less : c ≤ b → (b ≡ c → ⊥) → eqb b c ≡ follows (before_at bs q k) i
+  follows-less h f = ne_eqb b c f ∙ sym (later h false (ne_eqb b c f))
+
+-- ---- what a certificate that is not refused has passed
+pub record Passed (m : ℕ) (bs : List ℕ) : Type 0 where
+  pub long : Long bs (entries_of bs)
+  pub scale : scale_of bs ≤ max_scale
+  pub entry : EachInRange m bs

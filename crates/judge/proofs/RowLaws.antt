@@ -13,7 +13,7 @@ use Rattle.rules.specs.Scatter.{row_of, Reduces, Put}
 use Rattle.rules.specs.Certificate.{item_at, items_at, entries_of, row_at, rows_at}
 use Rattle.rules.specs.Sole.{none_zero, sole}
 use Rattle.rules.proofs.SoleLaws.{none-zero-same}
-use Rattle.judge.specs.Rows.{rows_from}
+use Rattle.judge.specs.Rows.{rows_from, rows_in, rows_left}
 use Rattle.table.specs.Layout.{Part}
 
 module _ (t : Table) (bs : List ℕ) where
@@ -33,6 +33,10 @@ row_with b mask {ls = ls} {new = new} {x = x} = subst (λ l. Put (row_of l b mas
 pub sole-found : {n s : ℕ} {l : List ℤ} {rs : List Row} {r : List ℤ} → Reduces s l rs r → length r ≡ n → length l ≡ n → none_zero (length r) (at r) ≡ sole n s l rs
 unfolding sole
 sole-found {n} {s} {l} {rs} {r} h e f = ap (λ k. none_zero k (at r)) e ∙ none-zero-same n (at r) (reduced s l rs) (λ i b. h.number i (omega (arith, f)))
+
+-- No proof cites this any more, since the code reads its entries as one value.
+pub rows_all : (starts members bs : List ℕ) (q : ℕ) → rows_in starts members (items_at bs q 0 q) ≡ rows_left starts members bs q 0
+rows_all starts members bs q = ap (λ c. rows_in starts members (items_at bs q 0 c)) (omega arith)
 
 -- No proof cites these any more, since the check finds what they say.
 -- a check's part, between the two starts that were read

@@ -1,23 +1,29 @@
 -- Document 01's answers on a table that the code holds: the tests as one refusal's number, then the verdict, in the code's own numbers. Assumes nothing.
 use mathlib.Core.Path.{◌≡◌, refl, sym, ◌∙◌, ap, ap₂}
 use mathlib.Core.Bool.{Bool, cond, ◌&&◌}
-use mathlib.Core.List.{List}
+use mathlib.Core.List.{List, ◌∷◌}
 use mathlib.Core.Option.{Option, some, none}
-use Prim.Native.Nat.{ℕ}
+use Prim.Native.Nat.{ℕ, zero, suc, ◌+◌, ◌≤◌, ◌<◌}
+use native.Mathlib.Omega.{arith}
 use lib.Dec.{eqb}
 use lib.ListN.{length}
 use lib.IntN.{ℤ, pos}
 use borrow.Author.Tests.{eqb-true}
+use Rattle.integers.specs.Count.{first-in, rest_in}
 use Rattle.rules.specs.Limits.{frame_limit}
 use Rattle.rules.specs.Refusal.{Answer, refused, gives, then, frame_range}
 use Rattle.rules.specs.Table.{Table, checks_of}
 use Rattle.rules.specs.Parity.{first_broken, agreement}
+use Rattle.rules.specs.Mask.{set_of}
 use Rattle.rules.specs.CodeFile.{code_file}
 use Rattle.rules.specs.Input.{each_within, each_bit, bits_of}
-use Rattle.rules.specs.Certificate.{items_of}
+use Rattle.rules.specs.Bound.{gap}
+use Rattle.rules.specs.Certificate.{Item, item_at, items_at, entries_of, scale_of, items_of, row_at, rows_at}
+use Rattle.rules.specs.Sole.{sole}
 use Rattle.rules.specs.Judge.{Verdict, breaks, passes, weigh, verdict, judge, syndrome, agreement_of}
 use Rattle.rules.proofs.Basics.{and_both}
 use Rattle.rules.proofs.AnswerLaws.{then-of}
+use Rattle.rules.proofs.Judged.{gap_read, sole_read}
 use Rattle.limits.specs.declared.refusals.Refusal.{Refusal}
 use Rattle.limits.specs.Numbers.{number_of}
 use Rattle.limits.proofs.NumberLaws.{number-some}
@@ -25,9 +31,11 @@ use Rattle.inputs.specs.Refusals.{frame_refusal, word_refusal, turned_down, or_e
 use Rattle.inputs.proofs.InputLaws.{frame-law, word-law}
 use Rattle.inputs.proofs.RefusalLaws.{else-none, cond-none, turned-else, turned-refused, turned_none}
 use Rattle.judge.specs.Refusals.{degrees_of, items_refusal, certificate_read}
-use Rattle.judge.specs.Rows.{Unrefused, gap_on, sole_on}
+use Rattle.table.specs.Layout.{checks_from, table_of, Holds}
+use Rattle.table.proofs.LayoutLaws.{starts-long, part-is, part_held}
+use Rattle.judge.specs.Rows.{Unrefused, gap_on, sole_on, row_in, rows_in, AllPlaced, gap_in, sole_in}
 use Rattle.judge.specs.Stages.{verdict_on, judge_on, syndrome_on, agreement_on}
-use Rattle.judge.proofs.RefusalLaws.{read-same, certificate-law, each-passed}
+use Rattle.judge.proofs.RefusalLaws.{read-same, certificate-law, each-passed, Passed}
 
 -- ---- what is not refused
 frame-long : (n : ℕ) (l : List ℤ) → frame_refusal n l ≡ 0 → length l ≡ n
@@ -156,3 +164,48 @@ module _ (file : List ℕ) (t : Table) (e : code_file file ≡ gives t) where
   agreement-table l w =
       ap (turned_down (frame_refusal t.bits l)) (sym (word-law t w (gives (agreement t.bits l (bits_of w)))))
       ∙ sym (frame-law t l _) ∙ sym (then-of (code_file file) t _ e)
+
+-- ---- a certificate's gap and its mark are those of rules' laws
+pub gap-read : (t : Table) (l : List ℤ) (w bs : List ℕ) → gap_on t l w bs ≡ gap_read t l w bs
+gap-read t l w bs = refl
+
+pub sole-read : (t : Table) (l : List ℤ) (bs : List ℕ) → sole_on t l bs ≡ sole_read t l bs
+sole-read t l bs = refl
+
+-- No proof cites these any more, since the code reads its entries as one value.
+-- ---- on starts and members that hold a table of m checks
+module _ (n m : ℕ) (ss ms : List ℕ) (h : Holds n ss ms) (hm : length ss ≡ m + 1) where
+  many : length (checks_from ss ms) ≡ m
+  many = omega (arith, starts-long n ss ms h)
+
+  -- each of q entries is of one of the checks
+  abbrev AllListed : List ℕ → ℕ → Type 0
+  AllListed bs q = (k : ℕ) → k < q → (item_at bs q k).check < length (checks_from ss ms)
+
+  listed : (bs : List ℕ) → Passed m bs → AllListed bs (entries_of bs)
+  listed bs p k i = omega (arith, many, (p.entry k i).check)
+
+  pub all_placed : (bs : List ℕ) → Passed m bs → AllPlaced n ss ms bs (entries_of bs)
+  all_placed bs p = record {
+    long = p.long;
+    each = λ k i. record { part = part_held n ss ms h (item_at bs (entries_of bs) k).check (listed bs p k i); small = (p.entry k i).multiplier };
+  }
+
+  -- the rows are those of the table
+  pub row_is : (i : Item) → i.check < length (checks_from ss ms) → row_in ss ms i ≡ row_at (table_of n ss ms) i
+  row_is i k = ap (λ l. record { members = l; multiplier = i.multiplier; set = set_of (length l) i.mask }) (part-is n ss ms h i.check k)
+
+  rows-from : (bs : List ℕ) (q : ℕ) → AllListed bs q → (k c : ℕ) → k + c ≤ q → rows_in ss ms (items_at bs q k c) ≡ rows_at (table_of n ss ms) (items_at bs q k c)
+  unfolding items_at
+  rows-from bs q f k zero g = refl
+  rows-from bs q f k (suc c) g = ap₂ ◌∷◌ (row_is (item_at bs q k) (f k (first-in k c q g))) (rows-from bs q f (k + 1) c (rest_in k c q g))
+
+  module _ (l : List ℤ) (bs : List ℕ) (long : length l ≡ n) (p : Passed m bs) where
+    pub rows_are : rows_in ss ms (items_of bs) ≡ rows_at (table_of n ss ms) (items_of bs)
+    rows_are = rows-from bs (entries_of bs) (listed bs p) 0 (entries_of bs) (omega arith)
+
+    pub gap_is : (w : List ℕ) → gap_in ss ms l w bs ≡ gap_read (table_of n ss ms) l w bs
+    gap_is w = ap₂ (λ k rs. gap k (scale_of bs) l rs (bits_of w)) long rows_are
+
+    pub sole-is : sole_in ss ms l bs ≡ sole_read (table_of n ss ms) l bs
+    sole-is = ap₂ (λ k rs. sole k (scale_of bs) l rs) long rows_are

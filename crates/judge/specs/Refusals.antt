@@ -1,13 +1,13 @@
 -- The refusal of a certificate, and of its entries by its number, 0 for none (document 01, "10 certificate length wrong or q too large. 11 scale. 12
 -- entry's check or multiplier. 13 mask. 14 entry order"). Definitions only. Assumes nothing.
-use Rattle.std.specs.Prelude.{◌≡◌, cond, ◌&&◌, List, [], ◌∷◌, ℕ, ◌≤◌, ltb, length}
-use Rattle.std.proofs.Math.Option.{Option, some}
+use Rattle.std.specs.Prelude.{◌≡◌, cond, ◌&&◌, List, [], ◌∷◌, ℕ, zero, suc, ◌≤◌, ltb, length}
+use Rattle.std.proofs.Math.Option.{Option, some, none}
 use Rattle.rules.specs.Limits.{max_entries, max_scale, max_multiplier, certificate_length}
 use Rattle.rules.specs.Refusal.{Answer, gives, must, certificate_wrong, scale_range, entry_range, mask_wrong, entry_order}
 use Rattle.rules.specs.Table.{Table}
 use Rattle.rules.specs.Mask.{mask_right}
 use Rattle.rules.specs.CodeFile.{in_range}
-use Rattle.rules.specs.Certificate.{Item, members_at, follows, scale_of, length_right}
+use Rattle.rules.specs.Certificate.{Item, item_at, members_at, follows, scale_of, length_right}
 use Rattle.inputs.specs.Refusals.{or_else}
 
 -- as long as its q entries ask
@@ -22,6 +22,11 @@ certificate_read bs = must (length_right bs) certificate_wrong (must (in_range 1
 -- a table's degrees
 abbrev pub degrees_of : Table → ℕ → ℕ
 degrees_of t j = length (members_at t j)
+
+-- the entry before entry k, of q
+abbrev pub before_at : List ℕ → ℕ → ℕ → Option Item
+before_at bs q zero = none
+before_at bs q (suc k) = some (item_at bs q k)
 
 -- 13 and 14, d the checks' degrees, p the entry before
 abbrev pub mask_refusal : (ℕ → ℕ) → Option Item → Item → ℕ

@@ -21,11 +21,11 @@ all-are-at d [] i e h = absurd (omega arith)
 all-are-at d (x ∷ xs) zero e h = eqb-true x d (and_first (eqb x d) (all_are d xs) e)
 all-are-at d (x ∷ xs) (suc i) e h = all-are-at d xs i (and-rest (eqb x d) (all_are d xs) e) (le_of_suc-le-suc h)
 
-common-is : (ds : List ℕ) → all_are (get_or ds 0 0) ds ≡ true → common_degree ds ≡ get_or ds 0 0
+pub common-is : (ds : List ℕ) → all_are (get_or ds 0 0) ds ≡ true → common_degree ds ≡ get_or ds 0 0
 unfolding common_degree
 common-is ds e = ap (λ b. cond b (get_or ds 0 0) 0) e
 
-common-differs : (ds : List ℕ) → all_are (get_or ds 0 0) ds ≡ false → common_degree ds ≡ 0
+pub common-differs : (ds : List ℕ) → all_are (get_or ds 0 0) ds ≡ false → common_degree ds ≡ 0
 unfolding common_degree
 common-differs ds e = ap (λ b. cond b (get_or ds 0 0) 0) e
 

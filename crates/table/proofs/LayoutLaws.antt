@@ -8,7 +8,7 @@ use native.Mathlib.Omega.{arith}
 use native.Mathlib.Numerals.{add-one}
 use lib.Dec.{leb, ltb}
 use lib.IntN.{pos}
-use lib.ListN.{length, get_or, take, drop, replicate, length-append, length-drop, length-replicate}
+use lib.ListN.{length, get_or, take, drop, replicate, length-append, length-drop}
 use lib.Seq.{take_at, drop_at, length-take-le}
 use borrow.Author.Tests.{lt-ltb, le-leb, ltb-true, leb-true}
 use Rattle.std.specs.Cmp.Derive.{both_true}
@@ -253,3 +253,8 @@ roomy-whole file s ms hs hm (gives t) e =
     let sound = file-sound file t e in
     must-true (ltb (checks_of t) (length s) && leb (edges_of t) (length ms)) buffer_short (gives t)
     (both_true (lt-ltb (checks_of t) (length s) (omega (arith, sound.checks))) (le-leb (edges_of t) (length ms) (omega (arith, sound.few))))
+
+-- No proof cites this any more, since a load that is given needs no room: the same, of arrays as long as the limits ask
+pub opened-whole : (file : List ℕ) {r : Result Sizes Refusal} {s ms : List ℕ} {z : Sizes}
+    → loaded_as (numbered r) s ms ≡ loaded file (replicate (max_checks + 1) 0) (replicate max_edges 0) → r ≡ Ok z → Opened file z.bits z.checks z.edges s ms
+opened-whole file {r} e h = load-opened file _ _ r e h
