@@ -62,17 +62,17 @@ module _ {l : List ℤ} {w : List ℕ} {i : ℕ} {t r : ℤ} (h : Added l w i t)
 
 -- ---- over the first n numbers and the word, until one of them ends
 module _ (l : List ℤ) (w : List ℕ) (n k : ℕ) where
-  pub turned-is : (x : ℤ) (b : ℕ) → k < length (take n l) → ((d : ℤ) → x ≡ get_or (take n l) k d) → ((d : ℕ) → b ≡ get_or w k d)
+  pub turned-is : (x : ℤ) (b : ℕ) → k < length (take n l) → ((d : ℤ) → x ≡ get_or (take n l) k d) → ((d : ℕ) → b ≡ get_or (take n w) k d)
       → turn (bit_of_byte b) x ≡ number_under l w k
   turned-is x b h e f =
       let inside : k < n = omega (arith, length-take n l) in
-      ap₂ (λ b x. turn (bit_of_byte b) x) (f 0) (e (pos 0) ∙ get_or-take n l k (pos 0) inside)
+      ap₂ (λ b x. turn (bit_of_byte b) x) (f 0 ∙ get_or-take n w k 0 inside) (e (pos 0) ∙ get_or-take n l k (pos 0) inside)
 
-  pub turned-few : n ≡ min (length l) max_bits → k < length (take n l) → k < max_bits
+  pub turned-few : n ≤ max_bits → k < length (take n l) → k < max_bits
   turned-few e h = omega (arith, length-take n l)
 
-  pub turned-all : n ≡ min (length l) max_bits → k ≡ min (length (take n l)) (length w) → k ≡ shared_bits l w
-  turned-all e h = omega (arith, length-take n l)
+  pub turned-all : n ≤ length l → min n (length w) ≡ shared_bits l w → k ≡ min (length (take n l)) (length w) → k ≡ shared_bits l w
+  turned-all e f h = omega (arith, length-take n l)
 
 -- of all bits that both have
 pub added-all : {l : List ℤ} {w : List ℕ} {i : ℕ} {t : ℤ} → Added l w i t → i ≡ shared_bits l w → (t ≡ agreed l w) × Within agreement_limit t

@@ -56,9 +56,9 @@ pub fn point(s: &[i32], n: usize) -> Result<(), Refusal>
 pub fn agreement(frame: &[i16], word: &[u8]) -> i64
     ensures { (result ≡ agreed frame.now word.now) × Within agreement_limit result }
 {
-    let numbers = &frame[..frame.len().min(MAX_BITS)];
+    let n = frame.len().min(word.len()).min(MAX_BITS);
     let mut total = 0;
-    for (x, byte) in numbers.iter().zip(word) {
+    for (x, byte) in frame[..n].iter().zip(&word[..n]) {
         total += turned(*byte, *x);
     }
     total

@@ -108,7 +108,7 @@ fn decode(bytes: &[u8], numbers: &mut [i16], count: usize)
     requires { (2 * count ≤ length bytes.now) × (count ≤ length numbers.old) }
     ensures { numbers.new ≡ over (numbers_of bytes.now count) numbers.old }
 {
-    // By index: of what an `enumerate` over `iter_mut` writes a proof knows nothing (docs/DECISIONS.md 83).
+    // By index: two bytes are read for each number, and the numbers past the count stay.
     for i in 0..count {
         numbers[i] = i16::from_le_bytes([bytes[2 * i], bytes[2 * i + 1]]);
     }

@@ -14,6 +14,8 @@ returns-then-copies-sizes c = start-short _ _ _ _ _ _ _ (readable _ _ _ _ c.in_o
 
 pub returns : goal.returns
 returns c =
+    let sizes = c.in_ok-sizes.sizes in
     start-fresh _ _ _ _ _ _ _ (readable _ _ _ _ c.in_ok-sizes.ensures) (omega arith) (omega arith) (omega arith) _ _ _ _ c.fresh.ensures
-    (cleared _ _ (omega arith) (c.fill.ensures.after (λ y h. h))) (cleared _ _ (omega arith) (c.fill-2.ensures.after (λ y h. h)))
-    (cleared _ _ (omega arith) (c.fill-3.ensures.after (λ y h. h)))
+    (cleared sizes.edges c.args.copies.now (omega arith) (c.fill.ensures.after (λ y h. h)))
+    (cleared sizes.edges c.args.offsets.now (omega arith) (c.fill-2.ensures.after (λ y h. h)))
+    (cleared sizes.bits c.args.sums.now (omega arith) (c.fill-3.ensures.after (λ y h. h)))
