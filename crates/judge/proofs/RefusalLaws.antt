@@ -9,8 +9,10 @@ use native.Mathlib.Omega.{arith}
 use native.Mathlib.Nat.{sub-eq-zero_of_le}
 use lib.Dec.{leb, ltb, eqb}
 use lib.ListN.{length}
-use borrow.Author.Tests.{lt-ltb, le-ltb, eq-eqb, ne_eqb, le-leb, lt-leb, ltb-true, eqb-true, eqb-false}
+use borrow.Author.Tests.{lt-ltb, le-ltb, eq-eqb, ne_eqb, le-leb, lt-leb, ltb-true, leb-true, eqb-true, eqb-false}
 use Rattle.integers.specs.Count.{none_left, after_first, before-end, left-more}
+use lib.Count.{ones}
+use Rattle.rules.specs.Bytes.{u16_at, u32_at}
 use Rattle.rules.specs.Limits.{max_entries, max_scale, max_multiplier, certificate_length}
 use Rattle.rules.specs.Refusal.{Answer, refused, gives, must, then, certificate_wrong, scale_range, entry_range, mask_wrong, entry_order}
 use Rattle.rules.specs.Table.{Table, checks_of}
@@ -226,3 +228,24 @@ pub record Passed (m : ℕ) (bs : List ℕ) : Type 0 where
   pub long : Long bs (entries_of bs)
   pub scale : scale_of bs ≤ max_scale
   pub entry : EachInRange m bs
+
+pub certificate-passed : (m : ℕ) (d : ℕ → ℕ) (bs : List ℕ) → gives bs ≡ certificate_read bs → items_refusal m d none (items_of bs) ≡ 0 → Passed m bs
+certificate-passed m d bs e f =
+    let few = leb 4 (length bs) && leb (entries_of bs) max_entries in
+    let right = eqb (length bs) (certificate_length (entries_of bs)) in
+    let p = must-gives (few && right) certificate_wrong (must (in_range 1 max_scale (scale_of bs)) scale_range (gives bs)) bs (sym e) in
+    let q = must-gives (in_range 1 max_scale (scale_of bs)) scale_range (gives bs) bs p.1 in
+    let size = and_both few right p.0 in
+    record {
+      long = record { few = leb-true (entries_of bs) max_entries (and_both (leb 4 (length bs)) _ size.0).1; size = eqb-true (length bs) (certificate_length (entries_of bs)) size.1 };
+      scale = (range-both 1 max_scale (scale_of bs) q.0).1;
+      entry = each-passed m d bs f;
+    }
+
+-- such a certificate: multiplier 2000 on the set {2} of the one check, of three members
+abbrev one : List ℕ
+one = 1 ∷ 0 ∷ 1 ∷ 0 ∷ 0 ∷ 0 ∷ 208 ∷ 7 ∷ 0 ∷ 0 ∷ 4 ∷ 0 ∷ 0 ∷ 0 ∷ []
+
+passed-one : Passed 1 one
+unfolding must items_at items_refusal item_refusal follows u16_at u32_at in_range mask_right ones
+passed-one = certificate-passed 1 (λ j. 3) one refl refl
